@@ -1,0 +1,9 @@
+use Rattle.std.proofs.Common.{eqb, rules, tests}
+use Rattle.std.proofs.lemmas.Iterator.Search.{any_from_yields_List}
+use Rattle.std.proofs.lemmas.Iterator.Splits.{YieldsList-from_slice_split}
+use Rattle.plain_model.specs.Paths.{is_empty}
+use Rattle.plain_model.proofs.path.has_empty_component.Goals as goal
+
+pub returns : goal.returns
+returns c =
+    any_from_yields_List is_empty _ _ _ c.any.ensures.ran (YieldsList-from_slice_split _ (λ b. eqb b 47) c.args.bytes.now c.split.ensures.rest c.split.ensures.done c.split.ensures.closure (λ x b q k. search (rules, tests))) (λ x b q k. search (rules, tests))

@@ -1,0 +1,17 @@
+pub mod Faults
+pub mod Files
+pub mod Histories
+pub mod Marks
+pub mod Names
+pub mod Numbers
+pub mod Objects
+pub mod Paths
+pub mod People
+pub mod Reading
+pub mod Replay
+pub mod Snapshots
+pub mod Soundness
+pub mod Spelling
+pub mod Streams
+pub mod Text
+pub mod Trees

@@ -1,0 +1,93 @@
+-- When a history is sound: ids and marks stand once, each referent stands earlier and is of the right kind, each
+-- field is such as a stream spells it, and each commit has a tree.
+use Rattle.std.specs.Prelude.{◌≡◌, ◌⊎◌, ℕ, ◌≤◌, Bool, true, false, not, ◌&&◌, ◌||◌, ◌==◌, List, [], ◌∷◌, ◌++◌, length, codes, Option, Some, None, IsTrue, IsFalse, IsSome, IfSome}
+use Rattle.std.specs.List.{list_all, list_any, AllByRecursion}
+use Rattle.plain_model.specs.declared.limit.TheConstants.{MAX_PARENTS, MAX_SECONDS}
+use Rattle.plain_model.specs.declared.person.Signed.{Signed}
+use Rattle.plain_model.specs.declared.id.AnyId.{AnyId}
+use Rattle.plain_model.specs.declared.id.AnyId.TheVariants as any
+use Rattle.plain_model.specs.declared.operation.Mode.{Mode}
+use Rattle.plain_model.specs.declared.operation.Mode.TheVariants.{Plain, Executable, Link, Gitlink}
+use Rattle.plain_model.specs.declared.operation.Content.{Content}
+use Rattle.plain_model.specs.declared.operation.Content.TheVariants.{Blob as OfBlob, Object}
+use Rattle.plain_model.specs.declared.operation.FileOp.{FileOp}
+use Rattle.plain_model.specs.declared.operation.FileOp.TheVariants.{Modify, Delete, Copy, Rename, DeleteAll}
+use Rattle.plain_model.specs.declared.event.PlainEvent.{PlainEvent}
+use Rattle.plain_model.specs.declared.event.PlainEvent.TheVariants.{Blob, Commit, Tag, Reset, Pass}
+use Rattle.plain_model.specs.Histories.{tree}
+use Rattle.plain_model.specs.Names.{is_name}
+use Rattle.plain_model.specs.Paths.{Bytes}
+use Rattle.plain_model.specs.People.{is_clean}
+use Rattle.plain_model.specs.Spelling.{begins, has_no_lf}
+use Rattle.plain_model.specs.Streams.{is_marked}
+
+-- ---- referents
+
+-- some event has this very id, with its kind
+abbrev pub has_id : List PlainEvent → AnyId → Bool
+has_id [] wanted = false
+has_id (Blob id mark bytes ∷ events) (any.Blob b) = (id == b) || has_id events (any.Blob b)
+has_id (Commit id mark branch author committer encoding comment parents ops ∷ events) (any.Commit c) = (id == c) || has_id events (any.Commit c)
+has_id (Tag id name target tagger comment ∷ events) (any.Tag t) = (id == t) || has_id events (any.Tag t)
+has_id (Reset id branch target ∷ events) (any.Reset r) = (id == r) || has_id events (any.Reset r)
+has_id (Pass id line ∷ events) (any.Pass p) = (id == p) || has_id events (any.Pass p)
+has_id (e ∷ events) other = has_id events other
+
+-- a commit of the events
+abbrev pub IsCommitOf : List PlainEvent → ℕ → Type 0
+IsCommitOf events c = IsTrue (has_id events (any.Commit c))
+
+-- an operation names an earlier blob, or an object; a link to another repository names an object
+abbrev pub RefersBack : List PlainEvent → FileOp → Type 0
+RefersBack earlier (Modify Gitlink (OfBlob b) path) = ⊥
+RefersBack earlier (Modify mode (OfBlob b) path) = IsTrue (has_id earlier (any.Blob b))
+RefersBack earlier (Modify mode (Object digits) path) = Unit {0}
+RefersBack earlier (Delete path) = Unit {0}
+RefersBack earlier (Copy source target) = Unit {0}
+RefersBack earlier (Rename source target) = Unit {0}
+RefersBack earlier DeleteAll = Unit {0}
+
+-- no item stands twice
+abbrev pub are_distinct : List ℕ → Bool
+are_distinct [] = true
+are_distinct (n ∷ ns) = not (list_any (λ m. m == n) ns) && are_distinct ns
+
+-- ---- fields
+
+abbrev pub IsFormedSigned : Signed → Type 0
+IsFormedSigned who =
+    IsTrue (is_clean who.person.name && has_no_lf who.person.name && is_clean who.person.email && has_no_lf who.person.email)
+    × (who.when.seconds ≤ MAX_SECONDS) × (who.when.offset ≤ 9999)
+
+-- a line that is passed through: no feature that is left out
+abbrev pub is_passed_line : Bytes → Bool
+is_passed_line line =
+    has_no_lf line
+    && (begins (codes "checkpoint") line && (length line == 10) || begins (codes "progress ") line || begins (codes "option ") line
+    || begins (codes "feature ") line
+    && not (begins (codes "feature import-marks") line)
+    && (not (begins (codes "feature date-format=") line) || begins (codes "feature date-format=raw") line && (length line == 23)))
+
+-- ---- an event behind earlier ones
+
+abbrev pub IsSoundEvent : List PlainEvent → PlainEvent → Type 0
+IsSoundEvent earlier (Blob id mark bytes) = IsFalse (has_id earlier (any.Blob id)) × IsFalse (is_marked earlier mark)
+IsSoundEvent earlier (Commit id mark branch author committer encoding comment parents ops) =
+    IsFalse (has_id earlier (any.Commit id)) × IsFalse (is_marked earlier mark) × IsTrue (is_name branch)
+    × IsFormedSigned author × IsFormedSigned committer × IfSome encoding (λ e. IsTrue (has_no_lf e))
+    × AllByRecursion (IsCommitOf earlier) parents × IsTrue (are_distinct parents) × (length parents ≤ MAX_PARENTS)
+    × AllByRecursion (RefersBack earlier) ops
+IsSoundEvent earlier (Tag id name target tagger comment) =
+    IsFalse (has_id earlier (any.Tag id)) × IsTrue (is_name name) × IsCommitOf earlier target × IfSome tagger IsFormedSigned
+IsSoundEvent earlier (Reset id branch target) =
+    IsFalse (has_id earlier (any.Reset id)) × IsTrue (is_name branch) × IfSome target (IsCommitOf earlier)
+IsSoundEvent earlier (Pass id line) = IsFalse (has_id earlier (any.Pass id)) × IsTrue (is_passed_line line)
+
+abbrev pub AreSoundBehind : List PlainEvent → List PlainEvent → Type 0
+AreSoundBehind earlier [] = Unit {0}
+AreSoundBehind earlier (e ∷ events) = IsSoundEvent earlier e × AreSoundBehind (earlier ++ e ∷ []) events
+
+-- the whole history
+pub record IsSound (events : List PlainEvent) : Type 0 where
+  pub formed : AreSoundBehind [] events
+  pub trees : (c : ℕ) → IsCommitOf events c → IsSome (tree events c)

@@ -1,0 +1,136 @@
+-- The text of a history (git-fast-import, the stream).
+use Rattle.std.specs.Prelude.{◌≡◌, ℕ, ◌+◌, Bool, true, false, cond, not, ◌&&◌, ◌||◌, ◌==◌, List, [], ◌∷◌, ◌++◌, length, Option, Some, None, codes, decimal, flat_map, nat_lt, bytes_eq, if◌then◌else◌, ◌/◌, ◌%◌}
+use Rattle.std.specs.List.{list_any}
+use Rattle.plain_model.specs.declared.operation.Mode.{Mode}
+use Rattle.plain_model.specs.declared.operation.Mode.TheVariants.{Plain, Executable, Link, Gitlink}
+use Rattle.plain_model.specs.declared.operation.Content.{Content}
+use Rattle.plain_model.specs.declared.operation.Content.TheVariants.{Blob as OfBlob, Object}
+use Rattle.plain_model.specs.declared.operation.FileOp.{FileOp}
+use Rattle.plain_model.specs.declared.operation.FileOp.TheVariants.{Modify, Delete, Copy, Rename, DeleteAll}
+use Rattle.plain_model.specs.declared.person.Signed.{Signed}
+use Rattle.plain_model.specs.declared.event.PlainEvent.{PlainEvent}
+use Rattle.plain_model.specs.declared.event.PlainEvent.TheVariants.{Blob, Commit, Tag, Reset, Pass}
+use Rattle.plain_model.specs.Paths.{Bytes}
+use Rattle.plain_model.specs.Trees.{TreeOf, has, put, where_path}
+use Rattle.plain_model.specs.Snapshots.{commit_mark, refs_after}
+
+abbrev pub LF : ℕ
+LF = 10
+
+abbrev pub line : Bytes → Bytes
+line bytes = bytes ++ LF ∷ []
+
+abbrev pub marked : ℕ → Bytes
+marked mark = codes ":" ++ decimal mark
+
+abbrev pub data_block : Bytes → Bytes
+data_block bytes = line (codes "data " ++ decimal (length bytes)) ++ line bytes
+
+-- four digits
+abbrev pub zone : ℕ → Bytes
+zone n = (48 + n / 1000) ∷ (48 + n / 100 % 10) ∷ (48 + n / 10 % 10) ∷ (48 + n % 10) ∷ []
+
+abbrev pub person : Signed → Bytes
+person s =
+    s.person.name ++ (if nat_lt 0 (length s.person.name) then codes " " else [])
+    ++ codes "<" ++ s.person.email ++ codes "> " ++ decimal s.when.seconds ++ codes " "
+    ++ (if s.when.minus then codes "-" else codes "+") ++ zone s.when.offset
+
+abbrev pub mode_text : Mode → Bytes
+mode_text Plain = codes "100644"
+mode_text Executable = codes "100755"
+mode_text Link = codes "120000"
+mode_text Gitlink = codes "160000"
+
+-- ---- paths
+
+abbrev pub quoted_byte : ℕ → Bytes
+quoted_byte b = if b == 34 then codes "\\\"" else (if b == 92 then codes "\\\\" else (if b == LF then codes "\\n" else b ∷ []))
+
+abbrev pub quoted : Bytes → Bytes
+quoted p = codes "\"" ++ flat_map quoted_byte p ++ codes "\""
+
+abbrev pub begins_quoted : Bytes → Bool
+begins_quoted [] = false
+begins_quoted (b ∷ bs) = b == 34
+
+abbrev pub last_path : Bytes → Bytes
+last_path p = if begins_quoted p || list_any (λ b. b == LF) p then quoted p else p
+
+abbrev pub source_path : Bytes → Bytes
+source_path p = if begins_quoted p || list_any (λ b. (b == LF) || (b == 32)) p then quoted p else p
+
+-- ---- events
+
+module _ (whole : List PlainEvent) where
+  abbrev pub blob_mark_in : List PlainEvent → ℕ → ℕ
+  blob_mark_in [] b = 0
+  blob_mark_in (Blob id mark bytes ∷ events) b = if id == b then mark else blob_mark_in events b
+  blob_mark_in (Commit id mark branch author committer encoding comment parents ops ∷ events) b = blob_mark_in events b
+  blob_mark_in (Tag id name target tagger comment ∷ events) b = blob_mark_in events b
+  blob_mark_in (Reset id branch target ∷ events) b = blob_mark_in events b
+  blob_mark_in (Pass id bytes ∷ events) b = blob_mark_in events b
+
+  abbrev pub content_text : Content → Bytes
+  content_text (OfBlob b) = marked (blob_mark_in whole b)
+  content_text (Object digits) = digits
+
+  abbrev pub op_text : FileOp → Bytes
+  op_text (Modify mode content path) = line (codes "M " ++ mode_text mode ++ codes " " ++ content_text content ++ codes " " ++ last_path path)
+  op_text (Delete path) = line (codes "D " ++ last_path path)
+  op_text (Copy source target) = line (codes "C " ++ source_path source ++ codes " " ++ last_path target)
+  op_text (Rename source target) = line (codes "R " ++ source_path source ++ codes " " ++ last_path target)
+  op_text DeleteAll = line (codes "deleteall")
+
+  abbrev pub parents_text : List ℕ → Bytes
+  parents_text [] = []
+  parents_text (p ∷ ps) = line (codes "from " ++ marked (commit_mark whole p)) ++ flat_map (λ q. line (codes "merge " ++ marked (commit_mark whole q))) ps
+
+  abbrev pub encoding_text : Option Bytes → Bytes
+  encoding_text None = []
+  encoding_text (Some e) = line (codes "encoding " ++ e)
+
+  abbrev pub tagger_text : Option Signed → Bytes
+  tagger_text None = []
+  tagger_text (Some s) = line (codes "tagger " ++ person s)
+
+  abbrev pub target_text : Option ℕ → Bytes
+  target_text None = []
+  target_text (Some c) = line (codes "from " ++ marked (commit_mark whole c))
+
+  -- a branch with a tip is reset before a root on it
+  abbrev pub reset_text : TreeOf ℕ → Bytes → List ℕ → Bytes
+  reset_text tips branch [] = if has tips branch then line (codes "reset " ++ branch) else []
+  reset_text tips branch (p ∷ ps) = []
+
+  -- an event, where the branches stand so
+  abbrev pub event_text : TreeOf ℕ → PlainEvent → Bytes
+  event_text tips (Blob id mark bytes) = line (codes "blob") ++ line (codes "mark " ++ marked mark) ++ data_block bytes
+  event_text tips (Commit id mark branch author committer encoding comment parents ops) =
+      reset_text tips branch parents
+      ++ line (codes "commit " ++ branch) ++ line (codes "mark " ++ marked mark)
+      ++ line (codes "author " ++ person author) ++ line (codes "committer " ++ person committer)
+      ++ encoding_text encoding ++ data_block comment ++ parents_text parents
+      ++ flat_map op_text ops ++ line []
+  event_text tips (Tag id name target tagger comment) = line (codes "tag " ++ name) ++ target_text (Some target) ++ tagger_text tagger ++ data_block comment
+  event_text tips (Reset id branch target) = line (codes "reset " ++ branch) ++ target_text target
+  event_text tips (Pass id bytes) = line bytes
+
+  abbrev pub text_from : TreeOf ℕ → List PlainEvent → Bytes
+  text_from tips [] = []
+  text_from tips (e ∷ events) = event_text tips e ++ text_from (refs_after tips (e ∷ [])) events
+
+-- an event `feature done`
+abbrev pub is_feature_done : PlainEvent → Bool
+is_feature_done (Pass id bytes) = bytes_eq bytes (codes "feature done")
+is_feature_done (Blob id mark bytes) = false
+is_feature_done (Commit id mark branch author committer encoding comment parents ops) = false
+is_feature_done (Tag id name target tagger comment) = false
+is_feature_done (Reset id branch target) = false
+
+-- the line that ends a stream which promised one
+abbrev pub end_text : List PlainEvent → Bytes
+end_text events = if list_any is_feature_done events then line (codes "done") else []
+
+abbrev pub text : List PlainEvent → Bytes
+text events = text_from events [] events ++ end_text events

@@ -1,0 +1,170 @@
+//! One list type for all lists that contracts speak of; they see it as the plain list of its items.
+ghost use Rattle.std.specs.Prelude.{◌≡◌, [], ◌∷◌, ◌++◌, OnOk, OnErr, IfOk};
+ghost use Rattle.std.specs.Fmt.{decimal};
+ghost use Rattle.plain_model.specs.declared.list.NoMemory.{NoMemory};
+
+use std::alloc::{AllocError, AllocFailed, Global};
+use std::fmt::Display;
+use std::marker::Model;
+
+/// Want of memory, and nothing else.
+#[derive(Clone, Copy, Debug, PartialEq, Eq)]
+pub struct NoMemory;
+
+impl From<AllocError> for NoMemory {
+    fn from(_error: AllocError) -> NoMemory {
+        NoMemory
+    }
+}
+
+impl<T: Drop> From<AllocFailed<T>> for NoMemory {
+    fn from(_error: AllocFailed<T>) -> NoMemory {
+        NoMemory
+    }
+}
+
+/// A value of which an equal one can be made, if there is memory.
+pub trait Copied {
+    fn copied(&self, alloc: Global) -> Result<Self, NoMemory>
+        ensures { IfOk result (λ made. made ≡ self.now) };
+}
+
+impl Copied for u8 {
+    fn copied(&self, _alloc: Global) -> Result<u8, NoMemory> {
+        Ok(*self)
+    }
+}
+
+impl Copied for u64 {
+    fn copied(&self, _alloc: Global) -> Result<u64, NoMemory> {
+        Ok(*self)
+    }
+}
+
+impl<T: Copied> Copied for Option<T> {
+    fn copied(&self, alloc: Global) -> Result<Option<T>, NoMemory> {
+        match self {
+            None => Ok(None),
+            Some(value) => Ok(Some(value.copied(alloc)?)),
+        }
+    }
+}
+
+/// A list that keeps its allocator, so that its methods take none.
+#[derive(Drop)]
+pub struct Items<T> {
+    alloc: Global,
+    items: Vec<T>,
+}
+
+/// Bytes.
+pub type Text = Items<u8>;
+
+/// Numbers.
+pub type NumberList = Items<u64>;
+
+impl<T> Model for Items<T> {
+    ghost use Rattle.std.specs.Prelude.{List};
+
+    ghost Value = { List T };
+
+    ghost view = { λ l. l.items.items };
+}
+
+impl<T> Items<T> {
+    /// The empty list. It takes no memory.
+    pub fn empty(alloc: Global) -> Items<T>
+        ensures { result ≡ [] }
+    {
+        Items {
+            alloc,
+            items: Vec::new(alloc),
+        }
+    }
+
+    /// The empty list, in the form of the calls that can want memory.
+    pub fn new(alloc: Global) -> Result<Items<T>, NoMemory>
+        ensures { IfOk result (λ made. made ≡ []) }
+    {
+        Ok(Items::empty(alloc))
+    }
+
+    pub fn as_slice(&self) -> &[T]
+        ensures { result.now ≡ self.now }
+    {
+        self.items.as_slice()
+    }
+}
+
+impl<T: Drop> Items<T> {
+    /// Puts an item at the end; a refused call leaves the list.
+    pub fn push(&mut self, item: T) -> Result<(), NoMemory>
+        ensures ok { OnOk result (self.new ≡ self.old ++ item ∷ []) }
+        ensures err { OnErr result (self.new ≡ self.old) }
+    {
+        self.items.push(item)?;
+        Ok(())
+    }
+
+    /// Puts an item in front of all others, which costs a move of each; a refused call leaves the list.
+    pub fn push_front(&mut self, item: T) -> Result<(), NoMemory>
+        ensures ok { OnOk result (self.new ≡ item ∷ self.old) }
+        ensures err { OnErr result (self.new ≡ self.old) }
+    {
+        self.items.insert(0, item)?;
+        Ok(())
+    }
+}
+
+impl Items<u8> {
+    /// Puts bytes at the end; a refused call leaves the text.
+    pub fn push_all(&mut self, bytes: &[u8]) -> Result<(), NoMemory>
+        ensures ok { OnOk result (self.new ≡ self.old ++ bytes.now) }
+        ensures err { OnErr result (self.new ≡ self.old) }
+    {
+        self.items.extend_from_slice(bytes)?;
+        Ok(())
+    }
+
+    /// Puts a number in decimal digits at the end; a refused call leaves the text.
+    pub fn push_number(&mut self, number: u64) -> Result<(), NoMemory>
+        ensures ok { OnOk result (self.new ≡ self.old ++ decimal number) }
+        ensures err { OnErr result (self.new ≡ self.old) }
+    {
+        let digits = number.to_string(self.alloc)?;
+        self.push_all(digits.as_bytes())
+    }
+}
+
+fn copy_all<T: Copied + Drop>(alloc: Global, items: &[T]) -> Result<Vec<T>, NoMemory>
+    ensures { IfOk result (λ made. made.items ≡ items.now) }
+{
+    let mut made = Vec::new(alloc);
+    for item in items {
+        made.push(item.copied(alloc)?)?;
+    }
+    Ok(made)
+}
+
+impl<T: Copied + Drop> Items<T> {
+    /// The list of copies of these items.
+    pub fn of(alloc: Global, items: &[T]) -> Result<Items<T>, NoMemory>
+        ensures { IfOk result (λ made. made ≡ items.now) }
+    {
+        let items = copy_all(alloc, items)?;
+        Ok(Items { alloc, items })
+    }
+
+    /// An equal list.
+    pub fn copy(&self) -> Result<Items<T>, NoMemory>
+        ensures { IfOk result (λ made. made ≡ self.now) }
+    {
+        Items::of(self.alloc, self.as_slice())
+    }
+}
+
+impl<T: Copied + Drop> Copied for Items<T> {
+    fn copied(&self, alloc: Global) -> Result<Items<T>, NoMemory> {
+        Items::of(alloc, self.as_slice())
+    }
+}
