@@ -1,0 +1,8 @@
+mod HistorySoFar
+mod LineLaws
+mod PathLaws
+mod PlacedEvents
+mod ReplayLaws
+mod Rows
+mod TreeLaws
+mod TreeMapping
