@@ -1,0 +1,4 @@
+pub mod Indexes
+pub mod Numbers
+pub mod Operations
+pub mod Streams

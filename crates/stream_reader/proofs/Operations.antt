@@ -1,0 +1,12 @@
+-- A step of the loop over operations.
+use Rattle.std.proofs.Common.{◌≡◌, ℕ, suc, ◌+◌, ◌-◌, ◌<◌, Bool, true, false, cond, List, [], ◌∷◌, ◌++◌, Option, Some, None, refl, sym, ap, ◌∙◌, arith}
+use Rattle.plain_model.specs.Reading.{◌>>=◌}
+use Rattle.plain_model.specs.declared.raw.RawOp.{RawOp}
+use Rattle.plain_model.specs.Reading.{starts_op, line_at, op_of, ops_from}
+
+pub ops_more : (n i : ℕ) (ops : List RawOp) (bytes text after : List ℕ) (o : RawOp) (total : Option (List RawOp × List ℕ)) → i < n → starts_op bytes ≡ true → line_at bytes ≡ Some (text, after) → op_of text ≡ Some o → ops_from (n - i) ops bytes ≡ total → ops_from (n - (i + 1)) (ops ++ o ∷ []) after ≡ total
+unfolding ops_from
+ops_more n i ops bytes text after o total lt starts is_line is_op so_far =
+    let k : n - i ≡ suc (n - (i + 1)) = omega arith in
+    let one : ops_from (n - i) ops bytes ≡ ops_from (n - (i + 1)) (ops ++ o ∷ []) after = rw (k, starts, is_line, is_op) refl in
+    sym one ∙ so_far
