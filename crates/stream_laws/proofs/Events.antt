@@ -83,7 +83,7 @@ author_read text (Some who) rest h =
     cond-true (is_some (behind (codes "author ") text)) (signed_line_at (codes "author") (λ s. Some s) text) (Some (None, text)) (is_some-behind (codes "author ") text ∙ line_begins (codes "author ") text h.spelled rest h.line)
     ∙ signed_line_read (codes "author") (λ s. Some s) text who rest h
 
-author_within : (text : Bytes) (author : Option Signed) (rest : Bytes) → IsAuthor text author rest → length rest ≤ length text
+pub author_within : (text : Bytes) (author : Option Signed) (rest : Bytes) → IsAuthor text author rest → length rest ≤ length text
 author_within text None rest h = omega (arith, ap length h.1)
 author_within text (Some who) rest h = omega (arith, signed_line_takes (codes "author") text who rest h)
 

@@ -44,11 +44,11 @@ history_ends : (before all : List PlainEvent) → Some before ≡ Some all → h
 unfolding history_after
 history_ends before all e = e
 
-history_goes_on : (before all : List PlainEvent) (r : RawEvent) (e : PlainEvent) (raws : List RawEvent) → event_of before r ≡ Some e → history_after (before ++ e ∷ []) raws ≡ Some all → history_after before (r ∷ raws) ≡ Some all
+pub history_goes_on : (before all : List PlainEvent) (r : RawEvent) (e : PlainEvent) (raws : List RawEvent) → event_of before r ≡ Some e → history_after (before ++ e ∷ []) raws ≡ Some all → history_after before (r ∷ raws) ≡ Some all
 unfolding history_after
 history_goes_on before all r e raws is more = ap (option_and_then (λ e. history_after (before ++ e ∷ []) raws)) is ∙ more
 
-history_went_on : (before all : List PlainEvent) (r : RawEvent) (raws : List RawEvent) → history_after before (r ∷ raws) ≡ Some all → (e : PlainEvent) × (event_of before r ≡ Some e) × (history_after (before ++ e ∷ []) raws ≡ Some all)
+pub history_went_on : (before all : List PlainEvent) (r : RawEvent) (raws : List RawEvent) → history_after before (r ∷ raws) ≡ Some all → (e : PlainEvent) × (event_of before r ≡ Some e) × (history_after (before ++ e ∷ []) raws ≡ Some all)
 unfolding history_after
 history_went_on before all r raws h = go (event_of before r) h
   where

@@ -5,3 +5,8 @@ pub mod Persons
 pub mod Operations
 pub mod Events
 pub mod Histories
+pub mod LookedUp
+pub mod Written
+pub mod Fits
+pub mod WrittenEvents
+pub mod Again

@@ -80,7 +80,7 @@ digit_at_most : (d : ℕ) → is_digit d ≡ true → d ≤ 57
 digit_at_most d h = leb-true d 57 (and_parts (nat_le 48 d) (nat_le d 57) h).1
 
 -- four digits say at most 9999
-four_digits : (digits : Bytes) → length digits ≡ 4 → list_all is_digit digits ≡ true → value_after 0 digits ≤ 9999
+pub four_digits : (digits : Bytes) → length digits ≡ 4 → list_all is_digit digits ≡ true → value_after 0 digits ≤ 9999
 four_digits [] h e = absurd (omega arith)
 four_digits (a ∷ []) h e = absurd (omega arith)
 four_digits (a ∷ b ∷ []) h e = absurd (omega arith)

@@ -1,11 +1,6 @@
 -- The indexes of the events so far, after one more event.
 use Rattle.std.proofs.Common.{◌≡◌, ℕ, ◌+◌, Bool, true, false, cond, List, [], ◌∷◌, ◌++◌, length, refl, sym, ◌∙◌, ap, subst, inl, inr, ◌⊎◌, eqb-true, Option, Some, None, nat_eq, Vec, is_some}
 use Rattle.std.specs.Prelude.{◌==◌, ◌&&◌, ◌||◌, if◌then◌else◌}
-use Rattle.std.specs.Ordering.{nat_cmp, eq_by_cmp}
-use Rattle.std.specs.Cmp.Lexicographic.{pointwise, slice_cmp, nat_list_eq_equiv, nat_list_cmp_total, texts_ties}
-use Rattle.std.specs.FinMap.Entries as entries
-use Rattle.std.specs.HashMap.{HashMap, get_by, UpdatesBy}
-use Rattle.std.specs.Map.{KeepsOthers}
 use Rattle.std.proofs.lemmas.Bool.{cases_Bool, cond-true, cond-false, or_parts}
 use Rattle.plain_model.specs.declared.event.PlainEvent.{PlainEvent}
 use Rattle.plain_model.specs.declared.event.PlainEvent.TheVariants.{Blob, Commit, Tag, Reset, Pass}
@@ -13,35 +8,6 @@ use Rattle.plain_model.specs.Paths.{Bytes}
 use Rattle.plain_model.specs.Trees.{TreeOf, at, put}
 use Rattle.plain_model.specs.Snapshots.{refs, refs_after}
 use Rattle.plain_model.specs.Streams.{is_marked, blob_marked, commit_marked}
-
--- ---- branches as keys
-
-both : (a b : Bool) → (a && b) ≡ true → (a ≡ true) × (b ≡ true)
-both true b h = (refl, h)
-both false b h = absurd cc
-
-pub same_bytes : (xs ys : Bytes) → pointwise nat_eq xs ys ≡ true → xs ≡ ys
-same_bytes [] [] h = refl
-same_bytes [] (y ∷ ys) h = absurd cc
-same_bytes (x ∷ xs) [] h = absurd cc
-same_bytes (x ∷ xs) (y ∷ ys) h =
-    let p = both (x == y) (pointwise nat_eq xs ys) h in
-    (λ i. eqb-true x y p.0 i ∷ same_bytes xs ys p.1 i)
-
-module _ {A : Type 0} where
-  abbrev key_eq : Vec ℕ A → Vec ℕ A → Bool
-  key_eq x y = pointwise nat_eq x.items y.items
-
-  -- an index by branch, after an entry is put in
-  pub tip_noted : {S : Type 0} (branch : Vec ℕ A) (id : ℕ) (m n : HashMap (Vec ℕ A) ℕ S) → UpdatesBy key_eq (key_eq branch) m n (Some id)
-    → (b : Bytes) → get_by (λ k. pointwise nat_eq b k.items) n ≡ cond (pointwise nat_eq branch.items b) (Some id) (get_by (λ k. pointwise nat_eq b k.items) m)
-  unfolding KeepsOthers
-  tip_noted branch id m n h b = elim (cases_Bool (pointwise nat_eq branch.items b)) [
-      | inl is_it ↦ rw is_it (subst (λ (t : Bytes). get_by (λ k. pointwise nat_eq t k.items) n ≡ Some id) (same_bytes branch.items b is_it) h.1)
-      | inr no_it ↦ rw no_it (h.3 (λ k. pointwise nat_eq b k.items)
-          (λ x y t. ap (λ (u : Bytes). pointwise nat_eq u y.items) (same_bytes b x.items t))
-          (λ k t. ap (λ (u : Bytes). pointwise nat_eq b u) (sym (same_bytes branch.items k.items t)) ∙ nat_list_eq_equiv.symm b branch.items ∙ no_it))
-    ]
 
 -- ---- one more event
 
@@ -112,10 +78,10 @@ unmarked es m h =
 noted : (mark id : ℕ) (old : ℕ → Option ℕ) → old mark ≡ None → (m : ℕ) → cond (mark == m) (Some id) (old m) ≡ first_of (old m) (cond (mark == m) (Some id) None)
 noted mark id old none m = elim (cases_Bool (mark == m)) [
   | inl is_it ↦
-    let here : old m ≡ None = subst (λ k. old k ≡ None) (eqb-true mark m is_it) none in
-    cond-true (mark == m) (Some id) (old m) is_it ∙ sym (ap (λ o. first_of o (cond (mark == m) (Some id) None)) here ∙ cond-true (mark == m) (Some id) None is_it)
+      let here : old m ≡ None = subst (λ k. old k ≡ None) (eqb-true mark m is_it) none in
+      cond-true (mark == m) (Some id) (old m) is_it ∙ sym (ap (λ o. first_of o (cond (mark == m) (Some id) None)) here ∙ cond-true (mark == m) (Some id) None is_it)
   | inr no_it ↦
-    cond-false (mark == m) (Some id) (old m) no_it ∙ sym (ap (first_of (old m)) (cond-false (mark == m) (Some id) None no_it) ∙ first_alone (old m))
+      cond-false (mark == m) (Some id) (old m) no_it ∙ sym (ap (first_of (old m)) (cond-false (mark == m) (Some id) None no_it) ∙ first_alone (old m))
 ]
 
 -- the index of blobs, after a blob with a new mark
@@ -135,11 +101,11 @@ blobs_stay es e m none = sym (blob_marked-append es e m ∙ ap (first_of (blob_m
 pub commits_stay : (es : List PlainEvent) (e : PlainEvent) (m : ℕ) → commit_marked (e ∷ []) m ≡ None → commit_marked es m ≡ commit_marked (es ++ e ∷ []) m
 commits_stay es e m none = sym (commit_marked-append es e m ∙ ap (first_of (commit_marked es m)) none ∙ first_alone (commit_marked es m))
 
--- the branches stay, where an event doesn't touch them
-pub tips_stay : (es : List PlainEvent) (e : PlainEvent) (b : Bytes) → refs_after (refs es) (e ∷ []) ≡ refs es → at (refs es) b ≡ at (refs (es ++ e ∷ [])) b
-tips_stay es e b same = ap (λ t. at t b) (sym (refs_after-append [] es e ∙ same))
+-- the branches, after an event
+pub tips_noted : (es : List PlainEvent) (e : PlainEvent) → refs_after (refs es) (e ∷ []) ≡ refs (es ++ e ∷ [])
+tips_noted es e = sym (refs_after-append [] es e)
 
-module _ (es : List PlainEvent) (e : PlainEvent) (id mark : ℕ) (branch : Bytes) where
+module _ (es : List PlainEvent) (e : PlainEvent) (id mark : ℕ) where
   -- the index of commits, after a commit with a new mark
   pub commits_noted : (old new : ℕ → Option ℕ) → is_marked es mark ≡ false → ((m : ℕ) → commit_marked (e ∷ []) m ≡ cond (mark == m) (Some id) None)
       → ((m : ℕ) → old m ≡ commit_marked es m) → ((m : ℕ) → new m ≡ cond (mark == m) (Some id) (old m))
@@ -149,16 +115,6 @@ module _ (es : List PlainEvent) (e : PlainEvent) (id mark : ℕ) (branch : Bytes
       ∙ noted mark id (commit_marked es) (unmarked es mark fresh).1 m
       ∙ ap (first_of (commit_marked es m)) (sym (is m))
       ∙ sym (commit_marked-append es e m)
-
-  -- the index of tips, after a commit on a branch
-  pub tips_noted : (old new : Bytes → Option ℕ) → refs_after (refs es) (e ∷ []) ≡ put branch id (refs es)
-      → ((b : Bytes) → old b ≡ at (refs es) b) → ((b : Bytes) → new b ≡ cond (pointwise nat_eq branch b) (Some id) (old b))
-      → (b : Bytes) → new b ≡ at (refs (es ++ e ∷ [])) b
-  tips_noted old new is before after b =
-      after b ∙ ap (cond (pointwise nat_eq branch b) (Some id)) (before b)
-      ∙ ap (λ t. cond t (Some id) (at (refs es) b)) (sym (nat_list_eq_equiv.symm b branch) ∙ texts_ties b branch)
-      ∙ sym (entries.find-put (slice_cmp nat_cmp) nat_list_cmp_total b branch id (refs es))
-      ∙ ap (λ t. at t b) (sym (refs_after-append [] es e ∙ is))
 
 -- a mark of a blob
 pub marked_blob : (es : List PlainEvent) (m : ℕ) (b : Bool) → b ≡ is_some (blob_marked es m) → b ≡ true → b ≡ is_marked es m

@@ -1,5 +1,6 @@
 -- A step of the loop over events, and what it puts behind the others.
-use Rattle.std.proofs.Common.{◌≡◌, ℕ, suc, ◌+◌, ◌-◌, ◌<◌, ◌≤◌, Bool, true, false, cond, List, [], ◌∷◌, ◌++◌, Option, Some, None, refl, sym, ap, ◌∙◌, arith}
+use Rattle.std.proofs.lemmas.Bool.{cond-true}
+use Rattle.std.proofs.Common.{◌≡◌, ℕ, zero, suc, ◌+◌, ◌-◌, ◌<◌, ◌≤◌, Bool, true, false, cond, List, [], ◌∷◌, ◌++◌, Option, Some, None, refl, sym, ap, ◌∙◌, arith}
 use Rattle.plain_model.specs.Reading.{◌>>=◌}
 use Rattle.plain_model.specs.Paths.{is_empty}
 use Rattle.plain_model.specs.declared.event.PlainEvent.{PlainEvent}
@@ -70,3 +71,9 @@ unread n i events text total le more so_far =
     let k : n - i ≡ 0 = omega arith in
     let none : read_from (n - i) events text ≡ None = rw (k, more) refl in
     sym so_far ∙ none
+
+-- the text is read to its end
+pub all_read : (n : ℕ) (events : List PlainEvent) (text : List ℕ) (total : Option (List PlainEvent)) → is_empty text ≡ true → read_from n events text ≡ total → total ≡ Some events
+unfolding read_from
+all_read zero events text total none so_far = sym so_far ∙ cond-true (is_empty text) (Some events) None none
+all_read (suc n) events text total none so_far = sym so_far ∙ cond-true (is_empty text) (Some events) (step_at events text >>= λ x. read_from n (events ++ x.0 ∷ []) x.1) none

@@ -1,11 +1,8 @@
 -- When the index of a history agrees with it.
 use Rattle.std.specs.Prelude.{◌≡◌, ℕ, List, nat_eq, false}
-use Rattle.std.specs.HashMap.{get, get_by}
-use Rattle.std.specs.Cmp.Lexicographic.{pointwise}
+use Rattle.std.specs.HashMap.{get}
 use Rattle.plain_model.specs.declared.event.PlainEvent.{PlainEvent}
 use Rattle.plain_model.specs.declared.event.PlainEvent.TheVariants.{Blob, Commit}
-use Rattle.plain_model.specs.Paths.{Bytes}
-use Rattle.plain_model.specs.Trees.{at}
 use Rattle.plain_model.specs.Snapshots.{refs}
 use Rattle.plain_model.specs.Streams.{is_marked, blob_marked, commit_marked}
 use Rattle.stream_reader.specs.declared.index.Index.{Index}
@@ -14,7 +11,7 @@ use Rattle.stream_reader.specs.declared.index.Index.{Index}
 pub record Agrees (index : Index) (events : List PlainEvent) : Type 0 where
   pub blobs : (m : ℕ) → get nat_eq index.blobs m ≡ blob_marked events m
   pub commits : (m : ℕ) → get nat_eq index.commits m ≡ commit_marked events m
-  pub tips : (b : Bytes) → get_by (λ key. pointwise nat_eq b key.items) index.tips ≡ at (refs events) b
+  pub tips : index.tips ≡ refs events
 
 -- a blob or a commit that may come next: its mark is new
 abbrev pub Follows : List PlainEvent → PlainEvent → Type 0

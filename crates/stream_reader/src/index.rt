@@ -1,12 +1,12 @@
 //! Where the blobs, the commits and the tips of a history are found.
 ghost use Rattle.std.specs.Prelude.{◌≡◌, ◌∷◌, ◌++◌, ◌==◌, [], ℕ, List, nat_eq, OnOk, Some, if◌then◌else◌};
-ghost use Rattle.std.specs.HashMap.{get, get_by};
-ghost use Rattle.std.specs.Cmp.Lexicographic.{pointwise};
+ghost use Rattle.std.specs.HashMap.{get};
 ghost use Rattle.plain_model.specs.declared.event.PlainEvent.{PlainEvent};
 ghost use Rattle.plain_model.specs.Streams.{is_marked, blob_marked, commit_marked};
 ghost use Rattle.plain_model.specs.Snapshots.{refs};
 ghost use Rattle.plain_model.specs.Trees.{at};
 
+use branch_tips::Tips;
 use plain_model::{BlobId, CommitId, Mark, NoMemory, PlainEvent};
 use std::alloc::Global;
 use std::collections::HashMap;
@@ -14,10 +14,9 @@ use std::collections::HashMap;
 /// The blobs and the commits of a history by mark, and the tips by branch.
 #[derive(Drop)]
 pub struct Index {
-    alloc: Global,
     pub blobs: HashMap<u64, BlobId>,
     pub commits: HashMap<u64, CommitId>,
-    pub tips: HashMap<Vec<u8>, CommitId>,
+    pub tips: Tips,
 }
 
 fn note_blob(blobs: &mut HashMap<u64, BlobId>, mark: Mark, id: BlobId) -> Result<(), NoMemory>
@@ -38,19 +37,6 @@ fn note_commit(
     Ok(())
 }
 
-fn note_tip(
-    alloc: Global,
-    tips: &mut HashMap<Vec<u8>, CommitId>,
-    branch: &[u8],
-    id: CommitId,
-) -> Result<(), NoMemory>
-    ensures { OnOk result ((b : List ℕ) → get_by (λ key. pointwise nat_eq b key.items) tips.new ≡ (if pointwise nat_eq branch.now b then Some id else get_by (λ key. pointwise nat_eq b key.items) tips.old)) }
-{
-    let branch = Vec::from_slice(alloc, branch)?;
-    tips.insert(branch, id)?;
-    Ok(())
-}
-
 impl Index {
     ghost use Rattle.stream_reader.specs.Agreement.{Agrees, Follows};
 
@@ -59,10 +45,9 @@ impl Index {
         ensures { Agrees result [] }
     {
         Index {
-            alloc,
             blobs: HashMap::new(alloc),
             commits: HashMap::new(alloc),
-            tips: HashMap::new(alloc),
+            tips: Tips::new(alloc),
         }
     }
 
@@ -84,7 +69,7 @@ impl Index {
     pub fn tip(&self, branch: &[u8]) -> Option<CommitId>
         ensures { (events : List PlainEvent) → Agrees self.now events → result ≡ at (refs events) branch.now }
     {
-        self.tips.get(branch).copied()
+        self.tips.tip(branch)
     }
 
     /// Whether a blob or a commit has the mark.
@@ -100,11 +85,9 @@ impl Index {
     {
         match event {
             PlainEvent::Blob { id, mark, .. } => note_blob(&mut self.blobs, *mark, *id),
-            PlainEvent::Commit {
-                id, mark, branch, ..
-            } => {
+            PlainEvent::Commit { id, mark, .. } => {
                 note_commit(&mut self.commits, *mark, *id)?;
-                note_tip(self.alloc, &mut self.tips, branch.as_slice(), *id)
+                self.tips.note(event)
             }
             _ => Ok(()),
         }

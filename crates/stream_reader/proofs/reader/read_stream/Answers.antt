@@ -1,9 +1,9 @@
-use Rattle.std.proofs.Common.{◌≡◌, length, true, false, Some, refl, sym, ap, ◌∙◌, rules, arith}
+use Rattle.std.proofs.Common.{◌≡◌, length, true, false, Some, refl, ◌-◌, arith}
 use Rattle.std.proofs.lemmas.Result.{err_from_is_err_and}
 use Rattle.plain_model.specs.Paths.{is_empty}
 use Rattle.plain_model.specs.Reading.{step_at, read_of}
 use Rattle.stream_reader.specs.Answers.{Fails}
-use Rattle.stream_reader.proofs.Streams.{read_more, read_ends, unread}
+use Rattle.stream_reader.proofs.Streams.{read_more, read_ends, unread, all_read}
 use Rattle.stream_reader.proofs.reader.read_stream.Goals as goal
 use Rattle.stream_reader.proofs.reader.read_stream.Goals.{else-loop-test, then-loop-test+then-is_empty}
 
@@ -29,8 +29,17 @@ pub returns-else-is_empty-2 : goal.returns-else-is_empty-2
 unfolding read_of
 returns-else-is_empty-2 c =
     let rest = c.loop.rest.now in
-    let more : is_empty rest ≡ false = grind arith in
-    (refl, refl, elim c.loop-test.branch [
-      | else-loop-test w ↦ unread (length c.args.text.now) c.loop.counter c.loop.known.events rest _ (omega (arith, w.loop-test.false)) more c.loop.invariant.same
-      | then-loop-test+then-is_empty w ↦ absurd (grind arith)
-    ])
+    let more : is_empty rest ≡ false = grind arith in (
+      refl,
+      refl,
+      elim c.loop-test.branch [
+        | else-loop-test w ↦ unread (length c.args.text.now) c.loop.counter c.loop.known.events rest _ (omega (arith, w.loop-test.false)) more c.loop.invariant.same
+        | then-loop-test+then-is_empty w ↦ absurd (grind arith)
+      ],
+    )
+
+pub returns-then-is_empty-2 : goal.returns-then-is_empty-2
+unfolding read_of
+returns-then-is_empty-2 c =
+    let done : is_empty c.loop.rest.now ≡ true = grind arith in
+    all_read (length c.args.text.now - c.loop.counter) c.loop.known.events c.loop.rest.now _ done c.loop.invariant.same

@@ -9,4 +9,4 @@ returns-then-is_some c = λ events agrees.
 pub returns-else-is_some : goal.returns-else-is_some
 returns-else-is_some c = λ events agrees.
     marked_commit events c.args.mark c.is_some.result c.is_some-else-is_some.result
-        (c.is_some.ensures ∙ ap is_some (c.blob.ensures events agrees)) c.if-is_some.false (c.is_some-else-is_some.ensures ∙ ap is_some (c.commit.ensures events agrees))
+    (c.is_some.ensures ∙ ap is_some (c.blob.ensures events agrees)) c.if-is_some.false (c.is_some-else-is_some.ensures ∙ ap is_some (c.commit.ensures events agrees))

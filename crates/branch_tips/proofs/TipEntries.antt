@@ -1,0 +1,75 @@
+-- The entries of an ordered map against the plain list of tips.
+use Rattle.std.proofs.Common.{◌≡◌, ℕ, Bool, true, false, cond, not, T, List, [], ◌∷◌, map, refl, sym, ap, subst, ◌∙◌, inl, inr, Option, Some, None, bytes_eq, true≢false, Vec}
+use Rattle.std.specs.Ordering.{nat_cmp, is_eq, eq_by_cmp, match_ordering}
+use Rattle.std.specs.declared.cmp.Ordering.{Ordering}
+use Rattle.std.specs.declared.cmp.Ordering.TheVariants.{Less, Equal, Greater}
+use Rattle.std.specs.List.{AllByRecursion}
+use Rattle.std.specs.List.Sorted.{IsStrictlySortedBy}
+use Rattle.std.specs.Map.{keys_of, lookup, remove_entry}
+use Rattle.std.specs.BTreeMap.{insert_entry, is_at}
+use Rattle.std.specs.Cmp.Lexicographic.{slice_cmp, pointwise, texts_ties}
+use Rattle.std.specs.FinMap.{slice_cmp-IsAntisymmetric, nat_cmp-IsAntisymmetric}
+use Rattle.std.proofs.lemmas.Bool.{cases_Bool, cond-true, cond-false}
+use Rattle.plain_model.specs.Paths.{Bytes}
+use Rattle.plain_model.specs.Trees.{TreeOf, at, put, where_path}
+use Rattle.branch_tips.specs.Entries.{tips_in, AreInOrder}
+
+abbrev by_bytes : Bytes → Bytes → Ordering
+by_bytes = slice_cmp nat_cmp
+
+tied : (o : Ordering) → is_eq o ≡ true → o ≡ Equal
+tied Less h = absurd (true≢false (sym h))
+tied Equal h = refl
+tied Greater h = absurd (true≢false (sym h))
+
+less_is_no_tie : (o : Ordering) → o ≡ Less → is_eq o ≡ false
+less_is_no_tie Less h = refl
+less_is_no_tie Equal h = ap is_eq h
+less_is_no_tie Greater h = refl
+
+module _ {A : Type 0} where
+  -- what is looked up
+  pub at_tips : (b : Bytes) (es : List (Vec ℕ A × ℕ)) → lookup (is_at (λ k. by_bytes b k.items)) es ≡ at (tips_in es) b
+  at_tips b [] = refl
+  at_tips b (e ∷ es) = ap (cond (is_eq (by_bytes b e.0.items)) (Some e.1)) (at_tips b es)
+
+  -- what is put in
+  pub put_tips : (k : Vec ℕ A) (x : ℕ) (es : List (Vec ℕ A × ℕ)) → tips_in (insert_entry (λ x y. by_bytes x.items y.items) es k x) ≡ put k.items x (tips_in es)
+  put_tips k x [] = refl
+  put_tips k x (e ∷ es) = go (by_bytes k.items e.0.items) (put_tips k x es)
+    where
+      go : (o : Ordering) → tips_in (insert_entry (λ x y. by_bytes x.items y.items) es k x) ≡ put k.items x (tips_in es)
+          → tips_in (match_ordering o ((k, x) ∷ e ∷ es) ((e.0, x) ∷ es) (e ∷ insert_entry (λ x y. by_bytes x.items y.items) es k x))
+          ≡ match_ordering o ((k.items, x) ∷ (e.0.items, e.1) ∷ tips_in es) ((e.0.items, x) ∷ tips_in es) ((e.0.items, e.1) ∷ put k.items x (tips_in es))
+      go Less h = refl
+      go Equal h = refl
+      go Greater h = ap (λ (l : TreeOf ℕ). (e.0.items, e.1) ∷ l) h
+
+  -- branches behind a lesser one are others
+  all_kept : (b : Bytes) (es : List (Vec ℕ A × ℕ)) → AllByRecursion (λ (k : Vec ℕ A). by_bytes b k.items ≡ Less) (keys_of es) → where_path (λ q. not (bytes_eq b q)) (tips_in es) ≡ tips_in es
+  all_kept b [] h = refl
+  all_kept b (e ∷ es) h =
+      let other : bytes_eq b e.0.items ≡ false = texts_ties b e.0.items ∙ less_is_no_tie (by_bytes b e.0.items) h.0 in
+      let rest = all_kept b es h.1 in
+      ap (λ t. cond (not t) ((e.0.items, e.1) ∷ where_path (λ q. not (bytes_eq b q)) (tips_in es)) (where_path (λ q. not (bytes_eq b q)) (tips_in es))) other
+      ∙ ap (λ (l : TreeOf ℕ). (e.0.items, e.1) ∷ l) rest
+
+  -- what is taken out
+  pub removed_tips : (b : Bytes) (es : List (Vec ℕ A × ℕ)) → AreInOrder es → tips_in (remove_entry (is_at (λ k. by_bytes b k.items)) es) ≡ where_path (λ q. not (bytes_eq b q)) (tips_in es)
+  unfolding IsStrictlySortedBy
+  removed_tips b [] h = refl
+  removed_tips b (e ∷ es) h = go (is_eq (by_bytes b e.0.items)) refl (removed_tips b es h.1)
+    where
+      go : (t : Bool) → is_eq (by_bytes b e.0.items) ≡ t → tips_in (remove_entry (is_at (λ k. by_bytes b k.items)) es) ≡ where_path (λ q. not (bytes_eq b q)) (tips_in es)
+          → tips_in (cond (is_eq (by_bytes b e.0.items)) es (e ∷ remove_entry (is_at (λ k. by_bytes b k.items)) es))
+          ≡ cond (not (bytes_eq b e.0.items)) ((e.0.items, e.1) ∷ where_path (λ q. not (bytes_eq b q)) (tips_in es)) (where_path (λ q. not (bytes_eq b q)) (tips_in es))
+      go true t rest =
+          let same : b ≡ e.0.items = slice_cmp-IsAntisymmetric nat_cmp-IsAntisymmetric b e.0.items (tied (by_bytes b e.0.items) t) in
+          let kept : where_path (λ q. not (bytes_eq b q)) (tips_in es) ≡ tips_in es = all_kept b es (subst (λ (x : Bytes). AllByRecursion (λ (k : Vec ℕ A). by_bytes x k.items ≡ Less) (keys_of es)) (sym same) h.0) in
+          ap (λ u. tips_in (cond u es (e ∷ remove_entry (is_at (λ k. by_bytes b k.items)) es))) t
+          ∙ sym kept
+          ∙ sym (ap (λ u. cond (not u) ((e.0.items, e.1) ∷ where_path (λ q. not (bytes_eq b q)) (tips_in es)) (where_path (λ q. not (bytes_eq b q)) (tips_in es))) (texts_ties b e.0.items ∙ t))
+      go false t rest =
+          ap (λ u. tips_in (cond u es (e ∷ remove_entry (is_at (λ k. by_bytes b k.items)) es))) t
+          ∙ ap (λ (l : TreeOf ℕ). (e.0.items, e.1) ∷ l) rest
+          ∙ sym (ap (λ u. cond (not u) ((e.0.items, e.1) ∷ where_path (λ q. not (bytes_eq b q)) (tips_in es)) (where_path (λ q. not (bytes_eq b q)) (tips_in es))) (texts_ties b e.0.items ∙ t))

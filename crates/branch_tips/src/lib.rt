@@ -1,0 +1,9 @@
+//! Where the branches stand while a history is walked from its front.
+#![tactic(auto)]
+
+mod tips;
+
+pub use tips::Tips;
+
+#[cfg(test)]
+mod tests;

@@ -1,0 +1,41 @@
+use crate::Tips;
+use plain_model::{CommitId, Items, PlainEvent, ResetId, Text};
+use std::alloc::Global;
+use std::test::*;
+
+fn text(alloc: Global, bytes: &[u8]) -> Option<Text> {
+    Items::of(alloc, bytes).ok()
+}
+
+fn reset(alloc: Global, number: u64, branch: &[u8], target: Option<u64>) -> Option<PlainEvent> {
+    Some(PlainEvent::Reset {
+        id: ResetId::new(number),
+        branch: text(alloc, branch)?,
+        target: target.map(CommitId::new),
+    })
+}
+
+fn after_resets(alloc: Global) -> Option<Tips> {
+    let mut tips = Tips::new(alloc);
+    tips.note(&reset(alloc, 1, b"main", Some(7))?).ok()?;
+    tips.note(&reset(alloc, 2, b"side", Some(8))?).ok()?;
+    tips.note(&reset(alloc, 3, b"main", Some(9))?).ok()?;
+    tips.note(&reset(alloc, 4, b"side", None)?).ok()?;
+    Some(tips)
+}
+
+#[test]
+fn resets_set_and_remove_a_tip(rt: HostRuntime) -> Result<(), Fail> {
+    let tips = after_resets(rt.alloc()).ok_or("memory")?;
+    let rows: [(&str, &[u8], Option<u64>); 4] = [
+        ("set twice", b"main", Some(9)),
+        ("set and removed", b"side", None),
+        ("never set", b"other", None),
+        ("the front of one that is set", b"mai", None),
+    ];
+    for (what, branch, want) in rows {
+        assert_eq!(rt; tips.tip(branch).map(|tip| tip.number()), want, "{what}");
+        assert_eq!(rt; tips.has(branch), want.is_some(), "{what}");
+    }
+    Ok(())
+}

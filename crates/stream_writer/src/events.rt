@@ -1,0 +1,158 @@
+//! Events at the end of a text.
+ghost use Rattle.std.specs.Prelude.{◌≡◌, ◌++◌, ℕ, List, OnOk, codes};
+ghost use Rattle.plain_model.specs.Text.{line, event_text, reset_text, encoding_text, tagger_text, target_text};
+ghost use Rattle.stream_writer.specs.Parts.{head_text, body_text};
+
+use crate::fields::{push_data, push_line, push_mark_line};
+use crate::marks::MarkedHistory;
+use crate::operations::{push_ops, push_parents};
+use crate::people::push_signed_line;
+use branch_tips::Tips;
+use plain_model::{CommitId, FileOp, Mark, NoMemory, PlainEvent, Signed, Text};
+
+fn push_encoding(
+    out: &mut Text,
+    history: &MarkedHistory,
+    encoding: &Option<Text>,
+) -> Result<(), NoMemory>
+    ensures { OnOk result (out.new ≡ out.old ++ encoding_text history.now encoding.now) }
+{
+    match encoding {
+        Some(encoding) => push_line(out, b"encoding ", encoding.as_slice()),
+        None => Ok(()),
+    }
+}
+
+fn push_tagger(
+    out: &mut Text,
+    history: &MarkedHistory,
+    tagger: &Option<Signed>,
+) -> Result<(), NoMemory>
+    ensures { OnOk result (out.new ≡ out.old ++ tagger_text history.now tagger.now) }
+{
+    match tagger {
+        Some(tagger) => push_signed_line(out, b"tagger ", tagger),
+        None => Ok(()),
+    }
+}
+
+fn push_target(
+    out: &mut Text,
+    history: &MarkedHistory,
+    target: Option<CommitId>,
+) -> Result<(), NoMemory>
+    ensures { OnOk result (out.new ≡ out.old ++ target_text history.now target) }
+{
+    match target {
+        Some(commit) => push_mark_line(out, b"from ", history.commit_mark(commit)),
+        None => Ok(()),
+    }
+}
+
+// A root on a branch that has a tip needs the branch reset before it.
+fn push_reset(
+    out: &mut Text,
+    history: &MarkedHistory,
+    tips: &Tips,
+    branch: &[u8],
+    parents: &[CommitId],
+) -> Result<(), NoMemory>
+    ensures { OnOk result (out.new ≡ out.old ++ reset_text history.now tips.now branch.now parents.now) }
+{
+    if parents.is_empty() && tips.has(branch) {
+        push_line(out, b"reset ", branch)
+    } else {
+        Ok(())
+    }
+}
+
+// The lines of a commit up to its people.
+fn push_head(
+    out: &mut Text,
+    branch: &[u8],
+    mark: Mark,
+    author: &Signed,
+    committer: &Signed,
+) -> Result<(), NoMemory>
+    ensures { OnOk result (out.new ≡ out.old ++ head_text branch.now mark author.now committer.now) }
+{
+    push_line(out, b"commit ", branch)?;
+    push_mark_line(out, b"mark ", mark.number())?;
+    push_signed_line(out, b"author ", author)?;
+    push_signed_line(out, b"committer ", committer)
+}
+
+// The lines of a commit behind its people, and the empty one.
+fn push_body(
+    out: &mut Text,
+    history: &MarkedHistory,
+    encoding: &Option<Text>,
+    comment: &[u8],
+    parents: &[CommitId],
+    ops: &[FileOp],
+) -> Result<(), NoMemory>
+    ensures { OnOk result (out.new ≡ out.old ++ body_text history.now encoding.now comment.now parents.now ops.now) }
+{
+    push_encoding(out, history, encoding)?;
+    push_data(out, comment)?;
+    push_parents(out, history, parents)?;
+    push_ops(out, history, ops)?;
+    out.push(b'\n')
+}
+
+/// Puts an event, where the branches stand so before it.
+pub fn push_event(
+    out: &mut Text,
+    history: &MarkedHistory,
+    tips: &Tips,
+    event: &PlainEvent,
+) -> Result<(), NoMemory>
+    ensures { OnOk result (out.new ≡ out.old ++ event_text history.now tips.now event.now) }
+{
+    match event {
+        PlainEvent::Blob { mark, bytes, .. } => {
+            out.push_all(b"blob\n")?;
+            push_mark_line(out, b"mark ", mark.number())?;
+            push_data(out, bytes.as_slice())
+        }
+        PlainEvent::Commit {
+            mark,
+            branch,
+            author,
+            committer,
+            encoding,
+            comment,
+            parents,
+            ops,
+            ..
+        } => {
+            push_reset(out, history, tips, branch.as_slice(), parents.as_slice())?;
+            push_head(out, branch.as_slice(), *mark, author, committer)?;
+            push_body(
+                out,
+                history,
+                encoding,
+                comment.as_slice(),
+                parents.as_slice(),
+                ops.as_slice(),
+            )
+        }
+        PlainEvent::Tag {
+            name,
+            target,
+            tagger,
+            comment,
+            ..
+        } => {
+            push_line(out, b"tag ", name.as_slice())?;
+            push_target(out, history, Some(*target))?;
+            push_tagger(out, history, tagger)?;
+            push_data(out, comment.as_slice())
+        }
+        PlainEvent::Reset { branch, target, .. } => {
+            push_line(out, b"reset ", branch.as_slice())?;
+            push_target(out, history, *target)
+        }
+        PlainEvent::Pass { line, .. } => push_line(out, b"", line.as_slice()),
+    }
+}

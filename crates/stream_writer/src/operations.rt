@@ -1,0 +1,124 @@
+//! Operations and parents at the end of a text.
+ghost use Rattle.std.specs.Prelude.{◌≡◌, ◌++◌, OnOk, flat_map, codes};
+ghost use Rattle.plain_model.specs.Snapshots.{commit_mark};
+ghost use Rattle.plain_model.specs.Text.{line, marked, mode_text, content_text, op_text, parents_text, source_path, last_path};
+ghost use Rattle.stream_writer.specs.Parts.{modify_text, move_text, merges_text};
+
+use crate::fields::{push_mark_line, push_marked};
+use crate::marks::MarkedHistory;
+use crate::paths::{push_last_path, push_source_path};
+use plain_model::{CommitId, Content, FileOp, Mode, NoMemory, Path, Text};
+
+fn mode_digits(mode: Mode) -> &'static [u8]
+    ensures { result.now ≡ mode_text mode }
+{
+    match mode {
+        Mode::Plain => b"100644",
+        Mode::Executable => b"100755",
+        Mode::Link => b"120000",
+        Mode::Gitlink => b"160000",
+    }
+}
+
+fn push_content(out: &mut Text, history: &MarkedHistory, content: Content) -> Result<(), NoMemory>
+    ensures { OnOk result (out.new ≡ out.old ++ content_text history.now content) }
+{
+    match content {
+        Content::Blob(id) => push_marked(out, history.blob_mark(id)),
+        Content::Object(id) => out.push_all(id.digits()),
+    }
+}
+
+fn push_modify(
+    out: &mut Text,
+    history: &MarkedHistory,
+    mode: Mode,
+    content: Content,
+    path: &Path,
+) -> Result<(), NoMemory>
+    ensures { OnOk result (out.new ≡ out.old ++ modify_text history.now mode content path.now) }
+{
+    out.push_all(b"M ")?;
+    out.push_all(mode_digits(mode))?;
+    out.push(b' ')?;
+    push_content(out, history, content)?;
+    out.push(b' ')?;
+    push_last_path(out, path)
+}
+
+// `C` or `R`, and its two paths.
+fn push_move(out: &mut Text, word: &[u8], source: &Path, target: &Path) -> Result<(), NoMemory>
+    ensures { OnOk result (out.new ≡ out.old ++ move_text word.now source.now target.now) }
+{
+    out.push_all(word)?;
+    push_source_path(out, source)?;
+    out.push(b' ')?;
+    push_last_path(out, target)
+}
+
+fn push_delete(out: &mut Text, path: &Path) -> Result<(), NoMemory>
+    ensures { OnOk result (out.new ≡ out.old ++ (codes "D " ++ last_path path.now)) }
+{
+    out.push_all(b"D ")?;
+    push_last_path(out, path)
+}
+
+fn push_op_text(out: &mut Text, history: &MarkedHistory, op: &FileOp) -> Result<(), NoMemory>
+    ensures { OnOk result (out.new ++ codes "\n" ≡ out.old ++ op_text history.now op.now) }
+{
+    match op {
+        FileOp::Modify {
+            mode,
+            content,
+            path,
+        } => push_modify(out, history, *mode, *content, path),
+        FileOp::Delete { path } => push_delete(out, path),
+        FileOp::Copy { source, target } => push_move(out, b"C ", source, target),
+        FileOp::Rename { source, target } => push_move(out, b"R ", source, target),
+        FileOp::DeleteAll => out.push_all(b"deleteall"),
+    }
+}
+
+/// Puts the line of an operation.
+fn push_op(out: &mut Text, history: &MarkedHistory, op: &FileOp) -> Result<(), NoMemory>
+    ensures { OnOk result (out.new ≡ out.old ++ op_text history.now op.now) }
+{
+    push_op_text(out, history, op)?;
+    out.push(b'\n')
+}
+
+/// Puts the operations of a commit, a line each.
+pub fn push_ops(out: &mut Text, history: &MarkedHistory, ops: &[FileOp]) -> Result<(), NoMemory>
+    ensures { OnOk result (out.new ≡ out.old ++ flat_map (op_text history.now) ops.now) }
+{
+    for op in ops {
+        push_op(out, history, op)?;
+    }
+    Ok(())
+}
+
+fn push_merges(out: &mut Text, history: &MarkedHistory, merges: &[CommitId]) -> Result<(), NoMemory>
+    ensures { OnOk result (out.new ≡ out.old ++ merges_text history.now merges.now) }
+{
+    for merge in merges {
+        push_mark_line(out, b"merge ", history.commit_mark(*merge))?;
+    }
+    Ok(())
+}
+
+/// Puts the line of the first parent and those of the further ones.
+pub fn push_parents(
+    out: &mut Text,
+    history: &MarkedHistory,
+    parents: &[CommitId],
+) -> Result<(), NoMemory>
+    ensures { OnOk result (out.new ≡ out.old ++ parents_text history.now parents.now) }
+{
+    match parents {
+        [] => Ok(()),
+        [first, further @ ..] => {
+            push_mark_line(out, b"from ", history.commit_mark(*first))?;
+            push_merges(out, history, further)
+        }
+    }
+}

@@ -1,0 +1,6 @@
+pub mod Disk
+pub mod Entries
+pub mod Failing
+pub mod Memory
+pub mod Outside
+pub mod Promises

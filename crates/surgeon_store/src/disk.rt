@@ -1,0 +1,215 @@
+//! The files of the system and its standard output. Nothing is told of their bytes, so this module is
+//! trusted where the others are proved.
+ghost use Rattle.std.specs.Prelude.{◌≡◌, ◌≤◌, ◌<◌, length, None, IfOk};
+ghost use Rattle.surgeon_store.specs.Outside.{Rose, alone};
+ghost use Rattle.surgeon_store.specs.Disk.{rest_unless};
+
+use crate::outside::{CreateFault, Failed, OpenFault, Sink, Store, WriteFault};
+use plain_model::{Items, NoMemory, Text};
+use std::alloc::Global;
+use std::fs;
+use std::fs::OpenFile;
+use std::io;
+use std::io::{ErrorKind, Read, Write};
+use std::rt::Files;
+
+/// How often a call that a signal interrupts is made before it counts as a fault. (own)
+const MAX_TURNS: u32 = 64;
+
+fn raise(count: &mut u64)
+    ensures risen { Rose count.old count.new }
+    ensures later { count.old ≤ count.new }
+{
+    *count = count.saturating_add(1);
+}
+
+// Reads into the piece, again where a signal interrupts.
+fn read_some<R: Read>(reader: &mut R, piece: &mut [u8]) -> io::Result<usize>
+    ensures { IfOk result (λ n. n ≤ length piece.new) }
+{
+    for _ in 0..MAX_TURNS {
+        match reader.read(piece) {
+            Err(error) if error.kind() == ErrorKind::Interrupted => {}
+            answer => return answer,
+        }
+    }
+    Err(io::Error::from(ErrorKind::Interrupted))
+}
+
+// Writes a byte or more of the piece, again where a signal interrupts. A writer that takes nothing of a
+// piece with bytes will not take the rest, which is a fault.
+fn write_some<W: Write>(writer: &mut W, piece: &[u8]) -> Result<usize, WriteFault>
+    ensures { IfOk result (λ n. (n ≤ length piece.now) × (0 < length piece.now → 1 ≤ n)) }
+{
+    if piece.is_empty() {
+        return Ok(0);
+    }
+    for _ in 0..MAX_TURNS {
+        match writer.write(piece) {
+            Ok(0) => return Err(WriteFault::Failed),
+            Ok(count) => return Ok(count),
+            Err(error) => match error.kind() {
+                ErrorKind::Interrupted => {}
+                ErrorKind::OutOfMemory => return Err(WriteFault::Memory),
+                _ => return Err(WriteFault::Failed),
+            },
+        }
+    }
+    Err(WriteFault::Failed)
+}
+
+// Has the system take what was written, so that a full disk shows here at the latest. What cannot be
+// synced, as a pipe or a device, has taken its bytes already.
+fn settle<F: Write + OpenFile>(file: &mut F) -> Result<(), Failed> {
+    if file.flush().is_err() {
+        return Err(Failed);
+    }
+    match file.sync_data() {
+        Ok(()) => Ok(()),
+        Err(error) => match error.kind() {
+            ErrorKind::InvalidInput | ErrorKind::Unsupported => Ok(()),
+            _ => Err(Failed),
+        },
+    }
+}
+
+/// The files of the system, by their paths. A folder can be begun and then not be read.
+#[derive(Drop)]
+pub struct DiskStore<'a, R: Files> {
+    alloc: Global,
+    rt: &'a R,
+    reading: Option<R::File>,
+    target: Option<R::File>,
+    // The name of the target.
+    writing: Option<Text>,
+    read_faults: u64,
+    write_faults: u64,
+    misses: u64,
+}
+
+impl<'a, R: Files> DiskStore<'a, R> {
+    pub fn new(alloc: Global, rt: &'a R) -> DiskStore<'a, R> {
+        DiskStore {
+            alloc,
+            rt,
+            reading: None,
+            target: None,
+            writing: None,
+            read_faults: 0,
+            write_faults: 0,
+            misses: 0,
+        }
+    }
+}
+
+impl<'a, R: Files> Store for DiskStore<'a, R> {
+    ghost state = { λ s. record { files = None; rest = rest_unless s.reading; writing = s.writing; read_faults = s.read_faults; write_faults = s.write_faults; misses = s.misses } };
+
+    ghost tells_rest = { λ _. tt };
+
+    fn begin_read(&mut self, name: &str) -> Result<(), OpenFault> {
+        self.reading = None;
+        match fs::open(self.rt, name) {
+            Ok(file) => {
+                self.reading = Some(file);
+                Ok(())
+            }
+            Err(error) => match error.kind() {
+                ErrorKind::NotFound => {
+                    raise(&mut self.misses);
+                    Err(OpenFault::Absent)
+                }
+                ErrorKind::OutOfMemory => Err(OpenFault::Memory),
+                _ => {
+                    raise(&mut self.read_faults);
+                    Err(OpenFault::Failed)
+                }
+            },
+        }
+    }
+
+    fn read(&mut self, piece: &mut [u8]) -> Result<usize, Failed> {
+        let Some(file) = &mut self.reading else {
+            return Ok(0);
+        };
+        match read_some(file, piece) {
+            Ok(count) => Ok(count),
+            Err(_) => {
+                self.reading = None;
+                raise(&mut self.read_faults);
+                Err(Failed)
+            }
+        }
+    }
+
+    fn begin_write(&mut self, name: &str) -> Result<(), CreateFault> {
+        self.writing = None;
+        self.target = None;
+        let kept = match Items::of(self.alloc, name.as_bytes()) {
+            Ok(kept) => kept,
+            Err(NoMemory) => return Err(CreateFault::Memory),
+        };
+        match fs::create(self.rt, name) {
+            Ok(file) => {
+                self.target = Some(file);
+                self.writing = Some(kept);
+                Ok(())
+            }
+            Err(error) => match error.kind() {
+                ErrorKind::OutOfMemory => Err(CreateFault::Memory),
+                _ => {
+                    raise(&mut self.write_faults);
+                    Err(CreateFault::Failed)
+                }
+            },
+        }
+    }
+
+    fn write(&mut self, piece: &[u8]) -> Result<usize, WriteFault> {
+        let answer = match &mut self.target {
+            Some(file) => write_some(file, piece),
+            None => Err(WriteFault::Failed),
+        };
+        if answer == Err(WriteFault::Failed) {
+            raise(&mut self.write_faults);
+        }
+        answer
+    }
+
+    fn finish_write(&mut self) -> Result<(), Failed> {
+        self.writing = None;
+        let Some(mut file) = self.target.take() else {
+            return Ok(());
+        };
+        let answer = settle(&mut file);
+        if answer.is_err() {
+            raise(&mut self.write_faults);
+        }
+        answer
+    }
+}
+
+/// Standard output.
+#[derive(Drop)]
+pub struct StdSink<'a, R: Print> {
+    rt: &'a R,
+    faults: u64,
+}
+
+impl<'a, R: Print> StdSink<'a, R> {
+    pub fn new(rt: &'a R) -> StdSink<'a, R> {
+        StdSink { rt, faults: 0 }
+    }
+}
+
+impl<'a, R: Print> Sink for StdSink<'a, R> {
+    ghost state = { λ s. record { written = None; faults = s.faults; around = alone } };
+
+    fn write(&mut self, piece: &[u8]) -> Result<usize, WriteFault> {
+        let answer = write_some(&mut io::writer(self.rt), piece);
+        if answer == Err(WriteFault::Failed) {
+            raise(&mut self.faults);
+        }
+        answer
+    }
+}

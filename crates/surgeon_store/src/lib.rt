@@ -1,0 +1,20 @@
+//! The outside: what holds files and what takes output, in memory and in the system, with counted faults.
+#![tactic(auto)]
+
+mod disk;
+mod entry;
+mod memory;
+mod outside;
+mod store_sink;
+mod sure;
+#[cfg(test)]
+mod tests;
+mod writing;
+
+pub use disk::{DiskStore, StdSink};
+pub use entry::{FileEntry, FileList};
+pub use memory::{MemorySink, MemoryStore};
+pub use outside::{CreateFault, Failed, OpenFault, Sink, Store, WriteFault};
+pub use store_sink::StoreSink;
+pub use sure::{SureSink, SureStore};
+pub use writing::{WriteEnd, write_all};
