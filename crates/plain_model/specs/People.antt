@@ -1,5 +1,5 @@
 -- People and dates as they are spelled: NAME <EMAIL> SECONDS ZONE (git-fast-import, `committer`).
-use Rattle.std.specs.Prelude.{◌≡◌, ◌⊎◌, ℕ, ◌≤◌, Bool, true, false, not, ◌&&◌, ◌||◌, ◌==◌, List, [], ◌∷◌, ◌++◌, length, codes, IsTrue}
+use Rattle.std.specs.Prelude.{◌≡◌, ◌⊎◌, ℕ, ◌≤◌, Bool, true, false, not, ◌&&◌, ◌==◌, [], ◌∷◌, ◌++◌, length, IsTrue}
 use Rattle.std.specs.List.{list_all}
 use Rattle.plain_model.specs.declared.limit.TheConstants.{MAX_SECONDS}
 use Rattle.plain_model.specs.declared.person.Signed.{Signed}

@@ -1,7 +1,7 @@
 -- The reading of a stream of the first cut as a function, field by field from the front of a text. It stands
 -- below the relation of Spelling: the two agree, as the laws say.
-use Rattle.std.specs.Prelude.{◌≡◌, ℕ, zero, suc, ◌+◌, ◌-◌, ◌*◌, ◌==◌, ◌&&◌, ◌||◌, not, nat_lt, nat_le, nat_eq, Bool, true, false, List, [], ◌∷◌, ◌++◌, length, take, drop, get_or, is_some, Option, Some, None, codes, if◌then◌else◌}
-use Rattle.std.specs.List.{position, list_all}
+use Rattle.std.specs.Prelude.{ℕ, zero, suc, ◌+◌, ◌-◌, ◌*◌, ◌==◌, ◌&&◌, ◌||◌, nat_le, nat_eq, Bool, List, [], ◌∷◌, ◌++◌, length, take, drop, get_or, is_some, Option, Some, None, codes, if◌then◌else◌}
+use Rattle.std.specs.List.{position}
 use Rattle.std.specs.Cmp.Lexicographic.{pointwise}
 use Rattle.plain_model.specs.declared.limit.TheConstants.{MAX_MARK, MAX_SECONDS}
 use Rattle.plain_model.specs.declared.person.Signed.{Signed}

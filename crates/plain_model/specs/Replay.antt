@@ -1,16 +1,19 @@
 -- A replay of raw events by three plain maps: mark to bytes, commit to its whole path map, branch to tip. It
 -- knows no ids, no histories and no trees but the effect of an operation (git-fast-import, `from`, `M`, `D`).
-use Rattle.std.specs.Prelude.{◌≡◌, ℕ, Bool, true, false, ◌==◌, List, [], ◌∷◌, ◌++◌, map, Option, Some, None, Result, Ok, Err, option_and_then, option_to_list, unwrap_or, if◌then◌else◌}
+use Rattle.std.specs.Prelude.{◌≡◌, ℕ, ◌==◌, List, [], ◌∷◌, ◌++◌, map, Option, Some, None, Result, Ok, Err, option_and_then, option_to_list, unwrap_or, if◌then◌else◌}
 use Rattle.plain_model.specs.declared.operation.Mode.TheVariants.{Plain}
 use Rattle.plain_model.specs.declared.raw.RawOp.{RawOp}
 use Rattle.plain_model.specs.declared.raw.RawOp.TheVariants as rawop
 use Rattle.plain_model.specs.declared.raw.RawEvent.{RawEvent}
 use Rattle.plain_model.specs.declared.raw.RawEvent.TheVariants as raw
+use Rattle.plain_model.specs.declared.event.PlainEvent.{PlainEvent}
 use Rattle.plain_model.specs.Paths.{Bytes}
 use Rattle.plain_model.specs.Trees.{TreeOf, Refusal, at, put, Change, change_all}
 use Rattle.plain_model.specs.Trees.Change.{Put, Remove}
-use Rattle.plain_model.specs.Snapshots.{Shown, ShownContent, ShownCommit, Snapshot}
+use Rattle.plain_model.specs.Snapshots.{Shown, ShownCommit, Snapshot, snapshot}
 use Rattle.plain_model.specs.Snapshots.ShownContent.{ShownBytes}
+use Rattle.plain_model.specs.Spelling.{Spells}
+use Rattle.plain_model.specs.Streams.{history}
 
 pub record Replayed : Type 0 where
   pub blobs : List (ℕ × Bytes)
@@ -71,3 +74,7 @@ abbrev pub replay : List RawEvent → Snapshot
 replay raws =
     let st = replay_from (record { blobs = []; commits = []; tips = [] }) raws in
     record { commits = st.commits; tags = []; refs = st.tips }
+
+-- the text spells these events, and a replay of what it spells shows what they show
+abbrev pub Shows : Bytes → List PlainEvent → Type 0
+Shows text events = (raws : List RawEvent) × Spells text raws × (history raws ≡ Some events) × (replay raws ≡ snapshot events)

@@ -1,5 +1,5 @@
 -- What a history shows: its commits with their trees, and where its branches stand.
-use Rattle.std.specs.Prelude.{◌≡◌, ℕ, Bool, true, false, cond, not, ◌==◌, List, [], ◌∷◌, ◌++◌, map, Option, Some, None, Result, Ok, Err, option_map, unwrap_or, bytes_eq, if◌then◌else◌}
+use Rattle.std.specs.Prelude.{ℕ, not, ◌==◌, List, [], ◌∷◌, map, Option, Some, None, option_map, bytes_eq, if◌then◌else◌}
 use Rattle.plain_model.specs.declared.operation.Mode.{Mode}
 use Rattle.plain_model.specs.declared.operation.Content.{Content}
 use Rattle.plain_model.specs.declared.operation.Content.TheVariants.{Blob as OfBlob, Object}
@@ -8,7 +8,7 @@ use Rattle.plain_model.specs.declared.person.Signed.{Signed}
 use Rattle.plain_model.specs.declared.event.PlainEvent.{PlainEvent}
 use Rattle.plain_model.specs.declared.event.PlainEvent.TheVariants.{Blob, Commit, Tag, Reset, Pass}
 use Rattle.plain_model.specs.Paths.{Bytes}
-use Rattle.plain_model.specs.Trees.{Tree, TreeOf, put, where_path}
+use Rattle.plain_model.specs.Trees.{TreeOf, put, where_path}
 use Rattle.plain_model.specs.Histories.{tree}
 
 -- a blob's bytes in place of its id

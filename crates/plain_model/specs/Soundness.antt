@@ -1,14 +1,12 @@
 -- When a history is sound: ids and marks stand once, each referent stands earlier and is of the right kind, each
 -- field is such as a stream spells it, and each commit has a tree.
-use Rattle.std.specs.Prelude.{◌≡◌, ◌⊎◌, ℕ, ◌≤◌, Bool, true, false, not, ◌&&◌, ◌||◌, ◌==◌, List, [], ◌∷◌, ◌++◌, length, codes, Option, Some, None, IsTrue, IsFalse, IsSome, IfSome}
-use Rattle.std.specs.List.{list_all, list_any, AllByRecursion}
+use Rattle.std.specs.Prelude.{ℕ, ◌≤◌, Bool, true, false, not, ◌&&◌, ◌||◌, ◌==◌, List, [], ◌∷◌, ◌++◌, length, codes, IsTrue, IsFalse, IsSome, IfSome}
+use Rattle.std.specs.List.{list_any, AllByRecursion}
 use Rattle.plain_model.specs.declared.limit.TheConstants.{MAX_PARENTS, MAX_SECONDS}
 use Rattle.plain_model.specs.declared.person.Signed.{Signed}
 use Rattle.plain_model.specs.declared.id.AnyId.{AnyId}
 use Rattle.plain_model.specs.declared.id.AnyId.TheVariants as any
-use Rattle.plain_model.specs.declared.operation.Mode.{Mode}
-use Rattle.plain_model.specs.declared.operation.Mode.TheVariants.{Plain, Executable, Link, Gitlink}
-use Rattle.plain_model.specs.declared.operation.Content.{Content}
+use Rattle.plain_model.specs.declared.operation.Mode.TheVariants.{Gitlink}
 use Rattle.plain_model.specs.declared.operation.Content.TheVariants.{Blob as OfBlob, Object}
 use Rattle.plain_model.specs.declared.operation.FileOp.{FileOp}
 use Rattle.plain_model.specs.declared.operation.FileOp.TheVariants.{Modify, Delete, Copy, Rename, DeleteAll}

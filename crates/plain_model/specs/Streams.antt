@@ -1,6 +1,6 @@
 -- The history that raw events spell: references are looked up, and ids are given by place from 1
 -- (git-fast-import, `mark`, `from`, `M`).
-use Rattle.std.specs.Prelude.{◌≡◌, ℕ, ◌+◌, Bool, true, false, ◌==◌, ◌||◌, List, [], ◌∷◌, ◌++◌, length, Option, Some, None, option_map, option_and_then, option_to_list, unwrap_or, if◌then◌else◌}
+use Rattle.std.specs.Prelude.{ℕ, ◌+◌, Bool, false, ◌==◌, ◌||◌, List, [], ◌∷◌, ◌++◌, length, Option, Some, None, option_map, option_and_then, option_to_list, unwrap_or, if◌then◌else◌}
 use Rattle.plain_model.specs.declared.operation.Mode.TheVariants.{Plain}
 use Rattle.plain_model.specs.declared.operation.Content.TheVariants.{Blob as OfBlob}
 use Rattle.plain_model.specs.declared.operation.FileOp.{FileOp}

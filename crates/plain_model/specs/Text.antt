@@ -1,5 +1,5 @@
 -- The text of a history (git-fast-import, the stream).
-use Rattle.std.specs.Prelude.{◌≡◌, ℕ, ◌+◌, Bool, true, false, cond, not, ◌&&◌, ◌||◌, ◌==◌, List, [], ◌∷◌, ◌++◌, length, Option, Some, None, codes, decimal, flat_map, nat_lt, bytes_eq, if◌then◌else◌, ◌/◌, ◌%◌}
+use Rattle.std.specs.Prelude.{ℕ, ◌+◌, Bool, false, ◌||◌, ◌==◌, List, [], ◌∷◌, ◌++◌, length, Option, Some, None, codes, decimal, flat_map, nat_lt, bytes_eq, if◌then◌else◌, ◌/◌, ◌%◌}
 use Rattle.std.specs.List.{list_any}
 use Rattle.plain_model.specs.declared.operation.Mode.{Mode}
 use Rattle.plain_model.specs.declared.operation.Mode.TheVariants.{Plain, Executable, Link, Gitlink}
@@ -11,7 +11,7 @@ use Rattle.plain_model.specs.declared.person.Signed.{Signed}
 use Rattle.plain_model.specs.declared.event.PlainEvent.{PlainEvent}
 use Rattle.plain_model.specs.declared.event.PlainEvent.TheVariants.{Blob, Commit, Tag, Reset, Pass}
 use Rattle.plain_model.specs.Paths.{Bytes}
-use Rattle.plain_model.specs.Trees.{TreeOf, has, put, where_path}
+use Rattle.plain_model.specs.Trees.{TreeOf, has}
 use Rattle.plain_model.specs.Snapshots.{commit_mark, refs_after}
 
 abbrev pub LF : ℕ

@@ -1,5 +1,5 @@
 -- Trees, and what an operation does to one (git-fast-import, file operations; the limits: own).
-use Rattle.std.specs.Prelude.{◌≡◌, ℕ, Bool, T, true, false, cond, not, List, [], ◌∷◌, ◌++◌, length, drop, Option, Some, None, Result, Ok, Err, is_some, IsTrue, nat_lt, if◌then◌else◌}
+use Rattle.std.specs.Prelude.{◌≡◌, Bool, T, false, not, List, [], ◌∷◌, ◌++◌, length, drop, Option, Result, Ok, Err, is_some, IsTrue, nat_lt, if◌then◌else◌}
 use Rattle.std.specs.List.{list_any}
 use Rattle.std.specs.Ordering.{nat_cmp}
 use Rattle.std.specs.Cmp.Lexicographic.{slice_cmp}

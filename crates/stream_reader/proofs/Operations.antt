@@ -1,6 +1,5 @@
 -- A step of the loop over operations.
-use Rattle.std.proofs.Common.{◌≡◌, ℕ, suc, ◌+◌, ◌-◌, ◌<◌, Bool, true, false, cond, List, [], ◌∷◌, ◌++◌, Option, Some, None, refl, sym, ap, ◌∙◌, arith}
-use Rattle.plain_model.specs.Reading.{◌>>=◌}
+use Rattle.std.proofs.Common.{◌≡◌, ℕ, suc, ◌+◌, ◌-◌, ◌<◌, true, List, [], ◌∷◌, ◌++◌, Option, Some, refl, sym, ◌∙◌, arith}
 use Rattle.plain_model.specs.declared.raw.RawOp.{RawOp}
 use Rattle.plain_model.specs.Reading.{starts_op, line_at, op_of, ops_from}
 

@@ -1,6 +1,5 @@
-use Rattle.std.proofs.Common.{◌≡◌, length, true, Some, sym, ap, ◌∙◌, rules, arith}
-use Rattle.std.specs.Option.{option_map}
-use Rattle.plain_model.specs.Reading.{starts_op, line_at, op_of, ops_from}
+use Rattle.std.proofs.Common.{◌≡◌, length, true, Some, arith}
+use Rattle.plain_model.specs.Reading.{starts_op, line_at, op_of}
 use Rattle.stream_reader.proofs.Operations.{ops_more}
 use Rattle.stream_reader.proofs.events.ops.Goals as goal
 

@@ -1,4 +1,4 @@
-use Rattle.std.proofs.Common.{◌≡◌, ◌-◌, drop, length}
+use Rattle.std.proofs.Common.{◌-◌, drop, length}
 use Rattle.stream_writer.specs.Tables.{Tells}
 use Rattle.stream_writer.proofs.marks.Marks.of.Given as goal
 

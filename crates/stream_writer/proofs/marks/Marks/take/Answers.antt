@@ -1,4 +1,4 @@
-use Rattle.std.proofs.Common.{◌≡◌, ◌∷◌, List, ℕ, sym, subst, Result, Ok, Err}
+use Rattle.std.proofs.Common.{◌∷◌, sym, subst, Result, Ok, Err}
 use Rattle.std.specs.Prelude.{nat_eq, OnOk}
 use Rattle.std.specs.HashMap.{get}
 use Rattle.plain_model.specs.declared.event.PlainEvent.{PlainEvent}

@@ -1,7 +1,7 @@
 use Rattle.std.proofs.Common.{◌≡◌, ◌-◌, [], length}
 use Rattle.plain_model.specs.Reading.{read_from}
 use Rattle.stream_reader.specs.Agreement.{Agrees}
-use Rattle.stream_reader.proofs.reader.read_stream.Given as goal
+use Rattle.stream_reader.proofs.reader.read_text.Given as goal
 
 abbrev pub invariant-loop : goal.invariant-loop
 invariant-loop l = record {
