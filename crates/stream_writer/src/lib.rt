@@ -9,4 +9,4 @@ mod paths;
 mod people;
 mod writer;
 
-pub use writer::write_stream;
+pub use writer::{text_of, write_stream};

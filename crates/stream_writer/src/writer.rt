@@ -58,7 +58,7 @@ fn push_events(alloc: Global, out: &mut Text, history: &MarkedHistory) -> Result
 }
 
 /// The text of a history.
-fn text_of(alloc: Global, events: &[PlainEvent]) -> Result<Text, NoMemory>
+pub fn text_of(alloc: Global, events: &[PlainEvent]) -> Result<Text, NoMemory>
     ensures { IfOk result (λ out. out ≡ text events.now) }
 {
     let history = MarkedHistory::of(alloc, events)?;

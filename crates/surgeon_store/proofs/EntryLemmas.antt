@@ -73,7 +73,7 @@ pub files_grown_whole : (is_begun : Bool) (made given : List FileEntry) (bytes :
     → IfSome (begun_name is_begun made) (λ name. Some (files_of (grown bytes made ++ given)) ≡ Some (appended (files_of (made ++ given)) name (take (length bytes) bytes)))
 files_grown_whole is_begun made given bytes =
     subst (λ (part : List ℕ). IfSome (begun_name is_begun made) (λ name. Some (files_of (grown bytes made ++ given)) ≡ Some (appended (files_of (made ++ given)) name part)))
-      (sym (take_all (length bytes) bytes (omega arith))) (files_grown is_begun made given bytes)
+    (sym (take_all (length bytes) bytes (omega arith))) (files_grown is_begun made given bytes)
 
 pub begun_grown : (is_begun : Bool) (made : List FileEntry) (bytes : List ℕ) → begun_name is_begun (grown bytes made) ≡ begun_name is_begun made
 begun_grown is_begun [] bytes = refl

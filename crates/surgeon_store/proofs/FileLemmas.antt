@@ -4,18 +4,14 @@ use Rattle.std.specs.Prelude.{[]}
 use Rattle.std.specs.Prelude.{unwrap_or, is_some, IfSome, option_and_then, take, Result, Ok, Err, IfOk, OnErr}
 use Rattle.surgeon_store.specs.declared.outside.WriteFault.{WriteFault}
 use Rattle.std.specs.Option.{option_map}
-use Rattle.std.specs.FinMap.{FinMap, get, insert, remove, same_map, get-insert, get-remove, nat_cmp-IsAntisymmetric, slice_cmp-IsAntisymmetric}
+use Rattle.std.specs.FinMap.{get, insert, same_map, get-insert, get-remove, nat_cmp-IsAntisymmetric, slice_cmp-IsAntisymmetric}
 use Rattle.std.specs.Ordering.{eq_by_cmp}
 use Rattle.std.proofs.lemmas.Cmp.{eq_by_cmp_equiv}
 use Rattle.std.specs.Cmp.Lexicographic.{nat_list_cmp_total}
-use Rattle.std.specs.Prelude.{◌∷◌, map, nat_eq}
-use Rattle.std.specs.FinMap.{find, get-from_entries}
-use Rattle.std.specs.Cmp.Lexicographic.{pointwise, texts_ties}
-use Rattle.surgeon_store.specs.declared.entry.FileEntry.{FileEntry}
-use Rattle.surgeon_store.specs.Entries.{bytes_in, appended, files_of, lookup}
+use Rattle.surgeon_store.specs.Entries.{bytes_in, appended}
 use Rattle.plain_model.specs.Files.{Files, name_cmp}
 use Rattle.std.specs.Borrow.{GName}
-use Rattle.surgeon_store.specs.Outside.{StoreState, Writes, Appends, SinkState, sink_of, others, Around}
+use Rattle.surgeon_store.specs.Outside.{StoreState, Writes, Appends, sink_of, others}
 
 twice : (b : Bool) (v : List ℕ) (o : Option (List ℕ)) → cond b None (cond b (Some v) o) ≡ cond b None o
 twice true v o = refl

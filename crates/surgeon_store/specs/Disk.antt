@@ -1,7 +1,26 @@
--- What is told of the file that a store of the system reads.
-use Rattle.std.specs.Prelude.{ℕ, List, [], Option, Some, None}
+-- What is told of the system's files.
+use Rattle.std.specs.Prelude.{ℕ, List, [], Bool, false, if◌then◌else◌, Option, Some, None}
+use Rattle.surgeon_store.specs.Outside.{StoreState}
 
--- nothing is left where none is read, and nothing is told where one is
-abbrev pub rest_unless : {X : Type 0} → Option X → Option (List ℕ)
-rest_unless None = Some []
-rest_unless (Some file) = None
+-- no bytes: whether a file is read, which one is written, and the counts
+pub record DiskState : Type 0 where
+  pub is_reading : Bool
+  pub writing : Option (List ℕ)
+  pub read_faults : ℕ
+  pub write_faults : ℕ
+  pub misses : ℕ
+
+-- no file is begun, and nothing went wrong
+abbrev pub untouched : DiskState
+untouched = record { is_reading = false; writing = None; read_faults = 0; write_faults = 0; misses = 0 }
+
+-- nothing is left where no file is read, and nothing is told where one is
+abbrev pub disk_store_of : DiskState → StoreState
+disk_store_of disk = record {
+  files = None;
+  rest = if disk.is_reading then None else Some [];
+  writing = disk.writing;
+  read_faults = disk.read_faults;
+  write_faults = disk.write_faults;
+  misses = disk.misses;
+}

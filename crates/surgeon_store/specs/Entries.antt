@@ -2,7 +2,7 @@
 use Rattle.std.specs.Prelude.{List, [], ◌∷◌, ◌++◌, ℕ, Option, Some, None, unwrap_or, map, nat_eq, if◌then◌else◌}
 use Rattle.std.specs.Cmp.Lexicographic.{pointwise}
 use Rattle.std.specs.FinMap.{get, insert, from_entries}
-use Rattle.plain_model.specs.Files.{Files, name_cmp}
+use Rattle.plain_model.specs.Files.{Files}
 use Rattle.surgeon_store.specs.declared.entry.FileEntry.{FileEntry}
 
 -- the files of a list, in which the first of two entries with one name counts

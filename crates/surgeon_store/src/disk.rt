@@ -1,17 +1,18 @@
 //! The files of the system and its standard output. Nothing is told of their bytes, so this module is
 //! trusted where the others are proved.
-ghost use Rattle.std.specs.Prelude.{◌≡◌, ◌≤◌, ◌<◌, length, None, IfOk};
+ghost use Rattle.std.specs.Prelude.{◌≡◌, ◌≤◌, ◌<◌, length, None, IfOk, IsTrue, OnOk, is_some};
 ghost use Rattle.surgeon_store.specs.Outside.{Rose, alone};
-ghost use Rattle.surgeon_store.specs.Disk.{rest_unless};
+ghost use Rattle.surgeon_store.specs.Promises.{PromisesBeginRead};
+ghost use Rattle.surgeon_store.specs.Disk.{DiskState, untouched, disk_store_of};
 
 use crate::outside::{CreateFault, Failed, OpenFault, Sink, Store, WriteFault};
 use plain_model::{Items, NoMemory, Text};
 use std::alloc::Global;
-use std::fs;
 use std::fs::OpenFile;
-use std::io;
 use std::io::{ErrorKind, Read, Write};
+use std::marker::Model;
 use std::rt::Files;
+use std::{fs, io};
 
 /// How often a call that a signal interrupts is made before it counts as a fault. (own)
 const MAX_TURNS: u32 = 64;
@@ -87,8 +88,16 @@ pub struct DiskStore<'a, R: Files> {
     misses: u64,
 }
 
+impl<'a, R: Files> Model for DiskStore<'a, R> {
+    ghost Value = { DiskState };
+
+    ghost view = { λ s. record { is_reading = is_some s.reading; writing = s.writing; read_faults = s.read_faults; write_faults = s.write_faults; misses = s.misses } };
+}
+
 impl<'a, R: Files> DiskStore<'a, R> {
-    pub fn new(alloc: Global, rt: &'a R) -> DiskStore<'a, R> {
+    pub fn new(alloc: Global, rt: &'a R) -> DiskStore<'a, R>
+        ensures { result ≡ untouched }
+    {
         DiskStore {
             alloc,
             rt,
@@ -103,11 +112,14 @@ impl<'a, R: Files> DiskStore<'a, R> {
 }
 
 impl<'a, R: Files> Store for DiskStore<'a, R> {
-    ghost state = { λ s. record { files = None; rest = rest_unless s.reading; writing = s.writing; read_faults = s.read_faults; write_faults = s.write_faults; misses = s.misses } };
+    ghost state = { disk_store_of };
 
     ghost tells_rest = { λ _. tt };
 
-    fn begin_read(&mut self, name: &str) -> Result<(), OpenFault> {
+    fn begin_read(&mut self, name: &str) -> Result<(), OpenFault>
+        ensures store { PromisesBeginRead (disk_store_of self.old) name.now result (disk_store_of self.new) }
+        ensures begun { OnOk result (IsTrue self.new.is_reading) }
+    {
         self.reading = None;
         match fs::open(self.rt, name) {
             Ok(file) => {
@@ -196,14 +208,24 @@ pub struct StdSink<'a, R: Print> {
     faults: u64,
 }
 
+impl<'a, R: Print> Model for StdSink<'a, R> {
+    ghost use Rattle.std.specs.Prelude.{ℕ};
+
+    ghost Value = { ℕ };
+
+    ghost view = { λ s. s.faults };
+}
+
 impl<'a, R: Print> StdSink<'a, R> {
-    pub fn new(rt: &'a R) -> StdSink<'a, R> {
+    pub fn new(rt: &'a R) -> StdSink<'a, R>
+        ensures { result ≡ 0 }
+    {
         StdSink { rt, faults: 0 }
     }
 }
 
 impl<'a, R: Print> Sink for StdSink<'a, R> {
-    ghost state = { λ s. record { written = None; faults = s.faults; around = alone } };
+    ghost state = { λ faults. record { written = None; faults = faults; around = alone } };
 
     fn write(&mut self, piece: &[u8]) -> Result<usize, WriteFault> {
         let answer = write_some(&mut io::writer(self.rt), piece);

@@ -1,10 +1,8 @@
 use crate::*;
 use plain_model::{Items, NumberList, Text};
 use std::alloc::Global;
-use std::env;
-use std::fs;
-use std::process;
 use std::test::Fail;
+use std::{env, fs, process};
 
 fn file(alloc: Global, name: &str, bytes: &[u8]) -> Result<FileEntry, Fail> {
     Ok(FileEntry {

@@ -1,4 +1,4 @@
-use Rattle.std.proofs.Common.{◌≡◌, ◌≤◌, ◌-◌, ◌++◌, length, take, drop, Some}
+use Rattle.std.proofs.Common.{◌≡◌, ◌≤◌, ◌-◌, ◌++◌, length, take, Some}
 use Rattle.std.specs.Prelude.{IfSome}
 use Rattle.surgeon_store.proofs.writing.write_all.Given as goal
 

@@ -1,0 +1,5 @@
+pub mod Commands
+pub mod Loading
+pub mod Machine
+pub mod Scripts
+pub mod Whole

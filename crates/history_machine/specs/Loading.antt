@@ -1,0 +1,34 @@
+-- What a file gives that is read whole: its bytes, and the history that they spell.
+use Rattle.std.specs.Prelude.{ℕ, List, length, nat_lt, Option, Some, None, Result, Ok, Err, if◌then◌else◌}
+use Rattle.std.specs.FinMap.{get}
+use Rattle.plain_model.specs.Files.{Files}
+use Rattle.plain_model.specs.Paths.{Bytes}
+use Rattle.plain_model.specs.Reading.{read_of}
+use Rattle.plain_model.specs.declared.event.PlainEvent.{PlainEvent}
+use Rattle.plain_model.specs.declared.fault.Fault.{Fault}
+use Rattle.plain_model.specs.declared.fault.Fault.TheVariants as fault
+use Rattle.plain_model.specs.declared.fault.Why.TheVariants as defect
+
+-- a step behind one that may be refused
+infixl 10 ◌>>=◌
+abbrev pub ◌>>=◌ : {A B : Type 0} → Result A Fault → (A → Result B Fault) → Result B Fault
+Ok x >>= f = f x
+Err why >>= f = Err why
+
+-- what was found under a name, unless there is nothing or more bytes than a limit
+abbrev pub within : Bytes → ℕ → Option Bytes → Result Bytes Fault
+within name limit None = Err (fault.Absent name)
+within name limit (Some bytes) = if nat_lt limit (length bytes) then Err (fault.TooLong name limit) else Ok bytes
+
+-- the bytes of a file, which is there and within a limit
+abbrev pub file_within : Files → Bytes → ℕ → Result Bytes Fault
+file_within files name limit = within name limit (get files name)
+
+-- a text that spells no history is refused at line 0, as left out
+abbrev pub or_bad_stream : Option (List PlainEvent) → Result (List PlainEvent) Fault
+or_bad_stream None = Err (fault.BadStream 0 defect.LeftOut)
+or_bad_stream (Some history) = Ok history
+
+-- the history that a text spells
+unfoldable pub stream_of : Bytes → Result (List PlainEvent) Fault
+stream_of bytes = or_bad_stream (read_of bytes)

@@ -1,0 +1,10 @@
+//! The top call: a command line, a script and files, to what is printed and written.
+#![tactic(auto)]
+
+mod lines;
+mod run;
+mod step;
+mod top;
+mod words;
+
+pub use top::surgeon;
