@@ -11,6 +11,7 @@ use Rattle.plain_model.specs.Text.{text}
 use Rattle.surgeon_store.specs.Outside.{StoreState, SinkState}
 use Rattle.history_machine.specs.Commands.{Session}
 use Rattle.history_machine.specs.Machine.{World, Turn, Completes, Stands}
+use Rattle.history_machine.specs.Scripts.{script_of}
 use Rattle.history_machine.specs.Whole.{run}
 use Rattle.file_calls.specs.Calls.{NoFaults, world}
 
@@ -31,3 +32,15 @@ WritesHistory t = IfSome t.to (λ name. (history : List PlainEvent) × (t.bytes 
 -- each file that the run writes
 abbrev pub WritesHistories : List Bytes → Files → Type 0
 WritesHistories words files = AllByRecursion WritesHistory (run words files).turns
+
+-- how a run ends that tells how the program is called: so, or a fault of printing or want of memory broke it off
+abbrev pub IsUsageEnd : Status → Type 0
+IsUsageEnd status.Usage = Unit {0}
+IsUsageEnd status.SinkFault = Unit {0}
+IsUsageEnd status.Memory = Unit {0}
+IsUsageEnd other = ⊥
+
+-- the words aren't right exactly where it is told how the program is called
+pub record AnswersWords (words : List Bytes) (answer : Status) : Type 0 where
+  pub told : script_of words ≡ None → IsUsageEnd answer
+  pub only : answer ≡ status.Usage → script_of words ≡ None

@@ -4,6 +4,8 @@
 mod lines;
 mod run;
 mod step;
+#[cfg(test)]
+mod tests;
 mod top;
 mod words;
 

@@ -1,5 +1,5 @@
 //! The lines of a script, one after another.
-ghost use Rattle.std.specs.Prelude.{◌≡◌, ◌≤◌, OnOk, IsErrOf, IfSome, None, false};
+ghost use Rattle.std.specs.Prelude.{◌≡◌, ◌≤◌, OnOk, IsErrOf, IfSome, None, false, ◌≢◌};
 ghost use Rattle.surgeon_store.specs.Outside.{Rose, Puts, PutsSome};
 ghost use Rattle.plain_model.specs.Faults.{refusal};
 ghost use Rattle.history_machine.specs.Machine.{World, Stands, run_on};
@@ -37,6 +37,7 @@ fn turn<S: Store, T: Sink>(
     ensures told { IfSome (world (S.state store.old) (T.state out.old)) (λ w. IfSome (world (S.state store.new) (T.state out.new)) (λ now. Turns result history.old w item.now.line (line_step history.old w.files item.now.text) history.new now)) }
     ensures caused { CausedEnd (S.state store.old) (T.state out.old) result (S.state store.new) (T.state out.new) }
     ensures later { Later (S.state store.old) (T.state out.old) (S.state store.new) (T.state out.new) }
+    ensures words { result ≢ Status.Usage }
 {
     match carry_out_line(alloc, history, store, out, item.text.as_slice()) {
         Ok(()) => Status::Done,
@@ -62,6 +63,7 @@ fn run_lines<S: Store, T: Sink>(
     ensures told { IfSome (world (S.state store.old) (T.state out.old)) (λ w. IfSome (world (S.state store.new) (T.state out.new)) (λ now. Stands (run_on line_step false Status.Done history.old w.files items.now) result w now)) }
     ensures caused { CausedEnd (S.state store.old) (T.state out.old) result (S.state store.new) (T.state out.new) }
     ensures later { Later (S.state store.old) (T.state out.old) (S.state store.new) (T.state out.new) }
+    ensures words { result ≢ Status.Usage }
 {
     for item in items {
         match turn(alloc, history, store, out, item) {
@@ -82,6 +84,7 @@ pub fn run_items<S: Store, T: Sink>(
     ensures told { IfSome (world (S.state store.old) (T.state out.old)) (λ w. IfSome (world (S.state store.new) (T.state out.new)) (λ now. Stands (run_on line_step false Status.Done None w.files items.now) result w now)) }
     ensures caused { CausedEnd (S.state store.old) (T.state out.old) result (S.state store.new) (T.state out.new) }
     ensures later { Later (S.state store.old) (T.state out.old) (S.state store.new) (T.state out.new) }
+    ensures words { result ≢ Status.Usage }
 {
     let mut history = None;
     run_lines(alloc, &mut history, items, store, out)

@@ -5,14 +5,17 @@ ghost use Rattle.history_machine.specs.Loading.{file_within};
 ghost use Rattle.history_machine.specs.Machine.{World, Stands, run_on};
 ghost use Rattle.history_machine.specs.Whole.{run, usage, unread, only_prints, unread_status, unread_line, run_read, script_run};
 ghost use Rattle.file_calls.specs.Calls.{CausedEnd, Later, world};
-ghost use Rattle.surgeon_cli.specs.Headline.{AsPrescribed, Succeeds};
+ghost use Rattle.surgeon_cli.specs.Headline.{AsPrescribed, AnswersWords, IsUsageEnd, Succeeds, WritesHistories};
+ghost use Rattle.plain_model.specs.Files.{Files};
 
 use crate::lines::items_in;
 use crate::run::run_items;
 use crate::words::script_in;
 use file_calls::{Halted, read_file};
+use plain_laws::replay_gives_the_snapshot;
 use plain_model::{Fault, Items, MAX_SCRIPT_BYTES, NoMemory, Status, Text};
 use std::alloc::Global;
+use stream_laws::{what_is_read_is_spelled, what_is_written_is_read_again};
 use surgeon_store::{Sink, Store, WriteEnd, write_all};
 
 fn status_of(why: &Fault) -> Status
@@ -61,6 +64,7 @@ fn unread_script<T: Sink>(alloc: Global, name: &[u8], why: &Fault, out: &mut T) 
     ensures told { (s : StoreState) → IfSome (world s (T.state out.old)) (λ w. IfSome (world s (T.state out.new)) (λ now. Stands (unread name.now why.now) result w now)) }
     ensures failed { result ≡ Status.SinkFault → Rose (T.state out.old).faults (T.state out.new).faults }
     ensures source { result ≢ Status.SourceFault }
+    ensures words { result ≢ Status.Usage }
     ensures absent { result ≡ Status.NoScript → unread_status why.now ≡ Status.NoScript }
     ensures later { (s : StoreState) → Later s (T.state out.old) s (T.state out.new) }
 {
@@ -87,7 +91,7 @@ fn usage_line(alloc: Global) -> Result<Text, NoMemory>
 fn print_usage<T: Sink>(alloc: Global, out: &mut T) -> Status
     ensures told { (s : StoreState) → IfSome (world s (T.state out.old)) (λ w. IfSome (world s (T.state out.new)) (λ now. Stands (only_prints Status.Usage usage) result w now)) }
     ensures failed { result ≡ Status.SinkFault → Rose (T.state out.old).faults (T.state out.new).faults }
-    ensures ends { (result ≢ Status.SourceFault) × (result ≢ Status.NoScript) }
+    ensures ends { IsUsageEnd result }
     ensures later { (s : StoreState) → Later s (T.state out.old) s (T.state out.new) }
 {
     let line = match usage_line(alloc) {
@@ -106,6 +110,7 @@ fn run_bytes<S: Store, T: Sink>(alloc: Global, bytes: &[u8], store: &mut S, out:
     ensures told { IfSome (world (S.state store.old) (T.state out.old)) (λ w. IfSome (world (S.state store.new) (T.state out.new)) (λ now. Stands (script_run w.files bytes.now) result w now)) }
     ensures caused { CausedEnd (S.state store.old) (T.state out.old) result (S.state store.new) (T.state out.new) }
     ensures later { Later (S.state store.old) (T.state out.old) (S.state store.new) (T.state out.new) }
+    ensures words { result ≢ Status.Usage }
 {
     match items_in(alloc, bytes) {
         Ok(items) => run_items(alloc, items.as_slice(), store, out),
@@ -118,6 +123,7 @@ fn run_file<S: Store, T: Sink>(alloc: Global, name: &str, store: &mut S, out: &m
     ensures told { IfSome (world (S.state store.old) (T.state out.old)) (λ w. IfSome (world (S.state store.new) (T.state out.new)) (λ now. Stands (run_read name.now w.files (file_within w.files name.now MAX_SCRIPT_BYTES)) result w now)) }
     ensures caused { CausedEnd (S.state store.old) (T.state out.old) result (S.state store.new) (T.state out.new) }
     ensures later { Later (S.state store.old) (T.state out.old) (S.state store.new) (T.state out.new) }
+    ensures words { result ≢ Status.Usage }
 {
     match read_file(alloc, store, name, MAX_SCRIPT_BYTES) {
         Ok(bytes) => run_bytes(alloc, bytes.as_slice(), store, out),
@@ -139,6 +145,7 @@ fn run_words<S: Store, T: Sink>(
     ensures told { IfSome (world (S.state store.old) (T.state out.old)) (λ w. IfSome (world (S.state store.new) (T.state out.new)) (λ now. Stands (run (map string_bytes words.now) w.files) result w now)) }
     ensures caused { CausedEnd (S.state store.old) (T.state out.old) result (S.state store.new) (T.state out.new) }
     ensures later { Later (S.state store.old) (T.state out.old) (S.state store.new) (T.state out.new) }
+    ensures words { AnswersWords (map string_bytes words.now) result }
 {
     match script_in(words) {
         None => print_usage(alloc, out),
@@ -160,6 +167,16 @@ pub fn surgeon<S: Store, T: Sink>(
     ensures caused { CausedEnd (S.state store.old) (T.state out.old) result (S.state store.new) (T.state out.new) }
     ensures complete { Succeeds (map string_bytes words.now) (S.state store.old) (T.state out.old) result (S.state store.new) (T.state out.new) }
     ensures later { Later (S.state store.old) (T.state out.old) (S.state store.new) (T.state out.new) }
+
+    // Usage comes exactly where the words aren't right, whatever the store tells; but a fault of printing or
+    // want of memory may come in its place.
+    ensures words { AnswersWords (map string_bytes words.now) result }
+
+    // Each file that the run writes is the text of a history, and replayed by plain path maps it shows that history.
+    ensures replayed { (files : Files) → WritesHistories (map string_bytes words.now) files }
 {
+    what_is_read_is_spelled();
+    what_is_written_is_read_again();
+    replay_gives_the_snapshot();
     run_words(alloc, words, store, out)
 }

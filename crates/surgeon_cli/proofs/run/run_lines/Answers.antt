@@ -34,6 +34,7 @@ returns-in_default g c =
           (turn_ends line_step false status.Done c.loop-item.history c.turn.new.history b d item (drop (c.loop-item.item-index + 1) items) refl c.turn.result (is_end c.turn.result c.in_default.not-Done) q)));
       caused = caused_later (s c.args.store.now) (s c.loop-item.store) (s c.turn.new.store) (k c.args.out.now) (k c.loop-item.out) (k c.turn.new.out) c.turn.result c.loop-item.invariant.later c.turn.ensures.caused;
       later = later_later (s c.args.store.now) (s c.loop-item.store) (s c.turn.new.store) (k c.args.out.now) (k c.loop-item.out) (k c.turn.new.out) c.loop-item.invariant.later c.turn.ensures.later;
+      words = c.turn.ensures.words;
     }
 
 pub returns-clause-told : goal.returns-clause-told

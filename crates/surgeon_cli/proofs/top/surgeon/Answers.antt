@@ -1,8 +1,13 @@
 use Rattle.std.specs.Prelude.{map, string_bytes}
 use Rattle.history_machine.specs.Whole.{run}
 use Rattle.file_calls.proofs.Rounds.{all_completes}
+use Rattle.surgeon_cli.proofs.WrittenHistories.{histories_written}
 use Rattle.surgeon_cli.proofs.top.surgeon.Goals as goal
 
 pub returns-clause-complete : goal.returns-clause-complete
 returns-clause-complete g c = λ quiet enough.
     all_completes (λ w. run (map string_bytes c.args.words.now) w.files) (g.S.Store.state c.args.store.now) (g.S.Store.state c.run_words.new.store) (g.T.Sink.state c.args.out.now) (g.T.Sink.state c.run_words.new.out) c.run_words.result c.run_words.ensures.caused quiet enough c.run_words.ensures.told
+
+pub returns-clause-replayed : goal.returns-clause-replayed
+returns-clause-replayed g c = λ files.
+    histories_written c.what_is_read_is_spelled.ensures c.what_is_written_is_read_again.ensures c.replay_gives_the_snapshot.ensures (map string_bytes c.args.words.now) files
