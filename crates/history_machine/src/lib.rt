@@ -4,6 +4,8 @@
 mod command;
 mod file_name;
 mod script;
+#[cfg(test)]
+mod tests;
 
 pub use command::Command;
 pub use file_name::FileName;
