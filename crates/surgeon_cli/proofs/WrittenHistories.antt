@@ -73,56 +73,58 @@ module _
     (found : (t : List ℕ) (events : List PlainEvent) → read_of t ≡ Some events → Reads t events)
     (again : (t : List ℕ) (events : List PlainEvent) → length t < 10 ^ 64 → Reads t events → Reads (text events) events)
     (replayed : (raws : List RawEvent) (events : List PlainEvent) → history raws ≡ Some events → replay raws ≡ snapshot events)
-    where
-  shown : (events : List PlainEvent) → WasRead (Some events) → Shows (text events) events
-  shown events r =
-      let reads = again r.0 events r.1 r.2 in
-      (reads.0, reads.1, reads.2, replayed reads.0 events reads.2)
+  where
+    shown : (events : List PlainEvent) → WasRead (Some events) → Shows (text events) events
+    shown events r =
+        let reads = again r.0 events r.1 r.2 in
+        (reads.0, reads.1, reads.2, replayed reads.0 events reads.2)
 
-  was_read : (files : Files) (name : Bytes) (events : List PlainEvent) → loaded files name ≡ Ok events → WasRead (Some events)
-  unfolding loaded stream_of
-  was_read files name events h =
-      let first = done_first (file_within files name MAX_STREAM_BYTES) stream_of events h in
-      let bytes = first.0 in
-      (bytes, small (length bytes) (within_limit name MAX_STREAM_BYTES (get files name) bytes first.1), found bytes events (spelled (read_of bytes) events first.2))
+    was_read : (files : Files) (name : Bytes) (events : List PlainEvent) → loaded files name ≡ Ok events → WasRead (Some events)
+    unfolding loaded stream_of
+    was_read files name events h =
+        let first = done_first (file_within files name MAX_STREAM_BYTES) stream_of events h in
+        let bytes = first.0 in
+        (bytes, small (length bytes) (within_limit name MAX_STREAM_BYTES (get files name) bytes first.1), found bytes events (spelled (read_of bytes) events first.2))
 
-  step_goes_well : (s : Session) (files : Files) (c : Command) → WasRead s → GoesWell (step s files c)
-  unfolding step read_done write_done
-  step_goes_well s files (command.Read name) r = goes_well_behind (loaded files name) _ (λ events h. (tt, was_read files name events h))
-  step_goes_well None files (command.Write name) r = tt
-  step_goes_well (Some events) files (command.Write name) r = ((events, refl, shown events r), r)
+    step_goes_well : (s : Session) (files : Files) (c : Command) → WasRead s → GoesWell (step s files c)
+    unfolding step read_done write_done
+    step_goes_well s files (command.Read name) r = goes_well_behind (loaded files name) _ (λ events h. (tt, was_read files name events h))
+    step_goes_well None files (command.Write name) r = tt
+    step_goes_well (Some events) files (command.Write name) r = ((events, refl, shown events r), r)
 
-  line_goes_well : (s : Session) (files : Files) (line : Bytes) → WasRead s → GoesWell (line_step s files line)
-  unfolding line_step
-  line_goes_well s files line r = goes_well_behind (command_due s line) (step s files) (λ c h. step_goes_well s files c r)
+    line_goes_well : (s : Session) (files : Files) (line : Bytes) → WasRead s → GoesWell (line_step s files line)
+    unfolding line_step
+    line_goes_well s files line r = goes_well_behind (command_due s line) (step s files) (λ c h. step_goes_well s files c r)
 
-  -- the turn of a line that goes well, or of its refusal
-  turn_goes_well : (s : Session) (line : ℕ) (due : Result (Turn Session) Fault) → WasRead s → GoesWell due → WritesHistory (turn_of s line due) × WasRead (turn_of s line due).session
-  turn_goes_well s line (Ok t) r well = well
-  turn_goes_well s line (Err fault) r well = (tt, r)
+    -- the turn of a line that goes well, or of its refusal
+    turn_goes_well : (s : Session) (line : ℕ) (due : Result (Turn Session) Fault) → WasRead s → GoesWell due → WritesHistory (turn_of s line due) × WasRead (turn_of s line due).session
+    turn_goes_well s line (Ok t) r well = well
+    turn_goes_well s line (Err fault) r well = (tt, r)
 
-  cut_or_not : (b : Bool) (more less : Run Session) → AllByRecursion WritesHistory more.turns → AllByRecursion WritesHistory less.turns → AllByRecursion WritesHistory (if b then more else less).turns
-  cut_or_not true more less m l = m
-  cut_or_not false more less m l = l
+    cut_or_not : (b : Bool) (more less : Run Session) → AllByRecursion WritesHistory more.turns → AllByRecursion WritesHistory less.turns → AllByRecursion WritesHistory (if b then more else less).turns
+    cut_or_not true more less m l = m
+    cut_or_not false more less m l = l
 
-  lines_go_well : (keep : Bool) (so_far : Status) (s : Session) (files : Files) (items : List ScriptItem) → WasRead s → AllByRecursion WritesHistory (run_on line_step keep so_far s files items).turns
-  lines_go_well keep so_far s files [] r = tt
-  lines_go_well keep so_far s files (item ∷ items) r =
-      let due = line_step s files item.text in
-      let t = turn_of s item.line due in
-      let well = turn_goes_well s item.line due r (line_goes_well s files item.text r) in
-      (well.0, cut_or_not (goes_on keep due) (run_on line_step keep (status_after so_far due) t.session (files_after t.to t.bytes files) items) (record { turns = []; status = status.Refused })
-        (lines_go_well keep (status_after so_far due) t.session (files_after t.to t.bytes files) items well.1) tt)
+    lines_go_well : (keep : Bool) (so_far : Status) (s : Session) (files : Files) (items : List ScriptItem) → WasRead s → AllByRecursion WritesHistory (run_on line_step keep so_far s files items).turns
+    lines_go_well keep so_far s files [] r = tt
+    lines_go_well keep so_far s files (item ∷ items) r =
+        let due = line_step s files item.text in
+        let t = turn_of s item.line due in
+        let well = turn_goes_well s item.line due r (line_goes_well s files item.text r) in (
+          well.0,
+          cut_or_not (goes_on keep due) (run_on line_step keep (status_after so_far due) t.session (files_after t.to t.bytes files) items) (record { turns = []; status = status.Refused })
+              (lines_go_well keep (status_after so_far due) t.session (files_after t.to t.bytes files) items well.1) tt,
+        )
 
-  read_goes_well : (name : Bytes) (files : Files) (script : Result Bytes Fault) → AllByRecursion WritesHistory (run_read name files script).turns
-  read_goes_well name files (Ok bytes) = lines_go_well false status.Done None files _ tt
-  read_goes_well name files (Err why) = (tt, tt)
+    read_goes_well : (name : Bytes) (files : Files) (script : Result Bytes Fault) → AllByRecursion WritesHistory (run_read name files script).turns
+    read_goes_well name files (Ok bytes) = lines_go_well false status.Done None files _ tt
+    read_goes_well name files (Err why) = (tt, tt)
 
-  named_goes_well : (files : Files) (named : Option Bytes) → AllByRecursion WritesHistory (run_named files named).turns
-  named_goes_well files None = (tt, tt)
-  named_goes_well files (Some name) = read_goes_well name files (file_within files name MAX_SCRIPT_BYTES)
+    named_goes_well : (files : Files) (named : Option Bytes) → AllByRecursion WritesHistory (run_named files named).turns
+    named_goes_well files None = (tt, tt)
+    named_goes_well files (Some name) = read_goes_well name files (file_within files name MAX_SCRIPT_BYTES)
 
-  -- each file that a run writes
-  pub histories_written : (words : List Bytes) (files : Files) → WritesHistories words files
-  unfolding run
-  histories_written words files = named_goes_well files (script_of words)
+    -- each file that a run writes
+    pub histories_written : (words : List Bytes) (files : Files) → WritesHistories words files
+    unfolding run
+    histories_written words files = named_goes_well files (script_of words)

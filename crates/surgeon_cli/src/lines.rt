@@ -67,7 +67,11 @@ fn first_word(alloc: Global, line: &[u8]) -> Result<Text, NoMemory>
 
 // The command of a line in the form that is due: the first line reads, and each further one writes.
 #[tactic(auto, unfolding(history_machine::specs::Commands::command_in))]
-fn command(alloc: Global, history: &Option<EventList>, line: &[u8]) -> Result<Option<Command>, NoMemory>
+fn command(
+    alloc: Global,
+    history: &Option<EventList>,
+    line: &[u8],
+) -> Result<Option<Command>, NoMemory>
     ensures { IfOk result (λ command. command ≡ command_in history.now line.now) }
 {
     match history {
@@ -78,7 +82,11 @@ fn command(alloc: Global, history: &Option<EventList>, line: &[u8]) -> Result<Op
 
 /// The command of a line, or its refusal with the line's first word.
 #[tactic(auto, unfolding(history_machine::specs::Commands::command_due))]
-pub fn command_of(alloc: Global, history: &Option<EventList>, line: &[u8]) -> Result<Command, Halted>
+pub fn command_of(
+    alloc: Global,
+    history: &Option<EventList>,
+    line: &[u8],
+) -> Result<Command, Halted>
     ensures { GivesAlone (λ command. command) result (command_due history.now line.now) }
 {
     match command(alloc, history, line)? {

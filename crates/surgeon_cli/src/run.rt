@@ -14,7 +14,12 @@ use std::alloc::Global;
 use surgeon_store::{Sink, Store, WriteEnd, write_all};
 
 // Prints that a line is refused.
-fn print_refusal<T: Sink>(alloc: Global, out: &mut T, line: u64, fault: &Fault) -> Result<(), WriteEnd>
+fn print_refusal<T: Sink>(
+    alloc: Global,
+    out: &mut T,
+    line: u64,
+    fault: &Fault,
+) -> Result<(), WriteEnd>
     ensures ok { OnOk result (Puts (T.state out.old) (refusal line fault.now) (T.state out.new)) }
     ensures part { PutsSome (T.state out.old) (refusal line fault.now) (T.state out.new) }
     ensures later { (T.state out.old).faults ≤ (T.state out.new).faults }

@@ -2,16 +2,17 @@ use crate::surgeon;
 use plain_model::{Items, NumberList, Status, Text};
 use std::alloc::Global;
 use std::test::Fail;
-use surgeon_store::{
-    FileEntry, FileList, MemorySink, MemoryStore, SureSink, SureStore,
-};
+use surgeon_store::{FileEntry, FileList, MemorySink, MemoryStore, SureSink, SureStore};
 
 // Two commits: one puts a file, and the next, which names it as its parent, takes the file away.
-const STREAM: &[u8] = b"blob\nmark :1\ndata 3\none\ncommit refs/heads/master\nmark :2\ncommitter A <a@x> 100 +0000\ndata 2\nc1\nM 100644 :1 f\n\ncommit refs/heads/master\nmark :3\ncommitter A <a@x> 200 +0000\ndata 2\nc2\nfrom :2\nD f\n";
+const STREAM: &[u8] =
+    b"blob\nmark :1\ndata 3\none\ncommit refs/heads/master\nmark :2\ncommitter A <a@x> 100 +0000\ndata 2\nc1\nM 100644 :1 f\n\ncommit refs/heads/master\nmark :3\ncommitter A <a@x> 200 +0000\ndata 2\nc2\nfrom :2\nD f\n";
 
-const WRITTEN: &[u8] = b"blob\nmark :1\ndata 3\none\ncommit refs/heads/master\nmark :2\nauthor A <a@x> 100 +0000\ncommitter A <a@x> 100 +0000\ndata 2\nc1\nM 100644 :1 f\n\ncommit refs/heads/master\nmark :3\nauthor A <a@x> 200 +0000\ncommitter A <a@x> 200 +0000\ndata 2\nc2\nfrom :2\nD f\n\n";
+const WRITTEN: &[u8] =
+    b"blob\nmark :1\ndata 3\none\ncommit refs/heads/master\nmark :2\nauthor A <a@x> 100 +0000\ncommitter A <a@x> 100 +0000\ndata 2\nc1\nM 100644 :1 f\n\ncommit refs/heads/master\nmark :3\nauthor A <a@x> 200 +0000\ncommitter A <a@x> 200 +0000\ndata 2\nc2\nfrom :2\nD f\n\n";
 
-const SHORT_MODE: &[u8] = b"blob\nmark :1\ndata 1\nx\ncommit refs/heads/master\nmark :2\ncommitter A <a@x> 1 +0000\ndata 0\nM 644 :1 f\n";
+const SHORT_MODE: &[u8] =
+    b"blob\nmark :1\ndata 1\nx\ncommit refs/heads/master\nmark :2\ncommitter A <a@x> 1 +0000\ndata 0\nM 644 :1 f\n";
 
 fn entry(alloc: Global, name: &str, bytes: &[u8]) -> Result<FileEntry, Fail> {
     Ok(FileEntry {
@@ -70,22 +71,76 @@ fn a_script_ends_with_its_status_and_its_line(rt: HostRuntime) -> Result<(), Fai
     let rows: [(&str, &[u8], Status, &[u8]); 12] = [
         ("no line", b"", Status::Done, b""),
         ("a line that no LF ends", b"read <a.fi", Status::Done, b""),
-        ("written twice", b"read <a.fi\nwrite >b\nwrite >c\n", Status::Done, b""),
-        ("an empty stream", b"read <e.fi\nwrite >b\n", Status::Done, b""),
-        ("an unknown word", b"frob\n", Status::Refused, b"surgeon: line 1: refused 20 UnknownCommand word=frob\n"),
-        ("an empty line", b"read <a.fi\n\nwrite >b\n", Status::Refused, b"surgeon: line 2: refused 20 UnknownCommand word=\n"),
-        ("a CR before the LF", b"read <a.fi\r\n", Status::Refused, b"surgeon: line 1: refused 20 UnknownCommand word=read\n"),
-        ("write first", b"write >b\n", Status::Refused, b"surgeon: line 1: refused 20 UnknownCommand word=write\n"),
-        ("read again", b"read <a.fi\nread <a.fi\n", Status::Refused, b"surgeon: line 2: refused 20 UnknownCommand word=read\n"),
-        ("two spaces", b"read  <a.fi\n", Status::Refused, b"surgeon: line 1: refused 20 UnknownCommand word=read\n"),
-        ("no such stream", b"read <none\n", Status::Refused, b"surgeon: line 1: refused 11 Absent name=none\n"),
-        ("a mode of three digits", b"read <m.fi\nwrite >b\n", Status::Refused, b"surgeon: line 1: refused 10 BadStream line=0 why=LeftOut\n"),
+        (
+            "written twice",
+            b"read <a.fi\nwrite >b\nwrite >c\n",
+            Status::Done,
+            b"",
+        ),
+        (
+            "an empty stream",
+            b"read <e.fi\nwrite >b\n",
+            Status::Done,
+            b"",
+        ),
+        (
+            "an unknown word",
+            b"frob\n",
+            Status::Refused,
+            b"surgeon: line 1: refused 20 UnknownCommand word=frob\n",
+        ),
+        (
+            "an empty line",
+            b"read <a.fi\n\nwrite >b\n",
+            Status::Refused,
+            b"surgeon: line 2: refused 20 UnknownCommand word=\n",
+        ),
+        (
+            "a CR before the LF",
+            b"read <a.fi\r\n",
+            Status::Refused,
+            b"surgeon: line 1: refused 20 UnknownCommand word=read\n",
+        ),
+        (
+            "write first",
+            b"write >b\n",
+            Status::Refused,
+            b"surgeon: line 1: refused 20 UnknownCommand word=write\n",
+        ),
+        (
+            "read again",
+            b"read <a.fi\nread <a.fi\n",
+            Status::Refused,
+            b"surgeon: line 2: refused 20 UnknownCommand word=read\n",
+        ),
+        (
+            "two spaces",
+            b"read  <a.fi\n",
+            Status::Refused,
+            b"surgeon: line 1: refused 20 UnknownCommand word=read\n",
+        ),
+        (
+            "no such stream",
+            b"read <none\n",
+            Status::Refused,
+            b"surgeon: line 1: refused 11 Absent name=none\n",
+        ),
+        (
+            "a mode of three digits",
+            b"read <m.fi\nwrite >b\n",
+            Status::Refused,
+            b"surgeon: line 1: refused 10 BadStream line=0 why=LeftOut\n",
+        ),
     ];
     for (what, script, status, printed) in rows {
         let mut store = SureStore::new(alloc, files(alloc, script)?)?;
         let mut out = SureSink::new(alloc)?;
         let words = words(alloc, &["s"])?;
-        assert_eq!(rt; surgeon(alloc, &words, &mut store, &mut out), status, "{what}");
+        assert_eq!(rt;
+            surgeon(alloc, &words, &mut store, &mut out),
+            status,
+            "{what}"
+        );
         assert!(rt; out.written().as_slice() == printed, "{what}");
     }
     Ok(())
@@ -99,15 +154,34 @@ fn a_command_line_ends_with_its_status_and_its_line(rt: HostRuntime) -> Result<(
         ("no word", &[], Status::Usage, usage),
         ("two words", &["s", "s"], Status::Usage, usage),
         ("an option", &["-x"], Status::Usage, usage),
-        ("no such script", &["t"], Status::NoScript, b"surgeon: no script t\n"),
-        ("an empty word", &[""], Status::NoScript, b"surgeon: no script \n"),
-        ("a hyphen alone", &["-"], Status::NoScript, b"surgeon: no script -\n"),
+        (
+            "no such script",
+            &["t"],
+            Status::NoScript,
+            b"surgeon: no script t\n",
+        ),
+        (
+            "an empty word",
+            &[""],
+            Status::NoScript,
+            b"surgeon: no script \n",
+        ),
+        (
+            "a hyphen alone",
+            &["-"],
+            Status::NoScript,
+            b"surgeon: no script -\n",
+        ),
     ];
     for (what, given, status, printed) in rows {
         let mut store = SureStore::new(alloc, files(alloc, b"read <a.fi\nwrite >b.fi\n")?)?;
         let mut out = SureSink::new(alloc)?;
         let words = words(alloc, given)?;
-        assert_eq!(rt; surgeon(alloc, &words, &mut store, &mut out), status, "{what}");
+        assert_eq!(rt;
+            surgeon(alloc, &words, &mut store, &mut out),
+            status,
+            "{what}"
+        );
         assert!(rt; out.written().as_slice() == printed, "{what}");
         assert!(rt; store.file("b.fi").is_none(), "{what}");
     }
@@ -115,7 +189,10 @@ fn a_command_line_ends_with_its_status_and_its_line(rt: HostRuntime) -> Result<(
     nothing.clear();
     let mut store = SureStore::new(alloc, files(alloc, b"")?)?;
     let mut out = SureSink::new(alloc)?;
-    assert_eq!(rt; surgeon(alloc, &nothing, &mut store, &mut out), Status::Usage);
+    assert_eq!(rt;
+        surgeon(alloc, &nothing, &mut store, &mut out),
+        Status::Usage
+    );
     Ok(())
 }
 
@@ -132,7 +209,10 @@ fn a_script_past_its_limit_is_refused_whole(rt: HostRuntime) -> Result<(), Fail>
     let mut store = SureStore::new(alloc, files(alloc, script.as_slice())?)?;
     let mut out = SureSink::new(alloc)?;
     let words = words(alloc, &["s"])?;
-    assert_eq!(rt; surgeon(alloc, &words, &mut store, &mut out), Status::BadScript);
+    assert_eq!(rt;
+        surgeon(alloc, &words, &mut store, &mut out),
+        Status::BadScript
+    );
     let printed: &[u8] = b"surgeon: script refused 12 TooLong name=s limit=1048576\n";
     assert!(rt; out.written().as_slice() == printed);
     Ok(())
@@ -152,7 +232,12 @@ fn each_call_that_fails_ends_the_run(rt: HostRuntime) -> Result<(), Fail> {
         ("the stream's end isn't read", 6, Status::SourceFault, None),
         ("the file isn't begun", 7, Status::SinkFault, None),
         ("the file isn't written", 8, Status::SinkFault, Some(b"")),
-        ("the file isn't finished", 9, Status::SinkFault, Some(WRITTEN)),
+        (
+            "the file isn't finished",
+            9,
+            Status::SinkFault,
+            Some(WRITTEN),
+        ),
         ("no call fails", 10, Status::Done, Some(WRITTEN)),
     ];
     for (what, failing, status, written) in rows {
@@ -160,7 +245,11 @@ fn each_call_that_fails_ends_the_run(rt: HostRuntime) -> Result<(), Fail> {
         let mut store = MemoryStore::new(alloc, given, numbers(alloc, &[failing])?)?;
         let mut out = MemorySink::new(alloc, numbers(alloc, &[])?)?;
         let words = words(alloc, &["s"])?;
-        assert_eq!(rt; surgeon(alloc, &words, &mut store, &mut out), status, "{what}");
+        assert_eq!(rt;
+            surgeon(alloc, &words, &mut store, &mut out),
+            status,
+            "{what}"
+        );
         assert!(rt; is_as_wanted(store.file("b.fi"), written), "{what}");
         assert!(rt; out.written().as_slice().is_empty(), "{what}");
     }
@@ -179,7 +268,11 @@ fn a_line_that_is_not_printed_is_a_fault_of_the_sink(rt: HostRuntime) -> Result<
         let mut store = SureStore::new(alloc, files(alloc, b"frob\n")?)?;
         let mut out = MemorySink::new(alloc, numbers(alloc, &[1])?)?;
         let words = words(alloc, given)?;
-        assert_eq!(rt; surgeon(alloc, &words, &mut store, &mut out), Status::SinkFault, "{what}");
+        assert_eq!(rt;
+            surgeon(alloc, &words, &mut store, &mut out),
+            Status::SinkFault,
+            "{what}"
+        );
         assert!(rt; out.written().as_slice().is_empty(), "{what}");
     }
     Ok(())

@@ -14,6 +14,6 @@ invariant-loop-item g l =
     record {
       later : Later (s l.fn.store) (k l.fn.out) (s l.store) (k l.out);
       told : IfSome (world (s l.fn.store) (k l.fn.out)) (λ w0. IfSome (world (s l.store) (k l.out)) (λ w. (r : Status) (now : World)
-      → Stands (run_on line_step false status.Done l.history w.files (drop l.item-index l.items)) r w now
-      → Stands (run_on line_step false status.Done l.fn.history w0.files l.items) r w0 now));
+          → Stands (run_on line_step false status.Done l.history w.files (drop l.item-index l.items)) r w now
+          → Stands (run_on line_step false status.Done l.fn.history w0.files l.items) r w0 now));
     }

@@ -26,4 +26,4 @@ returns-in-Err-Refused-clause-told g c =
     let s = g.S.Store.state in
     let k = g.T.Sink.state in
     unread_told c.args.name.now c.in-Err-Refused.why (λ files. file_within files c.args.name.now MAX_SCRIPT_BYTES) (s c.args.store.now) (s c.read_file.new.store) (k c.args.out.now) (k c.unread_script.new.out) c.unread_script.result
-        c.read_file.ensures.frame (rw c.in-Err-Refused.field-0-is at c.in-Err-Refused.ensures.told) (rw c.as_bytes.ensures.value at (c.unread_script.ensures.told (s c.args.store.now)))
+    c.read_file.ensures.frame (rw c.in-Err-Refused.field-0-is at c.in-Err-Refused.ensures.told) (rw c.as_bytes.ensures.value at (c.unread_script.ensures.told (s c.args.store.now)))
