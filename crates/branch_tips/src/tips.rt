@@ -66,7 +66,7 @@ impl Tips {
         self.by_branch.remove(branch);
     }
 
-    /// Goes on by one event.
+    /// Goes on by one event. Where memory is wanting, it is left open whether the tips went on.
     pub fn note(&mut self, event: &PlainEvent) -> Result<(), NoMemory>
         ensures { OnOk result (self.new ≡ refs_after self.old (event.now ∷ [])) }
     {

@@ -12,6 +12,7 @@ pub mod Replay
 pub mod Snapshots
 pub mod Soundness
 pub mod Spelling
+pub mod Statuses
 pub mod Streams
 pub mod Text
 pub mod Trees

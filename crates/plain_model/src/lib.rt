@@ -31,3 +31,6 @@ pub use path::{Path, PathFault};
 pub use person::{Person, Signed, When};
 pub use raw::{RawEvent, RawList, RawOp, RawOpList};
 pub use status::Status;
+
+#[cfg(test)]
+mod tests;

@@ -1,4 +1,6 @@
 //! How a run ends.
+ghost use Rattle.std.specs.Prelude.{◌≡◌};
+ghost use Rattle.plain_model.specs.Statuses.{exit_code};
 
 /// How a run ends. The exit statuses are 0 to 7 in this order. (own)
 #[derive(Clone, Copy, Debug, PartialEq, Eq)]
@@ -23,7 +25,9 @@ pub enum Status {
 
 impl Status {
     /// The exit status of the program.
-    pub fn code(self) -> u8 {
+    pub fn code(self) -> u8
+        ensures { result ≡ exit_code self }
+    {
         match self {
             Status::Done => 0,
             Status::Refused => 1,

@@ -12,3 +12,6 @@ mod reader;
 
 pub use fault::ReadFault;
 pub use reader::read_stream;
+
+#[cfg(test)]
+mod tests;

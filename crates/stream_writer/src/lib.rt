@@ -10,3 +10,6 @@ mod people;
 mod writer;
 
 pub use writer::{text_of, write_stream};
+
+#[cfg(test)]
+mod tests;
