@@ -14,8 +14,11 @@ use surgeon_store::{Failed, OpenFault, Store};
 // limit is taken, so that a file without an end is refused too.
 fn rest_within<S: Store>(alloc: Global, store: &mut S, limit: u64) -> Result<Option<Text>, Halted>
     requires { limit < 2 ^ 63 }
-    ensures found { IfOk result (λ found. IfSome (S.state store.old).rest (λ rest. found ≡ up_to limit rest)) }
-    ensures taken { IfOk result (λ _. IfSome (S.state store.old).rest (λ rest. (S.state store.new).rest ≡ Some (drop (limit + 1) rest))) }
+    ensures found { IfOk result
+        (λ found. IfSome (S.state store.old).rest (λ rest. found ≡ up_to limit rest)) }
+    ensures taken { IfOk result
+        (λ _. IfSome (S.state store.old).rest
+        (λ rest. (S.state store.new).rest ≡ Some (drop (limit + 1) rest))) }
     ensures caused { CausedByReading (S.state store.old) result (S.state store.new) }
     ensures never_refused { (fault : Fault) → result ≡ Err (Halted.Refused fault) → ⊥ }
     ensures frame { Reads (S.state store.old) (S.state store.new) }
@@ -47,9 +50,13 @@ pub fn read_file<S: Store>(
     limit: u64,
 ) -> Result<Text, Halted>
     requires { limit < 2 ^ 63 }
-    ensures told { IfSome (S.state store.old).files (λ files. Gives (λ text. text) result (file_within files name.now limit)) }
-    ensures taken { IfSome (S.state store.old).files (λ files. IfSome (get files name.now) (λ bytes. LeavesBehind (limit + 1) bytes result (S.state store.new))) }
-    ensures missed { (name : _) → result ≡ Err (Halted.Refused (Fault.Absent name)) → Rose (S.state store.old).misses (S.state store.new).misses }
+    ensures told { IfSome (S.state store.old).files
+        (λ files. Gives (λ text. text) result (file_within files name.now limit)) }
+    ensures taken { IfSome (S.state store.old).files
+        (λ files. IfSome (get files name.now)
+        (λ bytes. LeavesBehind (limit + 1) bytes result (S.state store.new))) }
+    ensures missed { (name : _) → result ≡ Err (Halted.Refused (Fault.Absent name))
+        → Rose (S.state store.old).misses (S.state store.new).misses }
     ensures caused { CausedByReading (S.state store.old) result (S.state store.new) }
     ensures frame { Reads (S.state store.old) (S.state store.new) }
 {

@@ -1,6 +1,14 @@
 //! Faults: why a command is refused, and what is printed of it.
 ghost use Rattle.std.specs.Prelude.{◌≡◌, ◌++◌, codes, IfOk};
-ghost use Rattle.plain_model.specs.Faults.{fault_text, why_text, which_text, text_field, number_field, mark_field, refusal};
+ghost use Rattle.plain_model.specs.Faults.{
+  fault_text,
+  why_text,
+  which_text,
+  text_field,
+  number_field,
+  mark_field,
+  refusal,
+};
 
 use crate::list::{Items, NoMemory, Text};
 use crate::mark::Mark;
@@ -192,7 +200,9 @@ fn with_mark(alloc: Global, head: &[u8], mark: u64) -> Result<Text, NoMemory>
 }
 
 fn with_numbers(alloc: Global, head: &[u8], first: u64, last: u64) -> Result<Text, NoMemory>
-    ensures { IfOk result (λ text. text ≡ head.now ++ number_field (codes "first") first ++ number_field (codes "last") last) }
+    ensures { IfOk result
+        (λ text. text ≡ head.now ++ number_field (codes "first") first
+        ++ number_field (codes "last") last) }
 {
     let mut text = with_number(alloc, head, b"first", first)?;
     push_number_field(&mut text, b"last", last)?;
@@ -200,7 +210,9 @@ fn with_numbers(alloc: Global, head: &[u8], first: u64, last: u64) -> Result<Tex
 }
 
 fn with_limit(alloc: Global, head: &[u8], which: Which, number: u64) -> Result<Text, NoMemory>
-    ensures { IfOk result (λ text. text ≡ head.now ++ text_field (codes "which") (which_text which) ++ number_field (codes "number") number) }
+    ensures { IfOk result
+        (λ text. text ≡ head.now ++ text_field (codes "which") (which_text which)
+        ++ number_field (codes "number") number) }
 {
     let mut text = bare(alloc, head)?;
     push_field(&mut text, b"which", which.name())?;
@@ -209,7 +221,9 @@ fn with_limit(alloc: Global, head: &[u8], which: Which, number: u64) -> Result<T
 }
 
 fn with_defect(alloc: Global, head: &[u8], line: u64, why: Why) -> Result<Text, NoMemory>
-    ensures { IfOk result (λ text. text ≡ head.now ++ number_field (codes "line") line ++ text_field (codes "why") (why_text why)) }
+    ensures { IfOk result
+        (λ text. text ≡ head.now ++ number_field (codes "line") line
+        ++ text_field (codes "why") (why_text why)) }
 {
     let mut text = with_number(alloc, head, b"line", line)?;
     push_field(&mut text, b"why", why.name())?;
@@ -222,7 +236,9 @@ fn with_name_and_limit(
     name: &Text,
     limit: u64,
 ) -> Result<Text, NoMemory>
-    ensures { IfOk result (λ text. text ≡ head.now ++ text_field (codes "name") name.now ++ number_field (codes "limit") limit) }
+    ensures { IfOk result
+        (λ text. text ≡ head.now ++ text_field (codes "name") name.now
+        ++ number_field (codes "limit") limit) }
 {
     let mut text = with_text(alloc, head, b"name", name)?;
     push_number_field(&mut text, b"limit", limit)?;
@@ -230,7 +246,8 @@ fn with_name_and_limit(
 }
 
 fn with_mark_and_op(alloc: Global, head: &[u8], mark: u64, op: u64) -> Result<Text, NoMemory>
-    ensures { IfOk result (λ text. text ≡ head.now ++ mark_field mark ++ number_field (codes "op") op) }
+    ensures { IfOk result
+        (λ text. text ≡ head.now ++ mark_field mark ++ number_field (codes "op") op) }
 {
     let mut text = with_mark(alloc, head, mark)?;
     push_number_field(&mut text, b"op", op)?;

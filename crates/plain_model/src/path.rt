@@ -84,7 +84,8 @@ impl Path {
     /// The path of these bytes, or the first rule that they break.
     pub fn new(alloc: Global, bytes: &[u8]) -> Result<Path, PathFault>
         ensures ok { IfOk result (λ path. (path ≡ bytes.now) × IsPath bytes.now) }
-        ensures err { IfErr result (λ fault. (fault ≡ PathFault.Memory) ⊎ (path_fault bytes.now ≡ Some fault)) }
+        ensures err { IfErr result
+            (λ fault. (fault ≡ PathFault.Memory) ⊎ (path_fault bytes.now ≡ Some fault)) }
     {
         if let Some(fault) = fault_of(bytes) {
             return Err(fault);

@@ -3,7 +3,22 @@ ghost use Rattle.std.specs.Prelude.{◌≡◌, codes, is_some};
 ghost use Rattle.std.specs.Option.{option_map};
 ghost use Rattle.std.specs.List.{list_all};
 ghost use Rattle.plain_model.specs.Names.{is_name, is_name_byte};
-ghost use Rattle.plain_model.specs.Reading.{author_at, committer_at, from_at, path_of, modify_of, delete_of, op_of, starts_op, ops_at, name_in, blob_at, commit_at, raw_at, behind};
+ghost use Rattle.plain_model.specs.Reading.{
+  author_at,
+  committer_at,
+  from_at,
+  path_of,
+  modify_of,
+  delete_of,
+  op_of,
+  starts_op,
+  ops_at,
+  name_in,
+  blob_at,
+  commit_at,
+  raw_at,
+  behind,
+};
 ghost use Rattle.stream_reader.specs.Answers.{Gives};
 
 use crate::fault::{LEFT_OUT, ReadFault, due};
@@ -112,7 +127,7 @@ fn begins_op(text: &[u8]) -> bool
 }
 
 // The operations, a line each, up to a line that begins none.
-#[tactic(auto, unfolding(plain_model::specs::Reading::ops_from, plain_model::specs::Reading::ops_at))]
+#[tactic(auto, unfolding(plain_model::specs::Reading::ops_from, plain_model::specs::Reading::ops_at),)]
 fn ops(alloc: Global, text: &[u8]) -> Result<(RawOpList, &[u8]), ReadFault>
     ensures { Gives (λ x. (x.0, x.1.now)) result (ops_at text.now) }
 {

@@ -1,8 +1,32 @@
 //! Parts of a text: lines, words, numbers, marks and data, each with what follows it.
-ghost use Rattle.std.specs.Prelude.{◌≡◌, ◌==◌, ◌<◌, ◌^◌, length, codes, IfSome, IfNone, ◌≤◌, ◌*◌, ◌+◌, ◌-◌, is_some};
+ghost use Rattle.std.specs.Prelude.{
+  ◌≡◌,
+  ◌==◌,
+  ◌<◌,
+  ◌^◌,
+  length,
+  codes,
+  IfSome,
+  IfNone,
+  ◌≤◌,
+  ◌*◌,
+  ◌+◌,
+  ◌-◌,
+  is_some,
+};
 ghost use Rattle.std.specs.List.{position};
 ghost use Rattle.std.specs.Option.{option_map, option_copied};
-ghost use Rattle.plain_model.specs.Reading.{is_lf, line_at, behind, number_within, mark_of, mark_at, data_at, skip_lf, cut_at};
+ghost use Rattle.plain_model.specs.Reading.{
+  is_lf,
+  line_at,
+  behind,
+  number_within,
+  mark_of,
+  mark_at,
+  data_at,
+  skip_lf,
+  cut_at,
+};
 ghost use Rattle.stream_reader.specs.Answers.{Gives};
 
 use crate::fault::{ReadFault, due};
@@ -65,7 +89,7 @@ fn next_value(value: u64, digit: u8) -> Option<u64>
 }
 
 /// The number that digits say, leading zeros included, if it is at most so great.
-#[tactic(auto, using(crate::proofs::Numbers::value_from_above), unfolding(plain_model::specs::Reading::number_within, plain_model::specs::Reading::number_of))]
+#[tactic(auto, using(crate::proofs::Numbers::value_from_above), unfolding(plain_model::specs::Reading::number_within, plain_model::specs::Reading::number_of),)]
 pub fn number(text: &[u8], most: u64) -> Option<u64>
     ensures value { result ≡ number_within most text.now }
     ensures within { IfSome result (λ n. n ≤ most) }

@@ -20,7 +20,8 @@ use stream_laws::{what_is_read_is_spelled, what_is_spelled_is_read};
 #[tactic(auto, unfolding(plain_model::specs::Reading::step_at))]
 fn step<'a>(alloc: Global, known: &mut Known, text: &'a [u8]) -> Result<&'a [u8], ReadFault>
     requires { Agrees known.old.index known.old.events }
-    ensures steps { Steps (λ rest. rest.now) result known.old.events known.new.events (step_at known.old.events text.now) }
+    ensures steps { Steps (λ rest. rest.now) result known.old.events known.new.events
+        (step_at known.old.events text.now) }
     ensures agrees { OnOk result (Agrees known.new.index known.new.events) }
 {
     let (spelled, rest) = raw(alloc, text)?;
@@ -30,7 +31,7 @@ fn step<'a>(alloc: Global, known: &mut Known, text: &'a [u8]) -> Result<&'a [u8]
 }
 
 // The history that the reading function gives.
-#[tactic(auto, unfolding(plain_model::specs::Reading::read_from, plain_model::specs::Reading::read_of))]
+#[tactic(auto, unfolding(plain_model::specs::Reading::read_from, plain_model::specs::Reading::read_of),)]
 fn read_text(alloc: Global, text: &[u8]) -> Result<EventList, ReadFault>
     ensures { Gives (λ events. events) result (read_of text.now) }
 {
@@ -56,8 +57,10 @@ pub fn read_stream(alloc: Global, text: &[u8]) -> Result<EventList, ReadFault>
     ensures found { IfOk result (Shows text.now) }
 
     // Refused exactly where the text spells no history.
-    ensures only { (events : List PlainEvent) → Reads text.now events → Gives (λ read. read) result (Some events) }
-    ensures refused { (line : ℕ) (why : _) → result ≡ Err (ReadFault.BadStream line why) → IsRefused text.now line why }
+    ensures only { (events : List PlainEvent) → Reads text.now events
+        → Gives (λ read. read) result (Some events) }
+    ensures refused { (line : ℕ) (why : _) → result ≡ Err (ReadFault.BadStream line why)
+        → IsRefused text.now line why }
 
     // The same as one function of the text.
     ensures exact { Gives (λ events. events) result (read_of text.now) }

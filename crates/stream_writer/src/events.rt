@@ -1,6 +1,13 @@
 //! Events at the end of a text.
 ghost use Rattle.std.specs.Prelude.{◌≡◌, ◌++◌, ℕ, List, OnOk, codes};
-ghost use Rattle.plain_model.specs.Text.{line, event_text, reset_text, encoding_text, tagger_text, target_text};
+ghost use Rattle.plain_model.specs.Text.{
+  line,
+  event_text,
+  reset_text,
+  encoding_text,
+  tagger_text,
+  target_text,
+};
 ghost use Rattle.stream_writer.specs.Parts.{head_text, body_text};
 
 use crate::fields::{push_data, push_line, push_mark_line};
@@ -57,7 +64,8 @@ fn push_reset(
     branch: &[u8],
     parents: &[CommitId],
 ) -> Result<(), NoMemory>
-    ensures { OnOk result (out.new ≡ out.old ++ reset_text history.now tips.now branch.now parents.now) }
+    ensures { OnOk result
+        (out.new ≡ out.old ++ reset_text history.now tips.now branch.now parents.now) }
 {
     if parents.is_empty() && tips.has(branch) {
         push_line(out, b"reset ", branch)
@@ -74,7 +82,8 @@ fn push_head(
     author: &Signed,
     committer: &Signed,
 ) -> Result<(), NoMemory>
-    ensures { OnOk result (out.new ≡ out.old ++ head_text branch.now mark author.now committer.now) }
+    ensures { OnOk result
+        (out.new ≡ out.old ++ head_text branch.now mark author.now committer.now) }
 {
     push_line(out, b"commit ", branch)?;
     push_mark_line(out, b"mark ", mark.number())?;
@@ -91,7 +100,8 @@ fn push_body(
     parents: &[CommitId],
     ops: &[FileOp],
 ) -> Result<(), NoMemory>
-    ensures { OnOk result (out.new ≡ out.old ++ body_text history.now encoding.now comment.now parents.now ops.now) }
+    ensures { OnOk result
+        (out.new ≡ out.old ++ body_text history.now encoding.now comment.now parents.now ops.now) }
 {
     push_encoding(out, history, encoding)?;
     push_data(out, comment)?;

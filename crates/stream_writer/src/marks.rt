@@ -1,5 +1,17 @@
 //! The marks of the blobs and the commits of a history, by id.
-ghost use Rattle.std.specs.Prelude.{◌≡◌, ◌==◌, ◌∷◌, ℕ, List, nat_eq, unwrap_or, OnOk, IfOk, Some, if◌then◌else◌};
+ghost use Rattle.std.specs.Prelude.{
+  ◌≡◌,
+  ◌==◌,
+  ◌∷◌,
+  ℕ,
+  List,
+  nat_eq,
+  unwrap_or,
+  OnOk,
+  IfOk,
+  Some,
+  if◌then◌else◌,
+};
 ghost use Rattle.std.specs.HashMap.{get};
 ghost use Rattle.plain_model.specs.declared.event.PlainEvent.{PlainEvent};
 ghost use Rattle.plain_model.specs.Snapshots.{commit_mark};
@@ -18,7 +30,9 @@ struct Marks {
 }
 
 fn note(marks: &mut HashMap<u64, Mark>, id: u64, mark: Mark) -> Result<(), NoMemory>
-    ensures { OnOk result ((n : ℕ) → get nat_eq marks.new n ≡ (if id == n then Some mark else get nat_eq marks.old n)) }
+    ensures { OnOk result
+        ((n : ℕ) → get nat_eq marks.new n ≡
+        (if id == n then Some mark else get nat_eq marks.old n)) }
 {
     marks.insert(id, mark)?;
     Ok(())
@@ -38,7 +52,9 @@ impl Marks {
 
     // Takes in an event that stands before those that were taken in.
     fn take(&mut self, event: &PlainEvent) -> Result<(), NoMemory>
-        ensures { OnOk result ((events : List PlainEvent) → Tells self.old events → Tells self.new (event.now ∷ events)) }
+        ensures { OnOk result
+            ((events : List PlainEvent) → Tells self.old events
+            → Tells self.new (event.now ∷ events)) }
     {
         match event {
             PlainEvent::Blob { id, mark, .. } => note(&mut self.blobs, id.number(), *mark),

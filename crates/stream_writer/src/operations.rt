@@ -1,7 +1,16 @@
 //! Operations and parents at the end of a text.
 ghost use Rattle.std.specs.Prelude.{◌≡◌, ◌++◌, OnOk, flat_map, codes};
 ghost use Rattle.plain_model.specs.Snapshots.{commit_mark};
-ghost use Rattle.plain_model.specs.Text.{line, marked, mode_text, content_text, op_text, parents_text, source_path, last_path};
+ghost use Rattle.plain_model.specs.Text.{
+  line,
+  marked,
+  mode_text,
+  content_text,
+  op_text,
+  parents_text,
+  source_path,
+  last_path,
+};
 ghost use Rattle.stream_writer.specs.Parts.{modify_text, move_text, merges_text};
 
 use crate::fields::{push_mark_line, push_marked};

@@ -1,7 +1,14 @@
 //! Paths at the end of a text, in quotes where they must be.
 ghost use Rattle.std.specs.Prelude.{◌≡◌, ◌++◌, ◌==◌, ◌||◌, OnOk};
 ghost use Rattle.std.specs.List.{list_any};
-ghost use Rattle.plain_model.specs.Text.{LF, quoted_byte, quoted, begins_quoted, last_path, source_path};
+ghost use Rattle.plain_model.specs.Text.{
+  LF,
+  quoted_byte,
+  quoted,
+  begins_quoted,
+  last_path,
+  source_path,
+};
 
 use plain_model::{NoMemory, Path, Text};
 

@@ -1,5 +1,18 @@
 //! Whole histories.
-ghost use Rattle.std.specs.Prelude.{◌≡◌, ◌++◌, ◌<◌, ◌≤◌, ◌^◌, ℕ, List, [], length, OnOk, IfOk, IsErrOf};
+ghost use Rattle.std.specs.Prelude.{
+  ◌≡◌,
+  ◌++◌,
+  ◌<◌,
+  ◌≤◌,
+  ◌^◌,
+  ℕ,
+  List,
+  [],
+  length,
+  OnOk,
+  IfOk,
+  IsErrOf,
+};
 ghost use Rattle.plain_model.specs.Replay.{Shows};
 ghost use Rattle.plain_model.specs.Spelling.{Reads};
 ghost use Rattle.std.specs.List.{list_any};
@@ -76,13 +89,15 @@ pub fn write_stream<W: Sink>(
 ) -> Result<(), WriteEnd>
     ensures ok { OnOk result (Puts (W.state sink.old) (text events.now) (W.state sink.new)) }
     ensures part { PutsSome (W.state sink.old) (text events.now) (W.state sink.new) }
-    ensures failed { IsErrOf result WriteEnd.SinkFault → Rose (W.state sink.old).faults (W.state sink.new).faults }
+    ensures failed { IsErrOf result WriteEnd.SinkFault
+        → Rose (W.state sink.old).faults (W.state sink.new).faults }
     ensures later { (W.state sink.old).faults ≤ (W.state sink.new).faults }
     ensures around { (W.state sink.new).around ≡ (W.state sink.old).around }
 
     // What was read is read again from what is written: the same history, so the same text, and a replay of
     // it by plain path maps shows the same.
-    ensures again { (stream : List ℕ) → length stream < 10 ^ 64 → Reads stream events.now → Shows (text events.now) events.now }
+    ensures again { (stream : List ℕ) → length stream < 10 ^ 64 → Reads stream events.now
+        → Shows (text events.now) events.now }
 {
     what_is_written_is_read_again();
     replay_gives_the_snapshot();

@@ -23,7 +23,8 @@ fn print_refusal<T: Sink>(
     ensures ok { OnOk result (Puts (T.state out.old) (refusal line fault.now) (T.state out.new)) }
     ensures part { PutsSome (T.state out.old) (refusal line fault.now) (T.state out.new) }
     ensures later { (T.state out.old).faults ≤ (T.state out.new).faults }
-    ensures failed { IsErrOf result WriteEnd.SinkFault → Rose (T.state out.old).faults (T.state out.new).faults }
+    ensures failed { IsErrOf result WriteEnd.SinkFault
+        → Rose (T.state out.old).faults (T.state out.new).faults }
 {
     match fault.refusal(alloc, line) {
         Ok(text) => write_all(out, text.as_slice()),
@@ -39,9 +40,14 @@ fn turn<S: Store, T: Sink>(
     out: &mut T,
     item: &ScriptItem,
 ) -> Status
-    ensures told { IfSome (world (S.state store.old) (T.state out.old)) (λ w. IfSome (world (S.state store.new) (T.state out.new)) (λ now. Turns result history.old w item.now.line (line_step history.old w.files item.now.text) history.new now)) }
-    ensures caused { CausedEnd (S.state store.old) (T.state out.old) result (S.state store.new) (T.state out.new) }
-    ensures later { Later (S.state store.old) (T.state out.old) (S.state store.new) (T.state out.new) }
+    ensures told { IfSome (world (S.state store.old) (T.state out.old))
+        (λ w. IfSome (world (S.state store.new) (T.state out.new))
+        (λ now. Turns result history.old w item.now.line
+        (line_step history.old w.files item.now.text) history.new now)) }
+    ensures caused { CausedEnd (S.state store.old) (T.state out.old) result
+        (S.state store.new) (T.state out.new) }
+    ensures later { Later (S.state store.old) (T.state out.old)
+        (S.state store.new) (T.state out.new) }
     ensures words { result ≢ Status.Usage }
 {
     match carry_out_line(alloc, history, store, out, item.text.as_slice()) {
@@ -65,9 +71,14 @@ fn run_lines<S: Store, T: Sink>(
     store: &mut S,
     out: &mut T,
 ) -> Status
-    ensures told { IfSome (world (S.state store.old) (T.state out.old)) (λ w. IfSome (world (S.state store.new) (T.state out.new)) (λ now. Stands (run_on line_step false Status.Done history.old w.files items.now) result w now)) }
-    ensures caused { CausedEnd (S.state store.old) (T.state out.old) result (S.state store.new) (T.state out.new) }
-    ensures later { Later (S.state store.old) (T.state out.old) (S.state store.new) (T.state out.new) }
+    ensures told { IfSome (world (S.state store.old) (T.state out.old))
+        (λ w. IfSome (world (S.state store.new) (T.state out.new))
+        (λ now. Stands (run_on line_step false Status.Done history.old w.files items.now)
+        result w now)) }
+    ensures caused { CausedEnd (S.state store.old) (T.state out.old) result
+        (S.state store.new) (T.state out.new) }
+    ensures later { Later (S.state store.old) (T.state out.old)
+        (S.state store.new) (T.state out.new) }
     ensures words { result ≢ Status.Usage }
 {
     for item in items {
@@ -86,9 +97,13 @@ pub fn run_items<S: Store, T: Sink>(
     store: &mut S,
     out: &mut T,
 ) -> Status
-    ensures told { IfSome (world (S.state store.old) (T.state out.old)) (λ w. IfSome (world (S.state store.new) (T.state out.new)) (λ now. Stands (run_on line_step false Status.Done None w.files items.now) result w now)) }
-    ensures caused { CausedEnd (S.state store.old) (T.state out.old) result (S.state store.new) (T.state out.new) }
-    ensures later { Later (S.state store.old) (T.state out.old) (S.state store.new) (T.state out.new) }
+    ensures told { IfSome (world (S.state store.old) (T.state out.old))
+        (λ w. IfSome (world (S.state store.new) (T.state out.new))
+        (λ now. Stands (run_on line_step false Status.Done None w.files items.now) result w now)) }
+    ensures caused { CausedEnd (S.state store.old) (T.state out.old) result
+        (S.state store.new) (T.state out.new) }
+    ensures later { Later (S.state store.old) (T.state out.old)
+        (S.state store.new) (T.state out.new) }
     ensures words { result ≢ Status.Usage }
 {
     let mut history = None;

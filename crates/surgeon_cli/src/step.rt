@@ -4,7 +4,15 @@ ghost use Rattle.surgeon_store.specs.Outside.{Reads};
 ghost use Rattle.history_machine.specs.Loading.{stream_of};
 ghost use Rattle.history_machine.specs.Machine.{World};
 ghost use Rattle.history_machine.specs.Commands.{loaded, read_done, write_done, step, line_step};
-ghost use Rattle.file_calls.specs.Calls.{Gives, GivesAlone, CausedByReading, Caused, Later, Steps, world};
+ghost use Rattle.file_calls.specs.Calls.{
+  Gives,
+  GivesAlone,
+  CausedByReading,
+  Caused,
+  Later,
+  Steps,
+  world,
+};
 
 use crate::lines::command_of;
 use file_calls::{Halted, read_file, write_text};
@@ -32,7 +40,8 @@ fn history_of(alloc: Global, text: &[u8]) -> Result<EventList, Halted>
 // The history of a file.
 #[tactic(auto, unfolding(history_machine::specs::Commands::loaded))]
 fn load<S: Store>(alloc: Global, store: &mut S, name: &FileName) -> Result<EventList, Halted>
-    ensures told { IfSome (S.state store.old).files (λ files. Gives (λ history. history) result (loaded files name.now)) }
+    ensures told { IfSome (S.state store.old).files
+        (λ files. Gives (λ history. history) result (loaded files name.now)) }
     ensures caused { CausedByReading (S.state store.old) result (S.state store.new) }
     ensures frame { Reads (S.state store.old) (S.state store.new) }
 {
@@ -52,9 +61,14 @@ fn save<S: Store, T: Sink>(
     out: &mut T,
     name: &FileName,
 ) -> Result<(), Halted>
-    ensures told { IfSome (world (S.state store.old) (T.state out.old)) (λ w. IfSome (world (S.state store.new) (T.state out.new)) (λ now. Steps result (Some history.now) w (write_done (Some history.now) name.now) (Some history.now) now)) }
-    ensures caused { Caused (S.state store.old) (T.state out.old) result (S.state store.new) (T.state out.new) }
-    ensures later { Later (S.state store.old) (T.state out.old) (S.state store.new) (T.state out.new) }
+    ensures told { IfSome (world (S.state store.old) (T.state out.old))
+        (λ w. IfSome (world (S.state store.new) (T.state out.new))
+        (λ now. Steps result (Some history.now) w (write_done (Some history.now) name.now)
+        (Some history.now) now)) }
+    ensures caused { Caused (S.state store.old) (T.state out.old) result
+        (S.state store.new) (T.state out.new) }
+    ensures later { Later (S.state store.old) (T.state out.old)
+        (S.state store.new) (T.state out.new) }
 {
     let text = text_of(alloc, history)?;
     write_text(store, name.as_str(), text.as_slice())?;
@@ -62,7 +76,7 @@ fn save<S: Store, T: Sink>(
 }
 
 // Carries out a command.
-#[tactic(auto, unfolding(history_machine::specs::Commands::step, history_machine::specs::Commands::read_done, history_machine::specs::Commands::write_done))]
+#[tactic(auto, unfolding(history_machine::specs::Commands::step, history_machine::specs::Commands::read_done, history_machine::specs::Commands::write_done,),)]
 fn carry_out<S: Store, T: Sink>(
     alloc: Global,
     history: &mut Option<EventList>,
@@ -70,9 +84,14 @@ fn carry_out<S: Store, T: Sink>(
     out: &mut T,
     command: &Command,
 ) -> Result<(), Halted>
-    ensures told { IfSome (world (S.state store.old) (T.state out.old)) (λ w. IfSome (world (S.state store.new) (T.state out.new)) (λ now. Steps result history.old w (step history.old w.files command.now) history.new now)) }
-    ensures caused { Caused (S.state store.old) (T.state out.old) result (S.state store.new) (T.state out.new) }
-    ensures later { Later (S.state store.old) (T.state out.old) (S.state store.new) (T.state out.new) }
+    ensures told { IfSome (world (S.state store.old) (T.state out.old))
+        (λ w. IfSome (world (S.state store.new) (T.state out.new))
+        (λ now. Steps result history.old w (step history.old w.files command.now)
+        history.new now)) }
+    ensures caused { Caused (S.state store.old) (T.state out.old) result
+        (S.state store.new) (T.state out.new) }
+    ensures later { Later (S.state store.old) (T.state out.old)
+        (S.state store.new) (T.state out.new) }
 {
     match command {
         Command::Read { name } => match load(alloc, store, name) {
@@ -98,9 +117,14 @@ pub fn carry_out_line<S: Store, T: Sink>(
     out: &mut T,
     line: &[u8],
 ) -> Result<(), Halted>
-    ensures told { IfSome (world (S.state store.old) (T.state out.old)) (λ w. IfSome (world (S.state store.new) (T.state out.new)) (λ now. Steps result history.old w (line_step history.old w.files line.now) history.new now)) }
-    ensures caused { Caused (S.state store.old) (T.state out.old) result (S.state store.new) (T.state out.new) }
-    ensures later { Later (S.state store.old) (T.state out.old) (S.state store.new) (T.state out.new) }
+    ensures told { IfSome (world (S.state store.old) (T.state out.old))
+        (λ w. IfSome (world (S.state store.new) (T.state out.new))
+        (λ now. Steps result history.old w (line_step history.old w.files line.now)
+        history.new now)) }
+    ensures caused { Caused (S.state store.old) (T.state out.old) result
+        (S.state store.new) (T.state out.new) }
+    ensures later { Later (S.state store.old) (T.state out.old)
+        (S.state store.new) (T.state out.new) }
 {
     let command = match command_of(alloc, history, line) {
         Ok(command) => command,

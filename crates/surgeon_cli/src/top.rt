@@ -1,11 +1,41 @@
 //! The run that a command line names.
-ghost use Rattle.std.specs.Prelude.{◌≡◌, ◌++◌, ◌∷◌, [], ◌≤◌, map, string_bytes, IfOk, OnOk, IsErrOf, IfSome, None, false, ◌≢◌};
+ghost use Rattle.std.specs.Prelude.{
+  ◌≡◌,
+  ◌++◌,
+  ◌∷◌,
+  [],
+  ◌≤◌,
+  map,
+  string_bytes,
+  IfOk,
+  OnOk,
+  IsErrOf,
+  IfSome,
+  None,
+  false,
+  ◌≢◌,
+};
 ghost use Rattle.surgeon_store.specs.Outside.{Rose, StoreState, Puts, PutsSome};
 ghost use Rattle.history_machine.specs.Loading.{file_within};
 ghost use Rattle.history_machine.specs.Machine.{World, Stands, run_on};
-ghost use Rattle.history_machine.specs.Whole.{run, usage, unread, only_prints, unread_status, unread_line, run_read, script_run};
+ghost use Rattle.history_machine.specs.Whole.{
+  run,
+  usage,
+  unread,
+  only_prints,
+  unread_status,
+  unread_line,
+  run_read,
+  script_run,
+};
 ghost use Rattle.file_calls.specs.Calls.{CausedEnd, Later, world};
-ghost use Rattle.surgeon_cli.specs.Headline.{AsPrescribed, AnswersWords, IsUsageEnd, Succeeds, WritesHistories};
+ghost use Rattle.surgeon_cli.specs.Headline.{
+  AsPrescribed,
+  AnswersWords,
+  IsUsageEnd,
+  Succeeds,
+  WritesHistories,
+};
 ghost use Rattle.plain_model.specs.Files.{Files};
 
 use crate::lines::items_in;
@@ -51,7 +81,8 @@ fn print_line<T: Sink>(out: &mut T, mut line: Text) -> Result<(), WriteEnd>
     ensures ok { OnOk result (Puts (T.state out.old) (line ++ 10 ∷ []) (T.state out.new)) }
     ensures part { PutsSome (T.state out.old) (line ++ 10 ∷ []) (T.state out.new) }
     ensures later { (T.state out.old).faults ≤ (T.state out.new).faults }
-    ensures failed { IsErrOf result WriteEnd.SinkFault → Rose (T.state out.old).faults (T.state out.new).faults }
+    ensures failed { IsErrOf result WriteEnd.SinkFault
+        → Rose (T.state out.old).faults (T.state out.new).faults }
 {
     match line.push(b'\n') {
         Ok(()) => write_all(out, line.as_slice()),
@@ -61,8 +92,11 @@ fn print_line<T: Sink>(out: &mut T, mut line: Text) -> Result<(), WriteEnd>
 
 // Tells that a script is not read.
 fn unread_script<T: Sink>(alloc: Global, name: &[u8], why: &Fault, out: &mut T) -> Status
-    ensures told { (s : StoreState) → IfSome (world s (T.state out.old)) (λ w. IfSome (world s (T.state out.new)) (λ now. Stands (unread name.now why.now) result w now)) }
-    ensures failed { result ≡ Status.SinkFault → Rose (T.state out.old).faults (T.state out.new).faults }
+    ensures told { (s : StoreState) → IfSome (world s (T.state out.old))
+        (λ w. IfSome (world s (T.state out.new))
+        (λ now. Stands (unread name.now why.now) result w now)) }
+    ensures failed { result ≡ Status.SinkFault
+        → Rose (T.state out.old).faults (T.state out.new).faults }
     ensures source { result ≢ Status.SourceFault }
     ensures words { result ≢ Status.Usage }
     ensures absent { result ≡ Status.NoScript → unread_status why.now ≡ Status.NoScript }
@@ -89,8 +123,11 @@ fn usage_line(alloc: Global) -> Result<Text, NoMemory>
 
 // Prints how the program is called.
 fn print_usage<T: Sink>(alloc: Global, out: &mut T) -> Status
-    ensures told { (s : StoreState) → IfSome (world s (T.state out.old)) (λ w. IfSome (world s (T.state out.new)) (λ now. Stands (only_prints Status.Usage usage) result w now)) }
-    ensures failed { result ≡ Status.SinkFault → Rose (T.state out.old).faults (T.state out.new).faults }
+    ensures told { (s : StoreState) → IfSome (world s (T.state out.old))
+        (λ w. IfSome (world s (T.state out.new))
+        (λ now. Stands (only_prints Status.Usage usage) result w now)) }
+    ensures failed { result ≡ Status.SinkFault
+        → Rose (T.state out.old).faults (T.state out.new).faults }
     ensures ends { IsUsageEnd result }
     ensures later { (s : StoreState) → Later s (T.state out.old) s (T.state out.new) }
 {
@@ -107,9 +144,13 @@ fn print_usage<T: Sink>(alloc: Global, out: &mut T) -> Status
 
 // Runs the bytes of a script.
 fn run_bytes<S: Store, T: Sink>(alloc: Global, bytes: &[u8], store: &mut S, out: &mut T) -> Status
-    ensures told { IfSome (world (S.state store.old) (T.state out.old)) (λ w. IfSome (world (S.state store.new) (T.state out.new)) (λ now. Stands (script_run w.files bytes.now) result w now)) }
-    ensures caused { CausedEnd (S.state store.old) (T.state out.old) result (S.state store.new) (T.state out.new) }
-    ensures later { Later (S.state store.old) (T.state out.old) (S.state store.new) (T.state out.new) }
+    ensures told { IfSome (world (S.state store.old) (T.state out.old))
+        (λ w. IfSome (world (S.state store.new) (T.state out.new))
+        (λ now. Stands (script_run w.files bytes.now) result w now)) }
+    ensures caused { CausedEnd (S.state store.old) (T.state out.old) result
+        (S.state store.new) (T.state out.new) }
+    ensures later { Later (S.state store.old) (T.state out.old)
+        (S.state store.new) (T.state out.new) }
     ensures words { result ≢ Status.Usage }
 {
     match items_in(alloc, bytes) {
@@ -120,9 +161,14 @@ fn run_bytes<S: Store, T: Sink>(alloc: Global, bytes: &[u8], store: &mut S, out:
 
 // Runs the script of a file.
 fn run_file<S: Store, T: Sink>(alloc: Global, name: &str, store: &mut S, out: &mut T) -> Status
-    ensures told { IfSome (world (S.state store.old) (T.state out.old)) (λ w. IfSome (world (S.state store.new) (T.state out.new)) (λ now. Stands (run_read name.now w.files (file_within w.files name.now MAX_SCRIPT_BYTES)) result w now)) }
-    ensures caused { CausedEnd (S.state store.old) (T.state out.old) result (S.state store.new) (T.state out.new) }
-    ensures later { Later (S.state store.old) (T.state out.old) (S.state store.new) (T.state out.new) }
+    ensures told { IfSome (world (S.state store.old) (T.state out.old))
+        (λ w. IfSome (world (S.state store.new) (T.state out.new))
+        (λ now. Stands (run_read name.now w.files (file_within w.files name.now MAX_SCRIPT_BYTES))
+        result w now)) }
+    ensures caused { CausedEnd (S.state store.old) (T.state out.old) result
+        (S.state store.new) (T.state out.new) }
+    ensures later { Later (S.state store.old) (T.state out.old)
+        (S.state store.new) (T.state out.new) }
     ensures words { result ≢ Status.Usage }
 {
     match read_file(alloc, store, name, MAX_SCRIPT_BYTES) {
@@ -142,9 +188,13 @@ fn run_words<S: Store, T: Sink>(
     store: &mut S,
     out: &mut T,
 ) -> Status
-    ensures told { IfSome (world (S.state store.old) (T.state out.old)) (λ w. IfSome (world (S.state store.new) (T.state out.new)) (λ now. Stands (run (map string_bytes words.now) w.files) result w now)) }
-    ensures caused { CausedEnd (S.state store.old) (T.state out.old) result (S.state store.new) (T.state out.new) }
-    ensures later { Later (S.state store.old) (T.state out.old) (S.state store.new) (T.state out.new) }
+    ensures told { IfSome (world (S.state store.old) (T.state out.old))
+        (λ w. IfSome (world (S.state store.new) (T.state out.new))
+        (λ now. Stands (run (map string_bytes words.now) w.files) result w now)) }
+    ensures caused { CausedEnd (S.state store.old) (T.state out.old) result
+        (S.state store.new) (T.state out.new) }
+    ensures later { Later (S.state store.old) (T.state out.old)
+        (S.state store.new) (T.state out.new) }
     ensures words { AnswersWords (map string_bytes words.now) result }
 {
     match script_in(words) {
@@ -161,12 +211,16 @@ pub fn surgeon<S: Store, T: Sink>(
     out: &mut T,
 ) -> Status
     // What the plain machine prescribes, to its end, or up to where a fault or want of memory broke it off.
-    ensures told { AsPrescribed (map string_bytes words.now) (S.state store.old) (T.state out.old) result (S.state store.new) (T.state out.new) }
+    ensures told { AsPrescribed (map string_bytes words.now) (S.state store.old) (T.state out.old)
+        result (S.state store.new) (T.state out.new) }
 
     // A status that tells of the outside is one whose count rose, and without them success is due.
-    ensures caused { CausedEnd (S.state store.old) (T.state out.old) result (S.state store.new) (T.state out.new) }
-    ensures complete { Succeeds (map string_bytes words.now) (S.state store.old) (T.state out.old) result (S.state store.new) (T.state out.new) }
-    ensures later { Later (S.state store.old) (T.state out.old) (S.state store.new) (T.state out.new) }
+    ensures caused { CausedEnd (S.state store.old) (T.state out.old) result
+        (S.state store.new) (T.state out.new) }
+    ensures complete { Succeeds (map string_bytes words.now) (S.state store.old) (T.state out.old)
+        result (S.state store.new) (T.state out.new) }
+    ensures later { Later (S.state store.old) (T.state out.old)
+        (S.state store.new) (T.state out.new) }
 
     // Usage comes exactly where the words aren't right, whatever the store tells; but a fault of printing or
     // want of memory may come in its place.

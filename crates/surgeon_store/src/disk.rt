@@ -91,7 +91,13 @@ pub struct DiskStore<'a, R: Files> {
 impl<'a, R: Files> Model for DiskStore<'a, R> {
     ghost Value = { DiskState };
 
-    ghost view = { λ s. record { is_reading = is_some s.reading; writing = s.writing; read_faults = s.read_faults; write_faults = s.write_faults; misses = s.misses } };
+    ghost view = { λ s. record {
+      is_reading = is_some s.reading;
+      writing = s.writing;
+      read_faults = s.read_faults;
+      write_faults = s.write_faults;
+      misses = s.misses;
+    } };
 }
 
 impl<'a, R: Files> DiskStore<'a, R> {
@@ -117,7 +123,8 @@ impl<'a, R: Files> Store for DiskStore<'a, R> {
     ghost tells_rest = { λ _. tt };
 
     fn begin_read(&mut self, name: &str) -> Result<(), OpenFault>
-        ensures store { PromisesBeginRead (disk_store_of self.old) name.now result (disk_store_of self.new) }
+        ensures store { PromisesBeginRead (disk_store_of self.old) name.now result
+            (disk_store_of self.new) }
         ensures begun { OnOk result (IsTrue self.new.is_reading) }
     {
         self.reading = None;

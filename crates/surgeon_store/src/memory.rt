@@ -3,8 +3,27 @@ ghost use Rattle.std.specs.Prelude.{◌≡◌, ◌↔◌, [], IsTrue, IsSome, Is
 ghost use Rattle.std.specs.Option.{option_copied};
 ghost use Rattle.std.specs.FinMap.{get};
 ghost use Rattle.surgeon_store.specs.Memory.{unopened};
-ghost use Rattle.surgeon_store.specs.Failing.{Calls, FailingFiles, FailingBytes, calls_code, failing_files_code, failing_bytes_code, Counts, IsFailing, uncalled, failing_store_of, failing_sink_of};
-ghost use Rattle.surgeon_store.specs.Promises.{PromisesBeginRead, PromisesRead, PromisesBeginWrite, PromisesWrite, PromisesFinishWrite, PromisesPut};
+ghost use Rattle.surgeon_store.specs.Failing.{
+  Calls,
+  FailingFiles,
+  FailingBytes,
+  calls_code,
+  failing_files_code,
+  failing_bytes_code,
+  Counts,
+  IsFailing,
+  uncalled,
+  failing_store_of,
+  failing_sink_of,
+};
+ghost use Rattle.surgeon_store.specs.Promises.{
+  PromisesBeginRead,
+  PromisesRead,
+  PromisesBeginWrite,
+  PromisesWrite,
+  PromisesFinishWrite,
+  PromisesPut,
+};
 
 use crate::entry::FileList;
 use crate::outside::{CreateFault, Failed, OpenFault, Sink, Store, WriteFault};
@@ -60,12 +79,25 @@ impl Model for MemoryStore {
 
     ghost coded = { failing_files_code };
 
-    ghost view = { λ s. record { memory = s.files; calls = s.calls; read_faults = s.read_faults; write_faults = s.write_faults } };
+    ghost view = { λ s. record {
+      memory = s.files;
+      calls = s.calls;
+      read_faults = s.read_faults;
+      write_faults =
+          s.write_faults;
+    } };
 }
 
 impl MemoryStore {
     pub fn new(alloc: Global, files: FileList, failing: NumberList) -> Result<MemoryStore, NoMemory>
-        ensures { IfOk result (λ store. store ≡ record { memory = unopened files; calls = uncalled failing; read_faults = 0; write_faults = 0 }) }
+        ensures { IfOk result
+            (λ store. store ≡ record {
+              memory = unopened files;
+              calls = uncalled failing;
+              read_faults = 0;
+              write_faults =
+                  0;
+            }) }
     {
         Ok(MemoryStore {
             files: SureStore::new(alloc, files)?,
@@ -87,7 +119,8 @@ impl Store for MemoryStore {
     ghost state = { failing_store_of };
 
     fn begin_read(&mut self, name: &str) -> Result<(), OpenFault>
-        ensures store { PromisesBeginRead (failing_store_of self.old) name.now result (failing_store_of self.new) }
+        ensures store { PromisesBeginRead (failing_store_of self.old) name.now result
+            (failing_store_of self.new) }
         ensures counts { Counts self.old.calls self.new.calls }
         ensures exactly { IsErrOf result OpenFault.Failed ↔ IsFailing self.new.calls }
     {
@@ -99,7 +132,8 @@ impl Store for MemoryStore {
     }
 
     fn read(&mut self, piece: &mut [u8]) -> Result<usize, Failed>
-        ensures store { PromisesRead (failing_store_of self.old) result piece.new (failing_store_of self.new) }
+        ensures store { PromisesRead (failing_store_of self.old) result piece.new
+            (failing_store_of self.new) }
         ensures counts { Counts self.old.calls self.new.calls }
         ensures exactly { IsErr result ↔ IsFailing self.new.calls }
     {
@@ -112,7 +146,8 @@ impl Store for MemoryStore {
     }
 
     fn begin_write(&mut self, name: &str) -> Result<(), CreateFault>
-        ensures store { PromisesBeginWrite (failing_store_of self.old) name.now result (failing_store_of self.new) }
+        ensures store { PromisesBeginWrite (failing_store_of self.old) name.now result
+            (failing_store_of self.new) }
         ensures counts { Counts self.old.calls self.new.calls }
         ensures exactly { IsErrOf result CreateFault.Failed ↔ IsFailing self.new.calls }
     {
@@ -126,7 +161,8 @@ impl Store for MemoryStore {
 
     fn write(&mut self, piece: &[u8]) -> Result<usize, WriteFault>
         requires { IsSome self.old.memory.writing }
-        ensures store { PromisesWrite (failing_store_of self.old) piece.now result (failing_store_of self.new) }
+        ensures store { PromisesWrite (failing_store_of self.old) piece.now result
+            (failing_store_of self.new) }
         ensures counts { Counts self.old.calls self.new.calls }
         ensures exactly { IsErrOf result WriteFault.Failed ↔ IsFailing self.new.calls }
     {
@@ -138,7 +174,8 @@ impl Store for MemoryStore {
     }
 
     fn finish_write(&mut self) -> Result<(), Failed>
-        ensures store { PromisesFinishWrite (failing_store_of self.old) result (failing_store_of self.new) }
+        ensures store { PromisesFinishWrite (failing_store_of self.old) result
+            (failing_store_of self.new) }
         ensures counts { Counts self.old.calls self.new.calls }
         ensures exactly { IsErr result ↔ IsFailing self.new.calls }
     {
@@ -172,7 +209,8 @@ impl Model for MemorySink {
 
 impl MemorySink {
     pub fn new(alloc: Global, failing: NumberList) -> Result<MemorySink, NoMemory>
-        ensures { IfOk result (λ sink. sink ≡ record { bytes = []; calls = uncalled failing; faults = 0 }) }
+        ensures { IfOk result
+            (λ sink. sink ≡ record { bytes = []; calls = uncalled failing; faults = 0 }) }
     {
         Ok(MemorySink {
             bytes: SureSink::new(alloc)?,
@@ -192,7 +230,8 @@ impl Sink for MemorySink {
     ghost state = { failing_sink_of };
 
     fn write(&mut self, piece: &[u8]) -> Result<usize, WriteFault>
-        ensures sink { PromisesPut (failing_sink_of self.old) piece.now result (failing_sink_of self.new) }
+        ensures sink { PromisesPut (failing_sink_of self.old) piece.now result
+            (failing_sink_of self.new) }
         ensures counts { Counts self.old.calls self.new.calls }
         ensures exactly { IsErrOf result WriteFault.Failed ↔ IsFailing self.new.calls }
     {

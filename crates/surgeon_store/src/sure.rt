@@ -1,9 +1,32 @@
 //! Files and output in memory. Nothing goes wrong with them but want of memory.
-ghost use Rattle.std.specs.Prelude.{◌≡◌, [], ◌∷◌, ◌++◌, ◌≤◌, ◌≢◌, Some, None, IsTrue, IfOk, OnOk, OnErr, length, drop, refl};
+ghost use Rattle.std.specs.Prelude.{
+  ◌≡◌,
+  [],
+  ◌∷◌,
+  ◌++◌,
+  ◌≤◌,
+  ◌≢◌,
+  Some,
+  None,
+  IsTrue,
+  IfOk,
+  OnOk,
+  OnErr,
+  length,
+  drop,
+  refl,
+};
 ghost use Rattle.std.specs.Option.{option_copied};
 ghost use Rattle.std.specs.FinMap.{get, insert};
 ghost use Rattle.surgeon_store.specs.Entries.{files_of, grown, lookup};
-ghost use Rattle.surgeon_store.specs.Memory.{FilesInMemory, memory_code, unopened, store_of, output_of, begun_name};
+ghost use Rattle.surgeon_store.specs.Memory.{
+  FilesInMemory,
+  memory_code,
+  unopened,
+  store_of,
+  output_of,
+  begun_name,
+};
 
 use crate::entry::{FileEntry, FileList};
 use crate::outside::{CreateFault, Failed, OpenFault, Sink, Store, WriteFault};
@@ -31,9 +54,16 @@ impl Model for SureStore {
 
     ghost coded = { memory_code };
 
-    ghost view = { λ s. record { files = files_of (s.made.items ++ s.given); rest = drop s.taken s.current; writing = begun_name s.is_begun s.made.items; misses = s.misses } };
+    ghost view = { λ s. record {
+      files = files_of (s.made.items ++ s.given);
+      rest = drop s.taken s.current;
+      writing =
+          begun_name s.is_begun s.made.items;
+      misses = s.misses;
+    } };
 
-    ghost invariant = { λ s. (s.taken ≤ length s.current) × (IsTrue s.is_begun → s.made.items ≢ []) };
+    ghost invariant = { λ s. (s.taken ≤ length s.current)
+        × (IsTrue s.is_begun → s.made.items ≢ []) };
 }
 
 fn found<'a>(files: &'a [FileEntry], name: &[u8]) -> Option<&'a Text>
@@ -90,7 +120,7 @@ impl SureStore {
     }
 
     /// The bytes of a file, also of one that is being written.
-    #[tactic(auto, using(crate::proofs::EntryLemmas::get_file, crate::proofs::EntryLemmas::lookup_append))]
+    #[tactic(auto, using(crate::proofs::EntryLemmas::get_file, crate::proofs::EntryLemmas::lookup_append),)]
     pub fn file(&self, name: &str) -> Option<&Text>
         ensures { option_copied result ≡ get self.now.files name.now }
     {
@@ -104,14 +134,26 @@ impl SureStore {
 impl SureStore {
     // Leaves nothing of the file that is read.
     pub(crate) fn end_reading(&mut self)
-        ensures { self.new ≡ record { files = self.old.files; rest = []; writing = self.old.writing; misses = self.old.misses } }
+        ensures { self.new ≡ record {
+          files = self.old.files;
+          rest = [];
+          writing = self.old.writing;
+          misses =
+              self.old.misses;
+        } }
     {
         self.taken = self.current.as_slice().len();
     }
 
     // Ends the writing of a file.
     pub(crate) fn end_writing(&mut self)
-        ensures { self.new ≡ record { files = self.old.files; rest = self.old.rest; writing = None; misses = self.old.misses } }
+        ensures { self.new ≡ record {
+          files = self.old.files;
+          rest = self.old.rest;
+          writing = None;
+          misses =
+              self.old.misses;
+        } }
     {
         self.is_begun = false;
     }

@@ -16,7 +16,8 @@ pub fn write_all<W: Sink>(sink: &mut W, bytes: &[u8]) -> Result<(), WriteEnd>
     ensures ok { OnOk result (Puts (W.state sink.old) bytes.now (W.state sink.new)) }
     ensures part { PutsSome (W.state sink.old) bytes.now (W.state sink.new) }
     ensures later { (W.state sink.old).faults ≤ (W.state sink.new).faults }
-    ensures failed { IsErrOf result WriteEnd.SinkFault → Rose (W.state sink.old).faults (W.state sink.new).faults }
+    ensures failed { IsErrOf result WriteEnd.SinkFault
+        → Rose (W.state sink.old).faults (W.state sink.new).faults }
     ensures around { (W.state sink.new).around ≡ (W.state sink.old).around }
 {
     let mut at = 0;
