@@ -1,8 +1,8 @@
 mod HistorySoFar
 mod LineLaws
-mod PathLaws
+pub mod PathLaws
 mod PlacedEvents
 mod ReplayLaws
 mod Rows
-mod TreeLaws
+pub mod TreeLaws
 mod TreeMapping

@@ -21,8 +21,8 @@ use Rattle.plain_model.specs.Streams.{is_marked, blob_marked, commit_marked, par
 use Rattle.plain_model.specs.Replay.{Replayed, bytes_at, change_of, first_mark, if_ok_shown, map_begun, replay_step, replay_from, replay}
 use Rattle.plain_model.specs.declared.raw.RawEvent.{RawEvent}
 use Rattle.plain_model.specs.declared.raw.RawEvent.TheVariants as raw
-use Rattle.plain_model.specs.declared.raw.RawOp.{RawOp}
-use Rattle.plain_model.specs.declared.raw.RawOp.TheVariants as rawop
+use Rattle.plain_model.specs.declared.raw.CutOp.{CutOp}
+use Rattle.plain_model.specs.declared.raw.CutOp.TheVariants as rawop
 use Rattle.plain_laws.proofs.TreeMapping.{at_mapped, mapped_put, changed_from, begun_of, changes_seen, seen, seen_alike, seen_here, seen_other, if_ok_of}
 use Rattle.plain_laws.proofs.PlacedEvents.{ArePlaced, blob_place, blobs_append, bytes_still, commit_place, mark_new, mark_still, marked_blobs, marked_new, marked_still, nodes_append, placed_more, refs_append, shown_append}
 use Rattle.plain_laws.proofs.HistorySoFar.{IsGood, IsSoFar, NodeBelow, ShownAlike, all_at, all_imply, all_join, all_put, all_reverse, all_up, blobs_of, changes_same, good_place, last_event, length_so_far, map_of_mark, map_same, map_tree_same, nodes_up, other_id, seen_of, shown_alike}
@@ -130,7 +130,7 @@ started done s branch None parents h = subst (Started done parents) (sym (at_map
 -- ---- the operations
 
 -- a list of operations is looked up one by one
-ops_parts : (done : List PlainEvent) (o : RawOp) (os : List RawOp) (ops : List FileOp) → ops_of done (o ∷ os) ≡ Some ops → (op : FileOp) × (rest : List FileOp) × (op_of done o ≡ Some op) × (ops_of done os ≡ Some rest) × (op ∷ rest ≡ ops)
+ops_parts : (done : List PlainEvent) (o : CutOp) (os : List CutOp) (ops : List FileOp) → ops_of done (o ∷ os) ≡ Some ops → (op : FileOp) × (rest : List FileOp) × (op_of done o ≡ Some op) × (ops_of done os ≡ Some rest) × (op ∷ rest ≡ ops)
 ops_parts done o os ops h = go (op_of done o) refl (ops_of done os) refl h
   where
     go : (a : Option FileOp) → op_of done o ≡ a → (b : Option (List FileOp)) → ops_of done os ≡ b → option_and_then (λ op. option_map (λ rest. op ∷ rest) b) a ≡ Some ops → (op : FileOp) × (rest : List FileOp) × (op_of done o ≡ Some op) × (ops_of done os ≡ Some rest) × (op ∷ rest ≡ ops)
@@ -139,11 +139,11 @@ ops_parts done o os ops h = go (op_of done o) refl (ops_of done os) refl h
     go (Some op) x (Some rest) y z = (op, rest, x, y, cc)
 
 -- operations that change what the replay changes, and name known blobs
-abbrev OpsKnown : List PlainEvent → List RawOp → List FileOp → Type 0
+abbrev OpsKnown : List PlainEvent → List CutOp → List FileOp → Type 0
 OpsKnown done os ops = (changes_seen (shown done) ops ≡ map (change_of (marked_blobs done)) os) × AllByRecursion (λ b. b < length done + 1) (blobs_of ops)
 
 -- one operation more
-op_known : (done : List PlainEvent) → IsSoFar done → (o : RawOp) (op : FileOp) → op_of done o ≡ Some op → (os : List RawOp) (rest : List FileOp) → OpsKnown done os rest → OpsKnown done (o ∷ os) (op ∷ rest)
+op_known : (done : List PlainEvent) → IsSoFar done → (o : CutOp) (op : FileOp) → op_of done o ≡ Some op → (os : List CutOp) (rest : List FileOp) → OpsKnown done os rest → OpsKnown done (o ∷ os) (op ∷ rest)
 op_known done s (rawop.Delete path) op h os rest k = let is : Delete path ≡ op = cc in subst (λ (x : FileOp). OpsKnown done (rawop.Delete path ∷ os) (x ∷ rest)) is (λ i. Remove path ∷ k.0 i, k.1)
 op_known done s (rawop.Modify m path) op h os rest k = go (blob_marked done m) refl h
   where
@@ -159,7 +159,7 @@ op_known done s (rawop.Modify m path) op h os rest k = go (blob_marked done m) r
         )
 
 -- operations that are looked up are known
-ops_known : (done : List PlainEvent) → IsSoFar done → (os : List RawOp) (ops : List FileOp) → ops_of done os ≡ Some ops → OpsKnown done os ops
+ops_known : (done : List PlainEvent) → IsSoFar done → (os : List CutOp) (ops : List FileOp) → ops_of done os ≡ Some ops → OpsKnown done os ops
 ops_known done s [] ops h = let is : [] ≡ ops = cc in subst (OpsKnown done []) is (refl, tt)
 ops_known done s (o ∷ os) ops h =
     let p = ops_parts done o os ops h in
@@ -176,7 +176,7 @@ same_end cs (Some t) = go (change_all cs t)
     go (Ok t) = refl
     go (Err e) = refl
 
-module _ (done : List PlainEvent) (s : IsSoFar done) (m : ℕ) (branch : Bytes) (author : Option Signed) (committer : Signed) (comment : Bytes) (origin : Option ℕ) (os : List RawOp) (parents : List ℕ) (ops : List FileOp) (fresh : is_marked done m ≡ false) (begins : parents_of done branch origin ≡ Some parents) (known : ops_of done os ≡ Some ops) where
+module _ (done : List PlainEvent) (s : IsSoFar done) (m : ℕ) (branch : Bytes) (author : Option Signed) (committer : Signed) (comment : Bytes) (origin : Option ℕ) (os : List CutOp) (parents : List ℕ) (ops : List FileOp) (fresh : is_marked done m ≡ false) (begins : parents_of done branch origin ≡ Some parents) (known : ops_of done os ≡ Some ops) where
   -- the event
   abbrev the_commit : PlainEvent
   the_commit = Commit (length done + 1) m branch (unwrap_or author committer) committer None comment parents ops

@@ -2,7 +2,9 @@
 use Rattle.std.proofs.Common.{◌≡◌, [], ◌∷◌, map, refl, Some, None}
 use Rattle.std.specs.Fmt.{digits}
 use Rattle.plain_model.specs.Histories.{tree}
-use Rattle.plain_model.specs.Reading.{cut_at, line_at, behind, number_of, number_within, mark_of, mark_at, data_at, name_of, zone_of, when_of, person_parts, signed_of, path_of, modify_of, delete_of, op_of, ops_from, ops_at, name_in, author_at, committer_at, from_at, blob_at, commit_at, raw_at, step_at, read_from, read_of}
+use Rattle.plain_model.specs.Parts.{when_behind, cut_at, line_at, behind, number_of, number_within, mark_of, name_of, zone_of, when_of, person_parts}
+use Rattle.plain_model.specs.Fields.{person_in}
+use Rattle.plain_model.specs.Reading.{mark_at, data_at, signed_of, path_of, modify_of, delete_of, op_of, ops_from, ops_at, name_in, author_at, committer_at, from_at, blob_at, commit_at, raw_at, step_at, read_from, read_of}
 use Rattle.plain_model.specs.Replay.{replay}
 use Rattle.plain_model.specs.Snapshots.{snapshot}
 use Rattle.plain_model.specs.Streams.{event_of, history_after, history}
@@ -23,7 +25,7 @@ trees_of_moves = refl
 
 -- bytes to a history
 pub is_read : read_of stream_read ≡ Some stream_history
-unfolding read_of read_from step_at raw_at commit_at blob_at from_at committer_at author_at name_in ops_at ops_from op_of delete_of modify_of path_of signed_of person_parts when_of zone_of name_of data_at mark_at mark_of number_within number_of behind line_at cut_at event_of
+unfolding person_in when_behind read_of read_from step_at raw_at commit_at blob_at from_at committer_at author_at name_in ops_at ops_from op_of delete_of modify_of path_of signed_of person_parts when_of zone_of name_of data_at mark_at mark_of number_within number_of behind line_at cut_at event_of
 is_read = refl
 
 -- events as they are spelled to a history

@@ -7,7 +7,7 @@ use Rattle.plain_model.specs.declared.operation.FileOp.TheVariants.{Modify, Dele
 use Rattle.plain_model.specs.declared.person.Signed.{Signed}
 use Rattle.plain_model.specs.declared.event.PlainEvent.{PlainEvent}
 use Rattle.plain_model.specs.declared.event.PlainEvent.TheVariants.{Blob, Commit, Reset}
-use Rattle.plain_model.specs.declared.raw.RawOp.TheVariants as rawop
+use Rattle.plain_model.specs.declared.raw.CutOp.TheVariants as rawop
 use Rattle.plain_model.specs.declared.raw.RawEvent.{RawEvent}
 use Rattle.plain_model.specs.declared.raw.RawEvent.TheVariants as raw
 use Rattle.plain_model.specs.Paths.{Bytes}

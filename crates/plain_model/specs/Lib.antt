@@ -1,10 +1,13 @@
 pub mod Faults
+pub mod Fields
 pub mod Files
 pub mod Histories
+pub mod Lookups
 pub mod Marks
 pub mod Names
 pub mod Numbers
 pub mod Objects
+pub mod Parts
 pub mod Paths
 pub mod People
 pub mod Reading

@@ -1,87 +1,26 @@
 -- The reading of a stream of the first cut as a function, field by field from the front of a text. It stands
 -- below the relation of Spelling: the two agree, as the laws say.
-use Rattle.std.specs.Prelude.{ℕ, zero, suc, ◌+◌, ◌-◌, ◌*◌, ◌==◌, ◌&&◌, ◌||◌, nat_le, nat_eq, Bool, List, [], ◌∷◌, ◌++◌, length, take, drop, get_or, is_some, Option, Some, None, codes, if◌then◌else◌}
-use Rattle.std.specs.List.{position}
+use Rattle.std.specs.Prelude.{ℕ, zero, suc, ◌==◌, ◌||◌, nat_eq, Bool, List, [], ◌∷◌, ◌++◌, length, take, drop, get_or, is_some, Option, Some, None, Result, Ok, Err, codes, if◌then◌else◌}
 use Rattle.std.specs.Cmp.Lexicographic.{pointwise}
-use Rattle.plain_model.specs.declared.limit.TheConstants.{MAX_MARK, MAX_SECONDS}
+use Rattle.plain_model.specs.declared.fault.Why.{Why}
 use Rattle.plain_model.specs.declared.person.Signed.{Signed}
-use Rattle.plain_model.specs.declared.person.When.{When}
 use Rattle.plain_model.specs.declared.path.PathFault.{PathFault}
 use Rattle.plain_model.specs.declared.event.PlainEvent.{PlainEvent}
-use Rattle.plain_model.specs.declared.raw.RawOp.{RawOp}
-use Rattle.plain_model.specs.declared.raw.RawOp.TheVariants as rawop
+use Rattle.plain_model.specs.declared.raw.CutOp.{CutOp}
+use Rattle.plain_model.specs.declared.raw.CutOp.TheVariants as rawop
 use Rattle.plain_model.specs.declared.raw.RawEvent.{RawEvent}
 use Rattle.plain_model.specs.declared.raw.RawEvent.TheVariants as raw
-use Rattle.plain_model.specs.Marks.{as_mark}
 use Rattle.plain_model.specs.Names.{is_name}
-use Rattle.plain_model.specs.Numbers.{is_digit}
 use Rattle.plain_model.specs.Paths.{Bytes, is_empty, path_fault}
-use Rattle.plain_model.specs.People.{is_clean}
+use Rattle.plain_model.specs.Parts.{◌>>=◌, cut_at, line_at, behind, skip_lf, number_within, mark_of}
+use Rattle.plain_model.specs.Fields.{person_in}
 use Rattle.plain_model.specs.Streams.{event_of}
 
--- a step that may not be possible
-infixl 10 ◌>>=◌
-abbrev pub ◌>>=◌ : {A B : Type 0} → Option A → (A → Option B) → Option B
-(Some x) >>= f = f x
-None >>= f = None
-
--- ---- parts of a text
-
-abbrev pub cut_parts : Bytes → Option ℕ → Option (Bytes × Bytes)
-cut_parts text (Some i) = Some (take i text, drop (i + 1) text)
-cut_parts text None = None
-
--- what stands before the first such byte, and what stands behind it
-unfoldable pub cut_at : ℕ → Bytes → Option (Bytes × Bytes)
-cut_at byte text = cut_parts text (position (λ b. b == byte) text)
-
-abbrev pub is_lf : ℕ → Bool
-is_lf b = b == 10
-
-abbrev pub line_cut : Bytes → Option ℕ → Bytes × Bytes
-line_cut text (Some i) = (take i text, drop (i + 1) text)
-line_cut text None = (text, [])
-
--- the first line, and what follows it
-unfoldable pub line_at : Bytes → Option (Bytes × Bytes)
-line_at [] = None
-line_at (b ∷ bs) = Some (line_cut (b ∷ bs) (position is_lf (b ∷ bs)))
-
--- what stands behind a word
-unfoldable pub behind : Bytes → Bytes → Option Bytes
-behind word text = if pointwise nat_eq (take (length word) text) word then Some (drop (length word) text) else None
-
-abbrev pub skip_lf : Bytes → Bytes
-skip_lf [] = []
-skip_lf (b ∷ bs) = if b == 10 then bs else b ∷ bs
-
--- ---- numbers and marks
-
--- the number that digits say behind others, which say n
-abbrev pub value_from : ℕ → Bytes → Option ℕ
-value_from n [] = Some n
-value_from n (d ∷ ds) = if is_digit d then value_from (10 * n + (d - 48)) ds else None
-
-unfoldable pub number_of : Bytes → Option ℕ
-number_of [] = None
-number_of (d ∷ ds) = value_from 0 (d ∷ ds)
-
-abbrev pub at_most : ℕ → ℕ → Option ℕ
-at_most most n = if nat_le n most then Some n else None
-
--- the number that digits say, if it is no greater than one
-unfoldable pub number_within : ℕ → Bytes → Option ℕ
-number_within most digits = number_of digits >>= λ n. at_most most n
-
--- the mark that digits say
-unfoldable pub mark_of : Bytes → Option ℕ
-mark_of digits = number_within MAX_MARK digits >>= λ m. as_mark m
+-- ---- marks and data
 
 -- a line of a word and a mark
 unfoldable pub mark_at : Bytes → Bytes → Option (ℕ × Bytes)
 mark_at word text = line_at text >>= λ l. behind word l.0 >>= λ digits. mark_of digits >>= λ m. Some (m, l.1)
-
--- ---- data
 
 -- a line `data COUNT`, so many bytes, and an LF that may follow
 unfoldable pub data_at : Bytes → Option (Bytes × Bytes)
@@ -89,28 +28,13 @@ data_at text = line_at text >>= λ l. behind (codes "data ") l.0 >>= λ digits. 
 
 -- ---- people
 
--- the name before an email: nothing, or what stands before a last space
-unfoldable pub name_of : Bytes → Option Bytes
-name_of part = if is_empty part then Some [] else if get_or part (length part - 1) 0 == 32 then Some (take (length part - 1) part) else None
+abbrev pub if_ok : {A : Type 0} → Result A Why → Option A
+if_ok (Ok x) = Some x
+if_ok (Err why) = None
 
--- a sign and four digits behind seconds
-unfoldable pub zone_of : ℕ → Bytes → Option When
-zone_of seconds [] = None
-zone_of seconds (sign ∷ zone) =
-    if (sign == 43 || sign == 45) && (length zone == 4) then (number_within 9999 zone >>= λ offset. Some (record { seconds = seconds; minus = sign == 45; offset = offset })) else None
-
--- seconds, a sign and four digits
-unfoldable pub when_of : Bytes → Option When
-when_of text = cut_at 32 text >>= λ c. number_within MAX_SECONDS c.0 >>= λ seconds. zone_of seconds c.1
-
--- a name, an email and what follows the email
-unfoldable pub person_parts : Bytes → Option (Bytes × Bytes × Bytes)
-person_parts text = cut_at 60 text >>= λ a. cut_at 62 a.1 >>= λ b. name_of a.0 >>= λ name.
-    if is_clean name && is_clean b.0 then Some (name, b.0, b.1) else None
-
+-- who and when, if nothing is wrong with them
 unfoldable pub signed_of : Bytes → Option Signed
-signed_of text = person_parts text >>= λ p. behind (codes " ") p.2 >>= λ tail. when_of tail >>= λ when.
-    Some (record { person = record { name = p.0; email = p.1 }; when = when })
+signed_of text = if_ok (person_in text)
 
 -- ---- paths and operations
 
@@ -122,25 +46,25 @@ path_in text (Some f) = None
 unfoldable pub path_of : Bytes → Option Bytes
 path_of text = if get_or text 0 0 == 34 then None else path_in text (path_fault text)
 
-unfoldable pub modify_of : Bytes → Option RawOp
+unfoldable pub modify_of : Bytes → Option CutOp
 modify_of text = cut_at 32 text >>= λ c. mark_of c.0 >>= λ m. path_of c.1 >>= λ p. Some (rawop.Modify m p)
 
-unfoldable pub delete_of : Bytes → Option RawOp
+unfoldable pub delete_of : Bytes → Option CutOp
 delete_of text = path_of text >>= λ p. Some (rawop.Delete p)
 
-unfoldable pub op_of : Bytes → Option RawOp
+unfoldable pub op_of : Bytes → Option CutOp
 op_of line = if is_some (behind (codes "D ") line) then (behind (codes "D ") line >>= λ t. delete_of t) else (behind (codes "M 100644 :") line >>= λ t. modify_of t)
 
 abbrev pub starts_op : Bytes → Bool
 starts_op text = is_some (behind (codes "M ") text) || is_some (behind (codes "D ") text)
 
 -- the operations that follow others, in at most so many lines
-unfoldable pub ops_from : ℕ → List RawOp → Bytes → Option (List RawOp × Bytes)
+unfoldable pub ops_from : ℕ → List CutOp → Bytes → Option (List CutOp × Bytes)
 ops_from zero ops text = Some (ops, text)
 ops_from (suc n) ops text =
     if starts_op text then (line_at text >>= λ l. op_of l.0 >>= λ o. ops_from n (ops ++ o ∷ []) l.1) else Some (ops, text)
 
-unfoldable pub ops_at : Bytes → Option (List RawOp × Bytes)
+unfoldable pub ops_at : Bytes → Option (List CutOp × Bytes)
 ops_at text = ops_from (length text) [] text
 
 -- ---- events

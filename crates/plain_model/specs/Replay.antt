@@ -2,8 +2,8 @@
 -- knows no ids, no histories and no trees but the effect of an operation (git-fast-import, `from`, `M`, `D`).
 use Rattle.std.specs.Prelude.{◌≡◌, ℕ, ◌==◌, List, [], ◌∷◌, ◌++◌, map, Option, Some, None, Result, Ok, Err, option_and_then, option_to_list, unwrap_or, if◌then◌else◌}
 use Rattle.plain_model.specs.declared.operation.Mode.TheVariants.{Plain}
-use Rattle.plain_model.specs.declared.raw.RawOp.{RawOp}
-use Rattle.plain_model.specs.declared.raw.RawOp.TheVariants as rawop
+use Rattle.plain_model.specs.declared.raw.CutOp.{CutOp}
+use Rattle.plain_model.specs.declared.raw.CutOp.TheVariants as rawop
 use Rattle.plain_model.specs.declared.raw.RawEvent.{RawEvent}
 use Rattle.plain_model.specs.declared.raw.RawEvent.TheVariants as raw
 use Rattle.plain_model.specs.declared.event.PlainEvent.{PlainEvent}
@@ -30,7 +30,7 @@ abbrev pub map_at : List ShownCommit → ℕ → Option (TreeOf Shown)
 map_at [] m = None
 map_at (c ∷ cs) m = if c.mark == m then c.tree else map_at cs m
 
-abbrev pub change_of : List (ℕ × Bytes) → RawOp → Change Shown
+abbrev pub change_of : List (ℕ × Bytes) → CutOp → Change Shown
 change_of blobs (rawop.Modify m path) = Put (record { mode = Plain; content = ShownBytes (unwrap_or (bytes_at blobs m) []) }) path
 change_of blobs (rawop.Delete path) = Remove path
 

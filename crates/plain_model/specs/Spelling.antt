@@ -1,11 +1,10 @@
 -- How a stream of the first cut is spelled, case by case (git-fast-import, "Input format"). The cut has blobs
 -- and commits with marks, counted data, `M 100644` and `D` with unquoted paths, and no other line.
-use Rattle.std.specs.Prelude.{◌≡◌, ◌≢◌, ◌⊎◌, ℕ, ◌≤◌, Bool, true, false, not, ◌&&◌, ◌||◌, ◌==◌, List, [], ◌∷◌, ◌++◌, length, codes, Option, Some, None, IsTrue, IsFalse}
-use Rattle.std.specs.List.{list_all}
+use Rattle.std.specs.Prelude.{◌≡◌, ◌≢◌, ◌⊎◌, ℕ, ◌≤◌, Bool, ◌||◌, List, [], ◌∷◌, ◌++◌, length, codes, Option, Some, None, IsTrue, IsFalse}
 use Rattle.plain_model.specs.declared.person.Signed.{Signed}
 use Rattle.plain_model.specs.declared.event.PlainEvent.{PlainEvent}
-use Rattle.plain_model.specs.declared.raw.RawOp.{RawOp}
-use Rattle.plain_model.specs.declared.raw.RawOp.TheVariants as rawop
+use Rattle.plain_model.specs.declared.raw.CutOp.{CutOp}
+use Rattle.plain_model.specs.declared.raw.CutOp.TheVariants as rawop
 use Rattle.plain_model.specs.declared.raw.RawEvent.{RawEvent}
 use Rattle.plain_model.specs.declared.raw.RawEvent.TheVariants as raw
 use Rattle.plain_model.specs.Marks.{IsMark}
@@ -13,22 +12,14 @@ use Rattle.plain_model.specs.Names.{is_name}
 use Rattle.plain_model.specs.Numbers.{IsNumeral}
 use Rattle.plain_model.specs.Paths.{Bytes, IsPath}
 use Rattle.plain_model.specs.People.{IsSigned}
+pub use Rattle.plain_model.specs.Parts.{begins, has_no_lf}
 use Rattle.plain_model.specs.Streams.{history}
 
 -- ---- lines
 
-abbrev pub has_no_lf : Bytes → Bool
-has_no_lf line = list_all (λ b. not (b == 10)) line
-
 -- A text begins with a line: an LF ends it, or the text does. What follows is the rest.
 abbrev pub IsLine : Bytes → Bytes → Bytes → Type 0
 IsLine text line rest = IsTrue (has_no_lf line) × ((text ≡ line ++ 10 ∷ rest) ⊎ ((text ≡ line) × (rest ≡ []) × (1 ≤ length line)))
-
--- the text begins with the word
-abbrev pub begins : Bytes → Bytes → Bool
-begins [] text = true
-begins (w ∷ word) [] = false
-begins (w ∷ word) (b ∷ text) = (w == b) && begins word text
 
 -- one LF is passed over, if it stands there
 abbrev pub PassesLf : Bytes → Bytes → Type 0
@@ -66,7 +57,7 @@ IsLastPath text path = (text ≡ path) × IsPath path × IsFalse (begins (codes 
 
 -- ---- operations
 
-abbrev pub IsOp : Bytes → RawOp → Type 0
+abbrev pub IsOp : Bytes → CutOp → Type 0
 IsOp line (rawop.Modify mark path) =
     (digits last : Bytes) × (line ≡ codes "M 100644 :" ++ (digits ++ 32 ∷ last)) × IsNumeral digits mark × IsMark mark × IsLastPath last path
 IsOp line (rawop.Delete path) = (last : Bytes) × (line ≡ codes "D " ++ last) × IsLastPath last path
@@ -76,7 +67,7 @@ abbrev pub begins_op : Bytes → Bool
 begins_op text = begins (codes "M ") text || begins (codes "D ") text
 
 -- operations, a line each, up to a line that begins none
-abbrev pub AreOps : Bytes → List RawOp → Bytes → Type 0
+abbrev pub AreOps : Bytes → List CutOp → Bytes → Type 0
 AreOps text [] rest = IsFalse (begins_op text) × (rest ≡ text)
 AreOps text (op ∷ ops) rest = (line behind : Bytes) × IsLine text line behind × IsTrue (begins_op text) × IsOp line op × AreOps behind ops rest
 
@@ -92,7 +83,7 @@ IsFrom text None rest = IsFalse (begins (codes "from :") text) × (rest ≡ text
 IsFrom text (Some mark) rest = IsMarkLine (codes "from") text mark rest
 
 -- the lines of a commit, each with what follows it
-pub record IsCommit (text branch : Bytes) (mark : ℕ) (author : Option Signed) (committer : Signed) (comment : Bytes) (from : Option ℕ) (ops : List RawOp) (rest : Bytes) : Type 0 where
+pub record IsCommit (text branch : Bytes) (mark : ℕ) (author : Option Signed) (committer : Signed) (comment : Bytes) (from : Option ℕ) (ops : List CutOp) (rest : Bytes) : Type 0 where
   pub after_head : Bytes
   pub after_mark : Bytes
   pub after_author : Bytes

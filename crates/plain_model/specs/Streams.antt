@@ -7,8 +7,8 @@ use Rattle.plain_model.specs.declared.operation.FileOp.{FileOp}
 use Rattle.plain_model.specs.declared.operation.FileOp.TheVariants.{Modify, Delete}
 use Rattle.plain_model.specs.declared.event.PlainEvent.{PlainEvent}
 use Rattle.plain_model.specs.declared.event.PlainEvent.TheVariants.{Blob, Commit, Tag, Reset, Pass}
-use Rattle.plain_model.specs.declared.raw.RawOp.{RawOp}
-use Rattle.plain_model.specs.declared.raw.RawOp.TheVariants as rawop
+use Rattle.plain_model.specs.declared.raw.CutOp.{CutOp}
+use Rattle.plain_model.specs.declared.raw.CutOp.TheVariants as rawop
 use Rattle.plain_model.specs.declared.raw.RawEvent.{RawEvent}
 use Rattle.plain_model.specs.declared.raw.RawEvent.TheVariants as raw
 use Rattle.plain_model.specs.Paths.{Bytes}
@@ -47,11 +47,11 @@ abbrev pub parents_of : List PlainEvent → Bytes → Option ℕ → Option (Lis
 parents_of events branch (Some m) = option_map (λ c. c ∷ []) (commit_marked events m)
 parents_of events branch None = Some (option_to_list (at (refs events) branch))
 
-abbrev pub op_of : List PlainEvent → RawOp → Option FileOp
+abbrev pub op_of : List PlainEvent → CutOp → Option FileOp
 op_of events (rawop.Modify m path) = option_map (λ b. Modify Plain (OfBlob b) path) (blob_marked events m)
 op_of events (rawop.Delete path) = Some (Delete path)
 
-abbrev pub ops_of : List PlainEvent → List RawOp → Option (List FileOp)
+abbrev pub ops_of : List PlainEvent → List CutOp → Option (List FileOp)
 ops_of events [] = Some []
 ops_of events (o ∷ os) = option_and_then (λ op. option_map (λ ops. op ∷ ops) (ops_of events os)) (op_of events o)
 

@@ -7,6 +7,12 @@ use Rattle.plain_model.specs.declared.operation.Content.{Content}
 use Rattle.plain_model.specs.declared.operation.Content.TheVariants.{Blob as OfBlob, Object}
 use Rattle.plain_model.specs.declared.operation.FileOp.{FileOp}
 use Rattle.plain_model.specs.declared.operation.FileOp.TheVariants.{Modify, Delete, Copy, Rename, DeleteAll}
+use Rattle.plain_model.specs.declared.raw.Place.{Place}
+use Rattle.plain_model.specs.declared.raw.Place.TheVariants.{Last, Source}
+use Rattle.plain_model.specs.declared.raw.RawContent.{RawContent}
+use Rattle.plain_model.specs.declared.raw.RawContent.TheVariants as spelled
+use Rattle.plain_model.specs.declared.raw.RawOp.{RawOp}
+use Rattle.plain_model.specs.declared.raw.RawOp.TheVariants as rawop
 use Rattle.plain_model.specs.declared.person.Signed.{Signed}
 use Rattle.plain_model.specs.declared.event.PlainEvent.{PlainEvent}
 use Rattle.plain_model.specs.declared.event.PlainEvent.TheVariants.{Blob, Commit, Tag, Reset, Pass}
@@ -60,6 +66,25 @@ last_path p = if begins_quoted p || list_any (λ b. b == LF) p then quoted p els
 abbrev pub source_path : Bytes → Bytes
 source_path p = if begins_quoted p || list_any (λ b. (b == LF) || (b == 32)) p then quoted p else p
 
+abbrev pub path_text : Place → Bytes → Bytes
+path_text Last path = last_path path
+path_text Source path = source_path path
+
+-- ---- operations
+
+abbrev pub raw_content_text : RawContent → Bytes
+raw_content_text (spelled.Marked mark) = marked mark
+raw_content_text (spelled.Object digits) = digits
+raw_content_text spelled.Inline = codes "inline"
+
+-- an operation as it is spelled, without the end of its line
+abbrev pub raw_op_text : RawOp → Bytes
+raw_op_text (rawop.Modify mode content path) = codes "M " ++ mode_text mode ++ codes " " ++ raw_content_text content ++ codes " " ++ last_path path
+raw_op_text (rawop.Delete path) = codes "D " ++ last_path path
+raw_op_text (rawop.Copy source target) = codes "C " ++ source_path source ++ codes " " ++ last_path target
+raw_op_text (rawop.Rename source target) = codes "R " ++ source_path source ++ codes " " ++ last_path target
+raw_op_text rawop.DeleteAll = codes "deleteall"
+
 -- ---- events
 
 module _ (whole : List PlainEvent) where
@@ -71,16 +96,20 @@ module _ (whole : List PlainEvent) where
   blob_mark_in (Reset id branch target ∷ events) b = blob_mark_in events b
   blob_mark_in (Pass id bytes ∷ events) b = blob_mark_in events b
 
-  abbrev pub content_text : Content → Bytes
-  content_text (OfBlob b) = marked (blob_mark_in whole b)
-  content_text (Object digits) = digits
+  -- a blob's mark in place of its id
+  abbrev pub raw_content : Content → RawContent
+  raw_content (OfBlob b) = spelled.Marked (blob_mark_in whole b)
+  raw_content (Object digits) = spelled.Object digits
+
+  abbrev pub raw_op : FileOp → RawOp
+  raw_op (Modify mode content path) = rawop.Modify mode (raw_content content) path
+  raw_op (Delete path) = rawop.Delete path
+  raw_op (Copy source target) = rawop.Copy source target
+  raw_op (Rename source target) = rawop.Rename source target
+  raw_op DeleteAll = rawop.DeleteAll
 
   abbrev pub op_text : FileOp → Bytes
-  op_text (Modify mode content path) = line (codes "M " ++ mode_text mode ++ codes " " ++ content_text content ++ codes " " ++ last_path path)
-  op_text (Delete path) = line (codes "D " ++ last_path path)
-  op_text (Copy source target) = line (codes "C " ++ source_path source ++ codes " " ++ last_path target)
-  op_text (Rename source target) = line (codes "R " ++ source_path source ++ codes " " ++ last_path target)
-  op_text DeleteAll = line (codes "deleteall")
+  op_text op = line (raw_op_text (raw_op op))
 
   abbrev pub parents_text : List ℕ → Bytes
   parents_text [] = []

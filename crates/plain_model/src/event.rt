@@ -1,7 +1,7 @@
 //! Events of a history.
 ghost use Rattle.std.specs.Prelude.{◌≡◌, IfOk};
 
-use crate::id::{BlobId, CommitId, PassId, ResetId, TagId};
+use crate::id::{AnyId, BlobId, CommitId, PassId, ResetId, TagId};
 use crate::list::{Copied, Items, NoMemory, Text};
 use crate::mark::Mark;
 use crate::operation::OpList;
@@ -55,6 +55,23 @@ pub enum PlainEvent {
 
 /// A history: events, each behind those that it refers to.
 pub type EventList = Items<PlainEvent>;
+
+impl PlainEvent {
+    ghost use Rattle.plain_model.specs.Lookups.{id_of};
+
+    /// The event's id, with its kind.
+    pub fn id(&self) -> AnyId
+        ensures { result ≡ id_of self.now }
+    {
+        match self {
+            PlainEvent::Blob { id, .. } => AnyId::Blob(*id),
+            PlainEvent::Commit { id, .. } => AnyId::Commit(*id),
+            PlainEvent::Tag { id, .. } => AnyId::Tag(*id),
+            PlainEvent::Reset { id, .. } => AnyId::Reset(*id),
+            PlainEvent::Pass { id, .. } => AnyId::Pass(*id),
+        }
+    }
+}
 
 impl Copied for PlainEvent {
     fn copied(&self, alloc: Global) -> Result<PlainEvent, NoMemory> {

@@ -6,7 +6,7 @@ use std::alloc::Global;
 use std::marker::Model;
 
 /// The id of a blob.
-#[derive(Clone, Copy, Debug, PartialEq, Eq)]
+#[derive(Clone, Copy, Debug, PartialEq, Eq, Hash)]
 pub struct BlobId {
     number: u64,
 }
@@ -42,7 +42,7 @@ impl Copied for BlobId {
 }
 
 /// The id of a commit.
-#[derive(Clone, Copy, Debug, PartialEq, Eq)]
+#[derive(Clone, Copy, Debug, PartialEq, Eq, Hash)]
 pub struct CommitId {
     number: u64,
 }
@@ -78,7 +78,7 @@ impl Copied for CommitId {
 }
 
 /// The id of a tag.
-#[derive(Clone, Copy, Debug, PartialEq, Eq)]
+#[derive(Clone, Copy, Debug, PartialEq, Eq, Hash)]
 pub struct TagId {
     number: u64,
 }
@@ -114,7 +114,7 @@ impl Copied for TagId {
 }
 
 /// The id of a reset.
-#[derive(Clone, Copy, Debug, PartialEq, Eq)]
+#[derive(Clone, Copy, Debug, PartialEq, Eq, Hash)]
 pub struct ResetId {
     number: u64,
 }
@@ -150,7 +150,7 @@ impl Copied for ResetId {
 }
 
 /// The id of a passthrough.
-#[derive(Clone, Copy, Debug, PartialEq, Eq)]
+#[derive(Clone, Copy, Debug, PartialEq, Eq, Hash)]
 pub struct PassId {
     number: u64,
 }
@@ -186,7 +186,7 @@ impl Copied for PassId {
 }
 
 /// The id of an event of any kind.
-#[derive(Clone, Copy, Debug, PartialEq, Eq)]
+#[derive(Clone, Copy, Debug, PartialEq, Eq, Hash)]
 pub enum AnyId {
     Blob(BlobId),
     Commit(CommitId),

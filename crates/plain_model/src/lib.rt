@@ -13,6 +13,7 @@ mod path;
 mod person;
 mod raw;
 mod status;
+mod steps;
 
 pub use event::{EventList, ParentList, PlainEvent};
 pub use fault::{Fault, Halt, Which, Why};
@@ -26,11 +27,12 @@ pub use limit::{
 pub use list::{Copied, Items, NoMemory, NumberList, Text};
 pub use mark::Mark;
 pub use object::ObjectId;
-pub use operation::{Content, Entry, FileOp, Mode, OpList};
+pub use operation::{Content, Entry, EntryList, FileOp, Mode, OpList};
 pub use path::{Path, PathFault};
 pub use person::{Person, Signed, When};
-pub use raw::{RawEvent, RawList, RawOp, RawOpList};
+pub use raw::{CutOp, CutOpList, Place, RawContent, RawEvent, RawList, RawOp};
 pub use status::Status;
+pub use steps::Steps;
 
 #[cfg(test)]
 mod tests;

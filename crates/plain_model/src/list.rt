@@ -1,5 +1,5 @@
 //! One list type for all lists that contracts speak of; they see it as the plain list of its items.
-ghost use Rattle.std.specs.Prelude.{◌≡◌, [], ◌∷◌, ◌++◌, OnOk, OnErr, IfOk};
+ghost use Rattle.std.specs.Prelude.{◌≡◌, [], ◌∷◌, ◌++◌, take, OnOk, OnErr, IfOk};
 ghost use Rattle.std.specs.Fmt.{decimal};
 ghost use Rattle.plain_model.specs.declared.list.NoMemory.{NoMemory};
 
@@ -50,6 +50,14 @@ impl<T: Copied> Copied for Option<T> {
     }
 }
 
+impl<A: Copied + Drop, B: Copied> Copied for (A, B) {
+    fn copied(&self, alloc: Global) -> Result<(A, B), NoMemory> {
+        let first = self.0.copied(alloc)?;
+        let second = self.1.copied(alloc)?;
+        Ok((first, second))
+    }
+}
+
 /// A list that keeps its allocator, so that its methods take none.
 #[derive(Drop)]
 pub struct Items<T> {
@@ -94,6 +102,13 @@ impl<T> Items<T> {
     {
         self.items.as_slice()
     }
+
+    /// The items themselves, taken out of the list.
+    pub fn into_items(self) -> Vec<T>
+        ensures { result.items ≡ self }
+    {
+        self.items
+    }
 }
 
 impl<T: Drop> Items<T> {
@@ -113,6 +128,24 @@ impl<T: Drop> Items<T> {
     {
         self.items.insert(0, item)?;
         Ok(())
+    }
+}
+
+impl<T> Items<T> {
+    /// The empty list over the same allocator. It takes no memory.
+    pub fn empty_like(&self) -> Items<T>
+        ensures { result ≡ [] }
+    {
+        Items::empty(self.alloc)
+    }
+}
+
+impl<T: Drop> Items<T> {
+    /// Takes away what stands behind so many items.
+    pub fn truncate(&mut self, len: usize)
+        ensures { self.new ≡ take len self.old }
+    {
+        self.items.truncate(len);
     }
 }
 

@@ -55,6 +55,15 @@ pub enum FileOp {
 /// The operations of a commit, in order.
 pub type OpList = Items<FileOp>;
 
+/// Paths, each with what stands there.
+pub type EntryList = Items<(Path, Entry)>;
+
+impl Copied for Entry {
+    fn copied(&self, _alloc: Global) -> Result<Entry, NoMemory> {
+        Ok(*self)
+    }
+}
+
 impl Copied for FileOp {
     fn copied(&self, alloc: Global) -> Result<FileOp, NoMemory> {
         match self {

@@ -18,7 +18,7 @@ use Rattle.plain_model.specs.Text.{line, marked, parents_text, reset_text, event
 use Rattle.stream_laws.proofs.Events.{event_takes}
 use Rattle.stream_laws.proofs.Histories.{history_goes_on, history_went_on}
 use Rattle.stream_laws.proofs.LookedUp.{ArePlaced, IsFound, IsSoFar, all_at, blob_so_far, commit_again, commit_so_far, none_done, refs_append}
-use Rattle.stream_laws.proofs.Written.{mark_written}
+use Rattle.field_laws.proofs.Written.{mark_written}
 use Rattle.stream_laws.proofs.Fits.{EventFits, event_fits}
 use Rattle.stream_laws.proofs.WrittenEvents.{blob_written, commit_written, ops_written}
 

@@ -6,18 +6,19 @@ use Rattle.std.proofs.lemmas.Bool.{cond-true, cond-false}
 use Rattle.std.proofs.lemmas.List.{take-append-drop, length-take-le}
 use Rattle.std.proofs.lemmas.Option.{same_Some, cond_some}
 use Rattle.plain_model.specs.declared.person.Signed.{Signed}
-use Rattle.plain_model.specs.declared.raw.RawOp.{RawOp}
+use Rattle.plain_model.specs.declared.raw.CutOp.{CutOp}
 use Rattle.plain_model.specs.declared.raw.RawEvent.{RawEvent}
 use Rattle.plain_model.specs.declared.raw.RawEvent.TheVariants as raw
 use Rattle.plain_model.specs.Names.{is_name}
 use Rattle.plain_model.specs.Paths.{Bytes}
 use Rattle.plain_model.specs.Numbers.{IsNumeral}
 use Rattle.plain_model.specs.Spelling.{IsLine, IsData, IsSignedLine, IsAuthor, IsFrom, IsBlob, IsCommit, IsEvent}
-use Rattle.plain_model.specs.Reading.{◌>>=◌, behind, line_at, number_within, skip_lf, mark_at, data_at, name_in, author_at, committer_at, from_at, ops_at, blob_at, commit_at, raw_at}
-use Rattle.stream_laws.proofs.Steps.{bind_some, some_then}
-use Rattle.stream_laws.proofs.Lines.{line_is, line_read, line_takes, word_line_is, behind_read, is_some-behind, line_begins, passes_is, passes_read, passes_within}
-use Rattle.stream_laws.proofs.Numerals.{within_is, within_read, mark_line_is, mark_line_read, mark_line_takes}
-use Rattle.stream_laws.proofs.Persons.{signed_line_at, signed_line_is, signed_line_read, signed_line_takes}
+use Rattle.plain_model.specs.Parts.{◌>>=◌, behind, line_at, number_within, skip_lf}
+use Rattle.plain_model.specs.Reading.{mark_at, data_at, name_in, author_at, committer_at, from_at, ops_at, blob_at, commit_at, raw_at}
+use Rattle.field_laws.proofs.Steps.{bind_some, some_then}
+use Rattle.field_laws.proofs.Lines.{line_is, line_read, line_takes, word_line_is, behind_read, is_some-behind, line_begins, passes_is, passes_read, passes_within}
+use Rattle.field_laws.proofs.Numerals.{within_is, within_read, mark_line_is, mark_line_read, mark_line_takes}
+use Rattle.field_laws.proofs.Persons.{signed_line_at, signed_line_is, signed_line_read, signed_line_takes}
 use Rattle.stream_laws.proofs.Operations.{ops_are, ops_read, ops_within}
 
 -- ---- data
@@ -151,7 +152,7 @@ blob_read text mark bytes rest h =
 
 -- the steps of a commit, each with those behind it
 module _ (branch : Bytes) where
-  abbrev from_ops : ℕ → Option Signed → Signed → Bytes → Option ℕ → List RawOp × Bytes → Option (RawEvent × Bytes)
+  abbrev from_ops : ℕ → Option Signed → Signed → Bytes → Option ℕ → List CutOp × Bytes → Option (RawEvent × Bytes)
   from_ops mark author committer comment from o = Some (raw.Commit branch mark author committer comment from o.0, skip_lf o.1)
 
   abbrev from_from : ℕ → Option Signed → Signed → Bytes → Option ℕ × Bytes → Option (RawEvent × Bytes)
@@ -211,7 +212,7 @@ commit_is text name after x head e =
     } in
     subst (λ (p : RawEvent × Bytes). IsEvent text p.0 p.1) (same_Some {A = RawEvent × Bytes} (raw.Commit b.0 m.0.0 a.0.0 c.0.0 d.0.0 f.0.0 o.0.0, skip_lf o.0.1) x o.2) own
 
-commit_read : (text branch : Bytes) (mark : ℕ) (author : Option Signed) (committer : Signed) (comment : Bytes) (from : Option ℕ) (ops : List RawOp) (rest : Bytes)
+commit_read : (text branch : Bytes) (mark : ℕ) (author : Option Signed) (committer : Signed) (comment : Bytes) (from : Option ℕ) (ops : List CutOp) (rest : Bytes)
     (h : IsCommit text branch mark author committer comment from ops rest) → commit_at branch h.after_head ≡ Some (raw.Commit branch mark author committer comment from ops, rest)
 unfolding commit_at
 commit_read text branch mark author committer comment from ops rest h =

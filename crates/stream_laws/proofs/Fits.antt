@@ -4,8 +4,8 @@ use Rattle.std.specs.Prelude.{IsTrue}
 use Rattle.std.specs.List.{AllByRecursion}
 use Rattle.std.proofs.lemmas.Option.{same_Some, none-some}
 use Rattle.plain_model.specs.declared.person.Signed.{Signed}
-use Rattle.plain_model.specs.declared.raw.RawOp.{RawOp}
-use Rattle.plain_model.specs.declared.raw.RawOp.TheVariants as rawop
+use Rattle.plain_model.specs.declared.raw.CutOp.{CutOp}
+use Rattle.plain_model.specs.declared.raw.CutOp.TheVariants as rawop
 use Rattle.plain_model.specs.declared.raw.RawEvent.{RawEvent}
 use Rattle.plain_model.specs.declared.raw.RawEvent.TheVariants as raw
 use Rattle.plain_model.specs.Marks.{IsMark}
@@ -13,21 +13,21 @@ use Rattle.plain_model.specs.Names.{is_name}
 use Rattle.plain_model.specs.Paths.{Bytes}
 use Rattle.plain_model.specs.People.{IsNamePart}
 use Rattle.plain_model.specs.Spelling.{has_no_lf, IsData, IsSignedLine, IsLastPath, IsOp, AreOps, IsAuthor, IsFrom, IsEvent}
-use Rattle.stream_laws.proofs.Lines.{line_takes}
-use Rattle.stream_laws.proofs.Numerals.{mark_line_takes}
-use Rattle.stream_laws.proofs.Persons.{four_digits, signed_line_takes}
+use Rattle.field_laws.proofs.Lines.{line_takes}
+use Rattle.field_laws.proofs.Numerals.{mark_line_takes}
+use Rattle.field_laws.proofs.Persons.{four_digits, signed_line_takes}
 use Rattle.stream_laws.proofs.Events.{author_within}
-use Rattle.stream_laws.proofs.Written.{SignedFits, PathFits, plain_parts}
+use Rattle.field_laws.proofs.Written.{SignedFits, PathFits, plain_parts}
 
 -- ---- what fits
 
 -- the fields of an operation can be written
-abbrev pub OpFits : RawOp → Type 0
+abbrev pub OpFits : CutOp → Type 0
 OpFits (rawop.Modify mark path) = IsMark mark × PathFits path
 OpFits (rawop.Delete path) = PathFits path
 
 -- the fields of a commit can be written
-pub record CommitFits (branch : Bytes) (mark : ℕ) (author : Option Signed) (committer : Signed) (comment : Bytes) (from : Option ℕ) (ops : List RawOp) : Type 0 where
+pub record CommitFits (branch : Bytes) (mark : ℕ) (author : Option Signed) (committer : Signed) (comment : Bytes) (from : Option ℕ) (ops : List CutOp) : Type 0 where
   pub named : IsTrue (is_name branch)
   pub is_mark : IsMark mark
   pub written_by : SignedFits (unwrap_or author committer)
@@ -77,12 +77,12 @@ path_fits : (last path : Bytes) → IsLastPath last path → has_no_lf last ≡ 
 path_fits last path h plain = record { is_path = h.1; unquoted = h.2; plain = sym (ap has_no_lf h.0) ∙ plain }
 
 -- an operation of a line
-op_fits : (line : Bytes) (op : RawOp) → has_no_lf line ≡ true → IsOp line op → OpFits op
+op_fits : (line : Bytes) (op : CutOp) → has_no_lf line ≡ true → IsOp line op → OpFits op
 op_fits line (rawop.Modify mark path) plain (digits, last, is, numeral, is_mark, is_path) = (is_mark, path_fits last path is_path (plain_parts digits (32 ∷ last) (sym (ap has_no_lf is) ∙ plain)).1)
 op_fits line (rawop.Delete path) plain (last, is, is_path) = path_fits last path is_path (sym (ap has_no_lf is) ∙ plain)
 
 -- all operations of a commit
-ops_fit : (text : Bytes) (ops : List RawOp) (rest : Bytes) → AreOps text ops rest → AllByRecursion OpFits ops
+ops_fit : (text : Bytes) (ops : List CutOp) (rest : Bytes) → AreOps text ops rest → AllByRecursion OpFits ops
 ops_fit text [] rest h = tt
 ops_fit text (op ∷ ops) rest (line, behind, is_line, starts, is_op, more) = (op_fits line op is_line.0 is_op, ops_fit behind ops rest more)
 

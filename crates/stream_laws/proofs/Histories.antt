@@ -8,8 +8,9 @@ use Rattle.plain_model.specs.declared.raw.RawEvent.{RawEvent}
 use Rattle.plain_model.specs.Paths.{Bytes, is_empty}
 use Rattle.plain_model.specs.Streams.{event_of, history_after}
 use Rattle.plain_model.specs.Spelling.{IsEvent, Spells, Reads}
-use Rattle.plain_model.specs.Reading.{◌>>=◌, raw_at, step_at, read_from, read_of}
-use Rattle.stream_laws.proofs.Steps.{bind_some, some_then}
+use Rattle.plain_model.specs.Parts.{◌>>=◌}
+use Rattle.plain_model.specs.Reading.{raw_at, step_at, read_from, read_of}
+use Rattle.field_laws.proofs.Steps.{bind_some, some_then}
 use Rattle.stream_laws.proofs.Events.{event_is, event_read, event_takes}
 
 empty_is : (text : Bytes) → is_empty text ≡ true → text ≡ []

@@ -1,12 +1,7 @@
-pub mod Steps
-pub mod Lines
-pub mod Numerals
-pub mod Persons
 pub mod Operations
 pub mod Events
 pub mod Histories
 pub mod LookedUp
-pub mod Written
 pub mod Fits
 pub mod WrittenEvents
 pub mod Again

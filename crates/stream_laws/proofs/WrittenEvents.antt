@@ -10,8 +10,8 @@ use Rattle.plain_model.specs.declared.operation.FileOp.TheVariants.{Modify, Dele
 use Rattle.plain_model.specs.declared.person.Signed.{Signed}
 use Rattle.plain_model.specs.declared.event.PlainEvent.{PlainEvent}
 use Rattle.plain_model.specs.declared.event.PlainEvent.TheVariants.{Blob, Commit}
-use Rattle.plain_model.specs.declared.raw.RawOp.{RawOp}
-use Rattle.plain_model.specs.declared.raw.RawOp.TheVariants as rawop
+use Rattle.plain_model.specs.declared.raw.CutOp.{CutOp}
+use Rattle.plain_model.specs.declared.raw.CutOp.TheVariants as rawop
 use Rattle.plain_model.specs.declared.raw.RawEvent.TheVariants as raw
 use Rattle.plain_model.specs.Marks.{IsMark}
 use Rattle.plain_model.specs.Names.{is_name}
@@ -20,14 +20,14 @@ use Rattle.plain_model.specs.Trees.{TreeOf}
 use Rattle.plain_model.specs.Streams.{blob_marked, op_of, ops_of}
 use Rattle.plain_model.specs.Spelling.{has_no_lf, IsLine, begins, IsOp, begins_op, AreOps, IsFrom, IsCommit, IsEvent}
 use Rattle.plain_model.specs.Text.{line, data_block, person, last_path, op_text, parents_text, reset_text, event_text}
-use Rattle.stream_laws.proofs.Written.{SignedFits, plain_name, plain_mark, mark_numeral, line_written, mark_written, data_written, signed_written, path_written, plain_join, plain_path}
+use Rattle.field_laws.proofs.Written.{SignedFits, plain_name, plain_mark, mark_numeral, line_written, mark_written, data_written, signed_written, path_written, plain_join, plain_path}
 use Rattle.stream_laws.proofs.LookedUp.{ArePlaced, blob_again}
 use Rattle.stream_laws.proofs.Fits.{OpFits}
 
 -- ---- operations
 
 -- the line of an operation
-record IsOpLine (whole : List PlainEvent) (op : FileOp) (o : RawOp) : Type 0 where
+record IsOpLine (whole : List PlainEvent) (op : FileOp) (o : CutOp) : Type 0 where
   bytes : Bytes
   text : op_text whole op ≡ line bytes
   plain : has_no_lf bytes ≡ true
@@ -35,7 +35,7 @@ record IsOpLine (whole : List PlainEvent) (op : FileOp) (o : RawOp) : Type 0 whe
   is_op : IsOp bytes o
 
 -- an operation is written as it was spelled
-op_written : (done more : List PlainEvent) → ArePlaced 1 done → (o : RawOp) (op : FileOp) → op_of done o ≡ Some op → OpFits o → IsOpLine (done ++ more) op o
+op_written : (done more : List PlainEvent) → ArePlaced 1 done → (o : CutOp) (op : FileOp) → op_of done o ≡ Some op → OpFits o → IsOpLine (done ++ more) op o
 op_written done more placed (rawop.Delete path) op h fits =
     subst (λ (x : FileOp). IsOpLine (done ++ more) x (rawop.Delete path)) (same_Some (Delete path) op h)
     (record { bytes = codes "D " ++ last_path path; text = refl; plain = plain_path path fits; starts = λ rest. refl; is_op = (last_path path, refl, path_written path fits) })
@@ -55,7 +55,7 @@ op_written done more placed (rawop.Modify m path) op h fits = go (blob_marked do
         })
 
 -- operations are looked up one by one
-ops_parts : (done : List PlainEvent) (o : RawOp) (os : List RawOp) (ops : List FileOp) → ops_of done (o ∷ os) ≡ Some ops → (op : FileOp) × (rest : List FileOp) × (op_of done o ≡ Some op) × (ops_of done os ≡ Some rest) × (op ∷ rest ≡ ops)
+ops_parts : (done : List PlainEvent) (o : CutOp) (os : List CutOp) (ops : List FileOp) → ops_of done (o ∷ os) ≡ Some ops → (op : FileOp) × (rest : List FileOp) × (op_of done o ≡ Some op) × (ops_of done os ≡ Some rest) × (op ∷ rest ≡ ops)
 ops_parts done o os ops h = go (op_of done o) refl (ops_of done os) refl h
   where
     go : (a : Option FileOp) → op_of done o ≡ a → (b : Option (List FileOp)) → ops_of done os ≡ b → option_and_then (λ op. option_map (λ rest. op ∷ rest) b) a ≡ Some ops
@@ -65,7 +65,7 @@ ops_parts done o os ops h = go (op_of done o) refl (ops_of done os) refl h
     go (Some op) x (Some rest) y z = (op, rest, x, y, same_Some (op ∷ rest) ops z)
 
 -- operations, up to the empty line
-pub ops_written : (done more : List PlainEvent) → ArePlaced 1 done → (os : List RawOp) (ops : List FileOp) (rest : Bytes) → ops_of done os ≡ Some ops → AllByRecursion OpFits os → AreOps (flat_map (op_text (done ++ more)) ops ++ 10 ∷ rest) os (10 ∷ rest)
+pub ops_written : (done more : List PlainEvent) → ArePlaced 1 done → (os : List CutOp) (ops : List FileOp) (rest : Bytes) → ops_of done os ≡ Some ops → AllByRecursion OpFits os → AreOps (flat_map (op_text (done ++ more)) ops ++ 10 ∷ rest) os (10 ∷ rest)
 ops_written done more placed [] ops rest h fits =
     subst (λ (l : List FileOp). AreOps (flat_map (op_text (done ++ more)) l ++ 10 ∷ rest) [] (10 ∷ rest)) (same_Some [] ops h) (refl, refl)
 ops_written done more placed (o ∷ os) ops rest h fits =
@@ -107,7 +107,7 @@ commit_grouped : (a b c d e f g rest : Bytes) → [] ++ a ++ b ++ c ++ d ++ [] +
 commit_grouped a b c d e f g rest = simp (append_assoc, append-nil)
 
 -- the parts of a commit, each written as it is read
-pub record CommitIsWritten (whole : List PlainEvent) (tips : TreeOf ℕ) (mark : ℕ) (branch : Bytes) (author committer : Signed) (comment : Bytes) (parents : List ℕ) (ops : List FileOp) (from : Option ℕ) (os : List RawOp) : Type 0 where
+pub record CommitIsWritten (whole : List PlainEvent) (tips : TreeOf ℕ) (mark : ℕ) (branch : Bytes) (author committer : Signed) (comment : Bytes) (parents : List ℕ) (ops : List FileOp) (from : Option ℕ) (os : List CutOp) : Type 0 where
   pub no_reset : reset_text whole tips branch parents ≡ []
   pub named : IsTrue (is_name branch)
   pub is_mark : IsMark mark
@@ -118,7 +118,7 @@ pub record CommitIsWritten (whole : List PlainEvent) (tips : TreeOf ℕ) (mark :
   pub changed : (rest : Bytes) → AreOps (flat_map (op_text whole) ops ++ 10 ∷ rest) os (10 ∷ rest)
 
 -- a commit that is written is spelled with its author and with its parent
-pub commit_written : (whole : List PlainEvent) (tips : TreeOf ℕ) (id mark : ℕ) (branch : Bytes) (author committer : Signed) (comment : Bytes) (parents : List ℕ) (ops : List FileOp) (from : Option ℕ) (os : List RawOp) (rest : Bytes) → CommitIsWritten whole tips mark branch author committer comment parents ops from os
+pub commit_written : (whole : List PlainEvent) (tips : TreeOf ℕ) (id mark : ℕ) (branch : Bytes) (author committer : Signed) (comment : Bytes) (parents : List ℕ) (ops : List FileOp) (from : Option ℕ) (os : List CutOp) (rest : Bytes) → CommitIsWritten whole tips mark branch author committer comment parents ops from os
     → IsEvent (event_text whole tips (Commit id mark branch author committer None comment parents ops) ++ rest) (raw.Commit branch mark (Some author) committer comment from os) rest
 commit_written whole tips id mark branch author committer comment parents ops from os rest h =
     let head_line = line (codes "commit " ++ branch) in

@@ -1,4 +1,3 @@
 pub mod Indexes
-pub mod Numbers
 pub mod Operations
 pub mod Streams

@@ -1,7 +1,7 @@
 -- A step of the loop over events, and what it puts behind the others.
 use Rattle.std.proofs.lemmas.Bool.{cond-true}
 use Rattle.std.proofs.Common.{◌≡◌, ℕ, zero, suc, ◌+◌, ◌-◌, ◌<◌, ◌≤◌, Bool, true, false, cond, List, [], ◌∷◌, ◌++◌, Option, Some, None, refl, sym, ◌∙◌, arith}
-use Rattle.plain_model.specs.Reading.{◌>>=◌}
+use Rattle.plain_model.specs.Parts.{◌>>=◌}
 use Rattle.plain_model.specs.Paths.{is_empty}
 use Rattle.plain_model.specs.declared.event.PlainEvent.{PlainEvent}
 use Rattle.stream_reader.specs.declared.fault.ReadFault.{ReadFault}

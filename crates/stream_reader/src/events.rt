@@ -1,33 +1,15 @@
 //! Events as they are spelled, each with what follows it.
 ghost use Rattle.std.specs.Prelude.{◌≡◌, codes, is_some};
 ghost use Rattle.std.specs.Option.{option_map};
-ghost use Rattle.std.specs.List.{list_all};
-ghost use Rattle.plain_model.specs.Names.{is_name, is_name_byte};
-ghost use Rattle.plain_model.specs.Reading.{
-  author_at,
-  committer_at,
-  from_at,
-  path_of,
-  modify_of,
-  delete_of,
-  op_of,
-  starts_op,
-  ops_at,
-  name_in,
-  blob_at,
-  commit_at,
-  raw_at,
-  behind,
-};
+ghost use Rattle.plain_model.specs.Parts.{behind};
+ghost use Rattle.plain_model.specs.Reading.{author_at, committer_at, from_at, path_of, modify_of, delete_of, op_of, starts_op, ops_at, blob_at, commit_at, raw_at};
 ghost use Rattle.stream_reader.specs.Answers.{Gives};
 
 use crate::fault::{LEFT_OUT, ReadFault, due};
-use crate::fields::{cut, data, line, mark, mark_line, skipped, strip};
-use crate::people::signed;
-use plain_model::{
-    Items, MAX_NAME_BYTES, Mark, Path, PathFault, RawEvent, RawOp, RawOpList, Signed, Text,
-};
+use crate::fields::{data, mark_line, name, signed};
+use plain_model::{CutOp, CutOpList, Items, Mark, Path, PathFault, RawEvent, Signed};
 use std::alloc::Global;
+use stream_fields::{cut, first_line, mark_of_digits, skip_line_feed, strip};
 
 fn begins(word: &[u8], text: &[u8]) -> bool
     ensures { result ≡ is_some (behind word.now text.now) }
@@ -43,7 +25,7 @@ fn author(alloc: Global, text: &[u8]) -> Result<(Option<Signed>, &[u8]), ReadFau
     if !begins(b"author ", text) {
         return Ok((None, text));
     }
-    let (line, rest) = due(line(text))?;
+    let (line, rest) = due(first_line(text))?;
     let spelled = due(strip(b"author ", line))?;
     let author = signed(alloc, spelled)?;
     Ok((Some(author), rest))
@@ -53,7 +35,7 @@ fn author(alloc: Global, text: &[u8]) -> Result<(Option<Signed>, &[u8]), ReadFau
 fn committer(alloc: Global, text: &[u8]) -> Result<(Signed, &[u8]), ReadFault>
     ensures { Gives (λ x. (x.0, x.1.now)) result (committer_at text.now) }
 {
-    let (line, rest) = due(line(text))?;
+    let (line, rest) = due(first_line(text))?;
     let spelled = due(strip(b"committer ", line))?;
     let committer = signed(alloc, spelled)?;
     Ok((committer, rest))
@@ -89,25 +71,25 @@ fn path(alloc: Global, text: &[u8]) -> Result<Path, ReadFault>
 }
 
 #[tactic(auto, unfolding(plain_model::specs::Reading::modify_of))]
-fn modify(alloc: Global, text: &[u8]) -> Result<RawOp, ReadFault>
+fn modify(alloc: Global, text: &[u8]) -> Result<CutOp, ReadFault>
     ensures { Gives (λ x. x) result (modify_of text.now) }
 {
     let (digits, last) = due(cut(b' ', text))?;
-    let mark = due(mark(digits))?;
+    let mark = due(mark_of_digits(digits))?;
     let path = path(alloc, last)?;
-    Ok(RawOp::Modify { mark, path })
+    Ok(CutOp::Modify { mark, path })
 }
 
 #[tactic(auto, unfolding(plain_model::specs::Reading::delete_of))]
-fn delete(alloc: Global, text: &[u8]) -> Result<RawOp, ReadFault>
+fn delete(alloc: Global, text: &[u8]) -> Result<CutOp, ReadFault>
     ensures { Gives (λ x. x) result (delete_of text.now) }
 {
     let path = path(alloc, text)?;
-    Ok(RawOp::Delete { path })
+    Ok(CutOp::Delete { path })
 }
 
 #[tactic(auto, unfolding(plain_model::specs::Reading::op_of))]
-fn op(alloc: Global, line: &[u8]) -> Result<RawOp, ReadFault>
+fn op(alloc: Global, line: &[u8]) -> Result<CutOp, ReadFault>
     ensures { Gives (λ x. x) result (op_of line.now) }
 {
     if begins(b"D ", line) {
@@ -128,7 +110,7 @@ fn begins_op(text: &[u8]) -> bool
 
 // The operations, a line each, up to a line that begins none.
 #[tactic(auto, unfolding(plain_model::specs::Reading::ops_from, plain_model::specs::Reading::ops_at),)]
-fn ops(alloc: Global, text: &[u8]) -> Result<(RawOpList, &[u8]), ReadFault>
+fn ops(alloc: Global, text: &[u8]) -> Result<(CutOpList, &[u8]), ReadFault>
     ensures { Gives (λ x. (x.0, x.1.now)) result (ops_at text.now) }
 {
     let mut ops = Items::new(alloc)?;
@@ -138,35 +120,12 @@ fn ops(alloc: Global, text: &[u8]) -> Result<(RawOpList, &[u8]), ReadFault>
         if !begins_op(rest) {
             return Ok((ops, rest));
         }
-        let (line, after) = due(line(rest))?;
+        let (line, after) = due(first_line(rest))?;
         let op = op(alloc, line)?;
         ops.push(op)?;
         rest = after;
     }
     Ok((ops, rest))
-}
-
-fn are_name_bytes(text: &[u8]) -> bool
-    ensures { result ≡ list_all is_name_byte text.now }
-{
-    text.iter().all(|b| *b >= 33 && *b != 127)
-}
-
-fn fits_name(text: &[u8]) -> bool
-    ensures { result ≡ is_name text.now }
-{
-    text.len() >= 1 && text.len() as u64 <= MAX_NAME_BYTES && are_name_bytes(text)
-}
-
-#[tactic(auto, unfolding(plain_model::specs::Reading::name_in))]
-fn name(alloc: Global, text: &[u8]) -> Result<Text, ReadFault>
-    ensures { Gives (λ x. x) result (name_in text.now) }
-{
-    if fits_name(text) {
-        Ok(Items::of(alloc, text)?)
-    } else {
-        Err(LEFT_OUT)
-    }
 }
 
 // A blob, behind its first line.
@@ -210,7 +169,7 @@ fn commit<'a>(
         from,
         ops,
     };
-    Ok((event, skipped(rest)))
+    Ok((event, skip_line_feed(rest)))
 }
 
 /// The event at the front of a text, as it is spelled, and what follows it.
@@ -218,7 +177,7 @@ fn commit<'a>(
 pub fn raw(alloc: Global, text: &[u8]) -> Result<(RawEvent, &[u8]), ReadFault>
     ensures { Gives (λ x. (x.0, x.1.now)) result (raw_at text.now) }
 {
-    let (line, rest) = due(line(text))?;
+    let (line, rest) = due(first_line(text))?;
     if line == b"blob".as_slice() {
         blob(alloc, rest)
     } else {

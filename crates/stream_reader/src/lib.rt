@@ -6,7 +6,6 @@ mod fault;
 mod fields;
 mod index;
 mod known;
-mod people;
 mod places;
 mod reader;
 

@@ -7,17 +7,17 @@ ghost use Rattle.stream_reader.specs.Answers.{Gives};
 use crate::fault::{LEFT_OUT, ReadFault, due};
 use crate::known::Known;
 use plain_model::{
-    BlobId, CommitId, Content, Copied, FileOp, Items, Mark, Mode, OpList, ParentList, PlainEvent,
-    RawEvent, RawOp,
+    BlobId, CommitId, Content, Copied, CutOp, FileOp, Items, Mark, Mode, OpList, ParentList,
+    PlainEvent, RawEvent,
 };
 use std::alloc::Global;
 
-fn placed_op(alloc: Global, known: &Known, op: &RawOp) -> Result<FileOp, ReadFault>
+fn placed_op(alloc: Global, known: &Known, op: &CutOp) -> Result<FileOp, ReadFault>
     requires { Agrees known.now.index known.now.events }
     ensures { Gives (λ x. x) result (op_of known.now.events op.now) }
 {
     match op {
-        RawOp::Modify { mark, path } => {
+        CutOp::Modify { mark, path } => {
             let id = due(known.blob(*mark))?;
             let path = path.copied(alloc)?;
             Ok(FileOp::Modify {
@@ -26,13 +26,13 @@ fn placed_op(alloc: Global, known: &Known, op: &RawOp) -> Result<FileOp, ReadFau
                 path,
             })
         }
-        RawOp::Delete { path } => Ok(FileOp::Delete {
+        CutOp::Delete { path } => Ok(FileOp::Delete {
             path: path.copied(alloc)?,
         }),
     }
 }
 
-fn placed_ops(alloc: Global, known: &Known, ops: &[RawOp]) -> Result<OpList, ReadFault>
+fn placed_ops(alloc: Global, known: &Known, ops: &[CutOp]) -> Result<OpList, ReadFault>
     requires { Agrees known.now.index known.now.events }
     ensures { Gives (λ x. x) result (ops_of known.now.events ops.now) }
 {

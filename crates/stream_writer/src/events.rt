@@ -10,12 +10,12 @@ ghost use Rattle.plain_model.specs.Text.{
 };
 ghost use Rattle.stream_writer.specs.Parts.{head_text, body_text};
 
-use crate::fields::{push_data, push_line, push_mark_line};
+use crate::fields::{push_line, push_mark_line, push_signed_line};
 use crate::marks::MarkedHistory;
 use crate::operations::{push_ops, push_parents};
-use crate::people::push_signed_line;
 use branch_tips::Tips;
 use plain_model::{CommitId, FileOp, Mark, NoMemory, PlainEvent, Signed, Text};
+use stream_fields::write_data;
 
 fn push_encoding(
     out: &mut Text,
@@ -104,7 +104,7 @@ fn push_body(
         (out.new ≡ out.old ++ body_text history.now encoding.now comment.now parents.now ops.now) }
 {
     push_encoding(out, history, encoding)?;
-    push_data(out, comment)?;
+    write_data(comment, out)?;
     push_parents(out, history, parents)?;
     push_ops(out, history, ops)?;
     out.push(b'\n')
@@ -123,7 +123,7 @@ pub fn push_event(
         PlainEvent::Blob { mark, bytes, .. } => {
             out.push_all(b"blob\n")?;
             push_mark_line(out, b"mark ", mark.number())?;
-            push_data(out, bytes.as_slice())
+            write_data(bytes.as_slice(), out)
         }
         PlainEvent::Commit {
             mark,
@@ -157,7 +157,7 @@ pub fn push_event(
             push_line(out, b"tag ", name.as_slice())?;
             push_target(out, history, Some(*target))?;
             push_tagger(out, history, tagger)?;
-            push_data(out, comment.as_slice())
+            write_data(comment.as_slice(), out)
         }
         PlainEvent::Reset { branch, target, .. } => {
             push_line(out, b"reset ", branch.as_slice())?;

@@ -1,9 +1,10 @@
-//! Lines and data blocks at the end of a text. Where memory is wanting, here and in the other modules, it is
+//! Lines at the end of a text. Where memory is wanting, here and in the other modules, it is
 //! left open how much of them stands there: the text is dropped then.
 ghost use Rattle.std.specs.Prelude.{◌≡◌, ◌++◌, OnOk};
-ghost use Rattle.plain_model.specs.Text.{line, marked, data_block};
+ghost use Rattle.plain_model.specs.Text.{line, marked, person};
 
-use plain_model::{NoMemory, Text};
+use plain_model::{NoMemory, Signed, Text};
+use stream_fields::write_person;
 
 /// Puts a line of a word and a rest.
 pub fn push_line(out: &mut Text, word: &[u8], rest: &[u8]) -> Result<(), NoMemory>
@@ -31,13 +32,11 @@ pub fn push_mark_line(out: &mut Text, word: &[u8], mark: u64) -> Result<(), NoMe
     out.push(b'\n')
 }
 
-/// Puts the line `data COUNT`, the bytes and an LF.
-pub fn push_data(out: &mut Text, bytes: &[u8]) -> Result<(), NoMemory>
-    ensures { OnOk result (out.new ≡ out.old ++ data_block bytes.now) }
+/// Puts a line of a word and of who and when.
+pub fn push_signed_line(out: &mut Text, word: &[u8], signed: &Signed) -> Result<(), NoMemory>
+    ensures { OnOk result (out.new ≡ out.old ++ line (word.now ++ person signed.now)) }
 {
-    out.push_all(b"data ")?;
-    out.push_number(bytes.len() as u64)?;
-    out.push(b'\n')?;
-    out.push_all(bytes)?;
+    out.push_all(word)?;
+    write_person(signed, out)?;
     out.push(b'\n')
 }

@@ -5,8 +5,6 @@ mod events;
 mod fields;
 mod marks;
 mod operations;
-mod paths;
-mod people;
 mod writer;
 
 pub use writer::{text_of, write_stream};

@@ -4,8 +4,8 @@ ghost use Rattle.plain_model.specs.Snapshots.{commit_mark};
 ghost use Rattle.plain_model.specs.Text.{
   line,
   marked,
-  mode_text,
-  content_text,
+  raw_content,
+  raw_content_text,
   op_text,
   parents_text,
   source_path,
@@ -15,22 +15,11 @@ ghost use Rattle.stream_writer.specs.Parts.{modify_text, move_text, merges_text}
 
 use crate::fields::{push_mark_line, push_marked};
 use crate::marks::MarkedHistory;
-use crate::paths::{push_last_path, push_source_path};
-use plain_model::{CommitId, Content, FileOp, Mode, NoMemory, Path, Text};
-
-fn mode_digits(mode: Mode) -> &'static [u8]
-    ensures { result.now ≡ mode_text mode }
-{
-    match mode {
-        Mode::Plain => b"100644",
-        Mode::Executable => b"100755",
-        Mode::Link => b"120000",
-        Mode::Gitlink => b"160000",
-    }
-}
+use plain_model::{CommitId, Content, FileOp, Mode, NoMemory, Path, Place, Text};
+use stream_fields::{mode_digits, write_path};
 
 fn push_content(out: &mut Text, history: &MarkedHistory, content: Content) -> Result<(), NoMemory>
-    ensures { OnOk result (out.new ≡ out.old ++ content_text history.now content) }
+    ensures { OnOk result (out.new ≡ out.old ++ raw_content_text (raw_content history.now content)) }
 {
     match content {
         Content::Blob(id) => push_marked(out, history.blob_mark(id)),
@@ -52,7 +41,7 @@ fn push_modify(
     out.push(b' ')?;
     push_content(out, history, content)?;
     out.push(b' ')?;
-    push_last_path(out, path)
+    write_path(path, Place::Last, out)
 }
 
 // `C` or `R`, and its two paths.
@@ -60,16 +49,16 @@ fn push_move(out: &mut Text, word: &[u8], source: &Path, target: &Path) -> Resul
     ensures { OnOk result (out.new ≡ out.old ++ move_text word.now source.now target.now) }
 {
     out.push_all(word)?;
-    push_source_path(out, source)?;
+    write_path(source, Place::Source, out)?;
     out.push(b' ')?;
-    push_last_path(out, target)
+    write_path(target, Place::Last, out)
 }
 
 fn push_delete(out: &mut Text, path: &Path) -> Result<(), NoMemory>
     ensures { OnOk result (out.new ≡ out.old ++ (codes "D " ++ last_path path.now)) }
 {
     out.push_all(b"D ")?;
-    push_last_path(out, path)
+    write_path(path, Place::Last, out)
 }
 
 fn push_op_text(out: &mut Text, history: &MarkedHistory, op: &FileOp) -> Result<(), NoMemory>

@@ -1,5 +1,6 @@
 use Rattle.std.proofs.Common.{◌≡◌, length, true, Some, arith}
-use Rattle.plain_model.specs.Reading.{starts_op, line_at, op_of}
+use Rattle.plain_model.specs.Parts.{line_at}
+use Rattle.plain_model.specs.Reading.{starts_op, op_of}
 use Rattle.stream_reader.proofs.Operations.{ops_more}
 use Rattle.stream_reader.proofs.events.ops.Goals as goal
 

@@ -1,0 +1,11 @@
+pub mod Steps
+pub mod FieldSteps
+pub mod Lines
+pub mod Numerals
+pub mod Persons
+pub mod Written
+pub mod Words
+pub mod Quoted
+pub mod Blocks
+pub mod PathsAgain
+pub mod FieldsAgain

@@ -1,0 +1,238 @@
+-- Each field that is written is spelled as it is read, whatever follows.
+use Rattle.std.proofs.Common.{◌≡◌, inl, inr, ℕ, ◌+◌, ◌-◌, ◌*◌, ◌/◌, ◌%◌, ◌^◌, ◌≤◌, ◌<◌, Bool, true, false, cond, not, [], ◌∷◌, ◌++◌, length, refl, sym, ap, subst, ◌∙◌, arith, append_assoc, length-append, leb-true, le-leb, lt-ltb, ne_eqb, codes}
+use Rattle.std.specs.Prelude.{◌==◌, ◌&&◌, ◌||◌, nat_le, nat_lt, decimal, IsTrue}
+use Rattle.std.specs.List.{list_all, list_any}
+use Rattle.std.proofs.lemmas.Bool.{and_parts, and_from, or_from, cond-true, cond-false, not-true}
+use Rattle.std.proofs.lemmas.Fmt.{decimal_by_steps_wide}
+use Rattle.std.proofs.lemmas.List.Folds.{list_all-append}
+use Rattle.plain_model.specs.declared.limit.TheConstants.{MAX_NAME_BYTES, MAX_SECONDS}
+use Rattle.plain_model.specs.declared.person.Signed.{Signed}
+use Rattle.plain_model.specs.Paths.{Bytes, IsPath}
+use Rattle.plain_model.specs.Marks.{IsMark}
+use Rattle.plain_model.specs.Names.{is_name_byte, is_name}
+use Rattle.plain_model.specs.Numbers.{is_digit, value_after, IsNumeral}
+use Rattle.plain_model.specs.People.{is_clean, IsNamePart, IsZone, IsSigned}
+use Rattle.plain_model.specs.Spelling.{has_no_lf, IsLine, begins, IsMarkLine, IsData, IsSignedLine, IsLastPath}
+use Rattle.plain_model.specs.Text.{line, data_block, zone, person, begins_quoted, quoted, last_path}
+use Rattle.field_laws.proofs.Lines.{eqb_turned}
+use Rattle.field_laws.proofs.Persons.{all_pass}
+
+-- ---- numbers
+
+-- 48 and a number below 10 is a digit
+digit : (d : ℕ) → d < 10 → is_digit (48 + d) ≡ true
+digit d h = and_from (nat_le 48 (48 + d)) (nat_le (48 + d) 57) (le-leb 48 (48 + d) (omega arith)) (le-leb (48 + d) 57 (omega arith))
+
+-- the value with one more digit
+value_push : (a : ℕ) (ds : Bytes) (d : ℕ) → value_after a (ds ++ d ∷ []) ≡ 10 * value_after a ds + (d - 48)
+value_push a [] d = refl
+value_push a (x ∷ xs) d = value_push (10 * a + (x - 48)) xs d
+
+-- the digits that are written of a number say it
+pub numeral_written : (n : ℕ) → n < 10 ^ 64 → IsNumeral (decimal n) n
+numeral_written = decimal_by_steps_wide (λ n ds. IsNumeral ds n)
+    (λ n h. record { some = omega arith; all = and_from (is_digit (48 + n)) true (digit n h) refl; value = omega arith })
+    (λ n ds h p. record {
+      some = omega (arith, length-append ds ((48 + n % 10) ∷ []));
+      all = list_all-append is_digit ds ((48 + n % 10) ∷ []) ∙ and_from (list_all is_digit ds) (list_all is_digit ((48 + n % 10) ∷ [])) p.all (and_from (is_digit (48 + n % 10)) true (digit (n % 10) (omega arith)) refl);
+      value = value_push 0 ds (48 + n % 10) ∙ ap (λ v. 10 * v + (48 + n % 10 - 48)) p.value ∙ (omega arith);
+    })
+
+-- ---- bytes without LF
+
+-- two parts without LF
+pub plain_join : (a b : Bytes) → has_no_lf a ≡ true → has_no_lf b ≡ true → has_no_lf (a ++ b) ≡ true
+plain_join a b p q = list_all-append (λ c. not (c == 10)) a b ∙ and_from (has_no_lf a) (has_no_lf b) p q
+
+-- the parts of what has no LF
+pub plain_parts : (a b : Bytes) → has_no_lf (a ++ b) ≡ true → (has_no_lf a ≡ true) × (has_no_lf b ≡ true)
+plain_parts a b h = and_parts (has_no_lf a) (has_no_lf b) (sym (list_all-append (λ c. not (c == 10)) a b) ∙ h)
+
+-- a greater byte is no LF
+greater_plain : (b : ℕ) → 11 ≤ b → not (b == 10) ≡ true
+greater_plain b h = ap not (ne_eqb b 10 (λ e. absurd (omega arith)))
+
+-- digits have no LF
+plain_digits : (ds : Bytes) → list_all is_digit ds ≡ true → has_no_lf ds ≡ true
+plain_digits ds h = all_pass is_digit (λ b. not (b == 10)) (λ b d. greater_plain b (let low = leb-true 48 b (and_parts (nat_le 48 b) (nat_le b 57) d).0 in omega arith)) ds h
+
+-- the digits that are written have no LF
+plain_number : (n : ℕ) → n < 10 ^ 64 → has_no_lf (decimal n) ≡ true
+plain_number n h = plain_digits (decimal n) (numeral_written n h).all
+
+-- names of branches have no LF
+pub plain_name : (name : Bytes) → IsTrue (is_name name) → has_no_lf name ≡ true
+plain_name name h =
+    let bytes = (and_parts (nat_le 1 (length name) && nat_le (length name) MAX_NAME_BYTES) (list_all is_name_byte name) h).1 in
+    all_pass is_name_byte (λ b. not (b == 10)) (λ b d. greater_plain b (let low = leb-true 33 b (and_parts (nat_le 33 b) (not (b == 127)) d).0 in omega arith)) name bytes
+
+-- ---- lines
+
+-- a line that is written is that line, and what follows is the rest
+pub line_written : (bytes rest : Bytes) → has_no_lf bytes ≡ true → IsLine (line bytes ++ rest) bytes rest
+line_written bytes rest h = (h, inl (append_assoc bytes (10 ∷ []) rest))
+
+-- the digits of a mark have no LF
+pub plain_mark : (mark : ℕ) → IsMark mark → has_no_lf (decimal mark) ≡ true
+plain_mark mark h = plain_number mark (omega arith)
+
+-- the digits of a mark say it
+pub mark_numeral : (mark : ℕ) → IsMark mark → IsNumeral (decimal mark) mark
+mark_numeral mark h = numeral_written mark (omega arith)
+
+-- a line of a word and a mark
+pub mark_written : (word rest : Bytes) (mark : ℕ) → has_no_lf (word ++ codes " :") ≡ true → IsMark mark → IsMarkLine word (line (word ++ codes " :" ++ decimal mark) ++ rest) mark rest
+mark_written word rest mark plain h = record {
+  digits = decimal mark;
+  line = line_written (word ++ codes " :" ++ decimal mark) rest (plain_join (word ++ codes " :") (decimal mark) plain (plain_mark mark h));
+  numeral = mark_numeral mark h;
+  is_mark = h;
+}
+
+-- a block of data gives its bytes back, and its LF is passed over
+pub data_written : (bytes rest : Bytes) → length bytes < 10 ^ 64 → IsData (data_block bytes ++ rest) bytes rest
+data_written bytes rest h =
+    let head = codes "data " ++ decimal (length bytes) in
+    record {
+      digits = decimal (length bytes);
+      block = line bytes ++ rest;
+      behind = 10 ∷ rest;
+      line = subst (λ (t : Bytes). IsLine t head (line bytes ++ rest)) (sym (append_assoc (line head) (line bytes) rest)) (line_written head (line bytes ++ rest) (plain_number (length bytes) h));
+      count = numeral_written (length bytes) h;
+      is = append_assoc bytes (10 ∷ []) rest;
+      passes = inl (refl, refl);
+    }
+
+-- ---- people
+
+-- who and when, as a line can say it
+pub record SignedFits (who : Signed) : Type 0 where
+  pub clean_name : is_clean who.person.name ≡ true
+  pub clean_email : is_clean who.person.email ≡ true
+  pub plain_name : has_no_lf who.person.name ≡ true
+  pub plain_email : has_no_lf who.person.email ≡ true
+  pub in_time : who.when.seconds ≤ MAX_SECONDS
+  pub four_digits : who.when.offset ≤ 9999
+
+-- the text of a zone
+abbrev zone_text : Bool → ℕ → Bytes
+zone_text minus offset = cond minus (codes "-") (codes "+") ++ zone offset
+
+-- four digits that are written say the number
+zone_digits : (n : ℕ) → n ≤ 9999 → IsNumeral (zone n) n
+zone_digits n h = record {
+  some = omega arith;
+  all = and_from (is_digit (48 + n / 1000)) (list_all is_digit ((48 + n / 100 % 10) ∷ (48 + n / 10 % 10) ∷ (48 + n % 10) ∷ [])) (digit (n / 1000) (omega arith))
+      (and_from (is_digit (48 + n / 100 % 10)) (list_all is_digit ((48 + n / 10 % 10) ∷ (48 + n % 10) ∷ [])) (digit (n / 100 % 10) (omega arith))
+      (and_from (is_digit (48 + n / 10 % 10)) (list_all is_digit ((48 + n % 10) ∷ [])) (digit (n / 10 % 10) (omega arith))
+      (and_from (is_digit (48 + n % 10)) true (digit (n % 10) (omega arith)) refl)));
+  value = omega arith;
+}
+
+-- a sign and four digits
+zone_written : (minus : Bool) (offset : ℕ) → offset ≤ 9999 → IsZone (zone_text minus offset) minus offset
+zone_written true offset h = record { sign = 45; digits = zone offset; is = refl; signed = inr (refl, refl); four = refl; numeral = zone_digits offset h }
+zone_written false offset h = record { sign = 43; digits = zone offset; is = refl; signed = inl (refl, refl); four = refl; numeral = zone_digits offset h }
+
+-- a sign and four digits have no LF
+plain_zone : (minus : Bool) (offset : ℕ) → offset ≤ 9999 → has_no_lf (zone_text minus offset) ≡ true
+plain_zone true offset h = plain_digits (zone offset) (zone_digits offset h).all
+plain_zone false offset h = plain_digits (zone offset) (zone_digits offset h).all
+
+-- what stands before an email
+name_part : Bytes → Bytes
+name_part name = name ++ cond (nat_lt 0 (length name)) (codes " ") []
+
+-- the name and the space behind it, if there is a name
+part_written : (name : Bytes) → IsNamePart (name_part name) name
+unfolding name_part
+part_written [] = inl (refl, refl)
+part_written (b ∷ bs) = inr (ap (λ (s : Bytes). (b ∷ bs) ++ s) (cond-true (nat_lt 0 (length (b ∷ bs))) (codes " ") [] (lt-ltb 0 (length (b ∷ bs)) (omega arith))))
+
+-- what stands before an email has no LF
+plain_part : (name : Bytes) → has_no_lf name ≡ true → has_no_lf (name_part name) ≡ true
+unfolding name_part
+plain_part name h = plain_join name (cond (nat_lt 0 (length name)) (codes " ") []) h (go (nat_lt 0 (length name)))
+  where
+    go : (t : Bool) → has_no_lf (cond t (codes " ") []) ≡ true
+    go true = refl
+    go false = refl
+
+-- the parts of such a text, grouped from the end
+person_grouped : (a b c d e f : Bytes) → a ++ b ++ 60 ∷ [] ++ c ++ 62 ∷ 32 ∷ [] ++ d ++ 32 ∷ [] ++ e ++ f ≡ (a ++ b) ++ 60 ∷ (c ++ 62 ∷ 32 ∷ (d ++ 32 ∷ (e ++ f)))
+person_grouped a b c d e f = simp append_assoc
+
+-- the text of who and when, its name and what follows it apart
+person_is : (who : Signed) → person who ≡ name_part who.person.name ++ 60 ∷ (who.person.email ++ 62 ∷ 32 ∷ (decimal who.when.seconds ++ 32 ∷ zone_text who.when.minus who.when.offset))
+unfolding name_part
+person_is who = person_grouped who.person.name (cond (nat_lt 0 (length who.person.name)) (codes " ") []) who.person.email (decimal who.when.seconds) (cond who.when.minus (codes "-") (codes "+")) (zone who.when.offset)
+
+-- the text of who and when spells them
+pub person_written : (who : Signed) → SignedFits who → IsSigned (person who) who
+person_written who h = record {
+  part = name_part who.person.name;
+  digits = decimal who.when.seconds;
+  zone = zone_text who.when.minus who.when.offset;
+  is = person_is who;
+  name = part_written who.person.name;
+  clean_name = h.clean_name;
+  clean_email = h.clean_email;
+  seconds = numeral_written who.when.seconds (let time = h.in_time in omega arith);
+  in_time = h.in_time;
+  offset = zone_written who.when.minus who.when.offset h.four_digits;
+}
+
+-- the text of who and when has no LF
+plain_person : (who : Signed) → SignedFits who → has_no_lf (person who) ≡ true
+plain_person who h =
+    let tail = zone_text who.when.minus who.when.offset in
+    ap has_no_lf (person_is who)
+    ∙ plain_join (name_part who.person.name) (60 ∷ (who.person.email ++ 62 ∷ 32 ∷ (decimal who.when.seconds ++ 32 ∷ tail))) (plain_part who.person.name h.plain_name)
+    (plain_join who.person.email (62 ∷ 32 ∷ (decimal who.when.seconds ++ 32 ∷ tail)) h.plain_email
+    (plain_join (decimal who.when.seconds) (32 ∷ tail) (plain_number who.when.seconds (let time = h.in_time in omega arith))
+    (plain_zone who.when.minus who.when.offset h.four_digits)))
+
+-- a line of a word and of who and when
+pub signed_written : (word rest : Bytes) (who : Signed) → has_no_lf word ≡ true → SignedFits who → IsSignedLine word (line (word ++ 32 ∷ person who) ++ rest) who rest
+signed_written word rest who plain h = record {
+  spelled = person who;
+  line = line_written (word ++ 32 ∷ person who) rest (plain_join word (32 ∷ person who) plain (plain_person who h));
+  signed = person_written who h;
+}
+
+-- ---- paths
+
+-- a path that can stand unquoted
+pub record PathFits (path : Bytes) : Type 0 where
+  pub is_path : IsPath path
+  pub unquoted : begins (codes "\"") path ≡ false
+  pub plain : has_no_lf path ≡ true
+
+-- two tests for a leading quote agree
+begins_same : (p : Bytes) → begins_quoted p ≡ begins (codes "\"") p
+begins_same [] = refl
+begins_same (b ∷ bs) = eqb_turned b 34 ∙ sym (and_true (34 == b))
+  where
+    and_true : (t : Bool) → (t && true) ≡ t
+    and_true true = refl
+    and_true false = refl
+
+-- two tests for an LF agree
+no_lf_any : (p : Bytes) → has_no_lf p ≡ true → list_any (λ b. b == 10) p ≡ false
+no_lf_any [] h = refl
+no_lf_any (b ∷ bs) h =
+    let parts = and_parts (not (b == 10)) (has_no_lf bs) h in
+    or_from (b == 10) (list_any (λ c. c == 10) bs) (not-true (b == 10) parts.0) (no_lf_any bs parts.1)
+
+-- a path that fits is written without quotes
+path_same : (path : Bytes) → PathFits path → last_path path ≡ path
+path_same path h =
+    cond-false (begins_quoted path || list_any (λ b. b == 10) path) (quoted path) path (or_from (begins_quoted path) (list_any (λ b. b == 10) path) (begins_same path ∙ h.unquoted) (no_lf_any path h.plain))
+
+-- a path is written as it is
+pub path_written : (path : Bytes) → PathFits path → IsLastPath (last_path path) path
+path_written path h = (path_same path h, h.is_path, h.unquoted)
+
+-- a path that is written has no LF
+pub plain_path : (path : Bytes) → PathFits path → has_no_lf (last_path path) ≡ true
+plain_path path h = ap has_no_lf (path_same path h) ∙ h.plain

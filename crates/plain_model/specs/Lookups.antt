@@ -1,0 +1,143 @@
+-- What is looked up in a list of events: by id, by number and by mark; whose child a commit is; what an event refers to. (own)
+use Rattle.std.specs.Prelude.{ℕ, suc, ◌+◌, ◌-◌, ◌<◌, Bool, false, ◌==◌, List, [], ◌∷◌, ◌++◌, Option, Some, None, IsSome, option_map, if◌then◌else◌, flat_map, map, max, slice_get}
+use Rattle.std.specs.List.{fold, list_any}
+use Rattle.std.specs.Map.{lookup}
+use Rattle.plain_model.specs.declared.limit.TheConstants.{MAX_MARK}
+use Rattle.plain_model.specs.declared.id.AnyId.{AnyId}
+use Rattle.plain_model.specs.declared.id.AnyId.TheVariants as any
+use Rattle.plain_model.specs.declared.operation.Content.TheVariants.{Blob as OfBlob, Object}
+use Rattle.plain_model.specs.declared.operation.FileOp.{FileOp}
+use Rattle.plain_model.specs.declared.operation.FileOp.TheVariants.{Modify, Delete, Copy, Rename, DeleteAll}
+use Rattle.plain_model.specs.declared.event.PlainEvent.{PlainEvent}
+use Rattle.plain_model.specs.declared.event.PlainEvent.TheVariants.{Blob, Commit, Tag, Reset, Pass}
+
+-- ---- ids
+
+abbrev pub id_of : PlainEvent → AnyId
+id_of (Blob id mark bytes) = any.Blob id
+id_of (Commit id mark branch author committer encoding comment parents ops) = any.Commit id
+id_of (Tag id name target tagger comment) = any.Tag id
+id_of (Reset id branch target) = any.Reset id
+id_of (Pass id line) = any.Pass id
+
+-- the same kind and the same number
+abbrev pub same_id : AnyId → AnyId → Bool
+same_id (any.Blob a) (any.Blob b) = a == b
+same_id (any.Commit a) (any.Commit b) = a == b
+same_id (any.Tag a) (any.Tag b) = a == b
+same_id (any.Reset a) (any.Reset b) = a == b
+same_id (any.Pass a) (any.Pass b) = a == b
+same_id _ _ = false
+
+-- the id is one of these
+abbrev pub is_listed : AnyId → List AnyId → Bool
+is_listed id ids = list_any (same_id id) ids
+
+abbrev pub id_number : AnyId → ℕ
+id_number (any.Blob n) = n
+id_number (any.Commit n) = n
+id_number (any.Tag n) = n
+id_number (any.Reset n) = n
+id_number (any.Pass n) = n
+
+-- one above the greatest number of an id; 1 for no events
+abbrev pub next_number : List PlainEvent → ℕ
+next_number events = fold (λ n e. max n (id_number (id_of e) + 1)) 1 events
+
+-- ---- events by id and by number
+
+-- the event with the id
+abbrev pub find_event : AnyId → List PlainEvent → Option PlainEvent
+find_event id [] = None
+find_event id (e ∷ events) = if same_id id (id_of e) then Some e else find_event id events
+
+-- the number of each id that is there is below the bound
+abbrev pub AreIdsBelow : ℕ → List PlainEvent → Type 0
+AreIdsBelow bound events = (id : AnyId) → IsSome (find_event id events) → id_number id < bound
+
+-- how many events stand before it
+abbrev pub place_of : AnyId → List PlainEvent → Option ℕ
+place_of id [] = None
+place_of id (e ∷ events) = if same_id id (id_of e) then Some 0 else option_map suc (place_of id events)
+
+-- its number, from 1
+abbrev pub number_of : AnyId → List PlainEvent → Option ℕ
+number_of id events = option_map (λ place. place + 1) (place_of id events)
+
+-- the id of the event with the number
+abbrev pub event_at : ℕ → List PlainEvent → Option AnyId
+event_at n events = if n == 0 then None else option_map id_of (slice_get events (n - 1))
+
+-- ---- marks
+
+-- the mark of a blob or a commit, with its id
+abbrev pub own_mark : PlainEvent → List (ℕ × AnyId)
+own_mark (Blob id mark bytes) = (mark, any.Blob id) ∷ []
+own_mark (Commit id mark branch author committer encoding comment parents ops) = (mark, any.Commit id) ∷ []
+own_mark (Tag id name target tagger comment) = []
+own_mark (Reset id branch target) = []
+own_mark (Pass id line) = []
+
+-- the marks, each with the id of the event that has it
+abbrev pub marks_of : List PlainEvent → List (ℕ × AnyId)
+marks_of events = flat_map own_mark events
+
+-- the id of the event with the mark
+abbrev pub find_mark : ℕ → List PlainEvent → Option AnyId
+find_mark mark events = lookup (λ m. mark == m) (marks_of events)
+
+-- the mark of a blob or a commit, or 0
+abbrev pub mark_number : PlainEvent → ℕ
+mark_number (Blob id mark bytes) = mark
+mark_number (Commit id mark branch author committer encoding comment parents ops) = mark
+mark_number (Tag id name target tagger comment) = 0
+mark_number (Reset id branch target) = 0
+mark_number (Pass id line) = 0
+
+-- the greatest mark, or 0
+abbrev pub greatest_mark : List PlainEvent → ℕ
+greatest_mark events = fold (λ n e. max n (mark_number e)) 0 events
+
+-- one above the greatest mark, if that is a mark
+abbrev pub next_mark : List PlainEvent → Option ℕ
+next_mark events = if greatest_mark events == MAX_MARK then None else Some (greatest_mark events + 1)
+
+-- ---- parents, children and other referents
+
+-- the parents of a commit
+abbrev pub event_parents : PlainEvent → List ℕ
+event_parents (Commit id mark branch author committer encoding comment parents ops) = parents
+event_parents (Blob id mark bytes) = []
+event_parents (Tag id name target tagger comment) = []
+event_parents (Reset id branch target) = []
+event_parents (Pass id line) = []
+
+-- the event, if it is a commit that has c among its parents
+abbrev pub own_child : ℕ → PlainEvent → List ℕ
+own_child c (Commit id mark branch author committer encoding comment parents ops) = if list_any (λ p. p == c) parents then id ∷ [] else []
+own_child c (Blob id mark bytes) = []
+own_child c (Tag id name target tagger comment) = []
+own_child c (Reset id branch target) = []
+own_child c (Pass id line) = []
+
+-- the commits that have c among their parents, in the order of the list
+abbrev pub children_of : ℕ → List PlainEvent → List ℕ
+children_of c events = flat_map (own_child c) events
+
+-- the blob that an operation names
+abbrev pub op_blobs : FileOp → List AnyId
+op_blobs (Modify mode (OfBlob b) path) = any.Blob b ∷ []
+op_blobs (Modify mode (Object digits) path) = []
+op_blobs (Delete path) = []
+op_blobs (Copy source target) = []
+op_blobs (Rename source target) = []
+op_blobs DeleteAll = []
+
+-- what an event refers to: parents, the blobs that operations name, and the target of a tag or a reset
+abbrev pub referents_of : PlainEvent → List AnyId
+referents_of (Commit id mark branch author committer encoding comment parents ops) = map any.Commit parents ++ flat_map op_blobs ops
+referents_of (Tag id name target tagger comment) = any.Commit target ∷ []
+referents_of (Reset id branch (Some target)) = any.Commit target ∷ []
+referents_of (Reset id branch None) = []
+referents_of (Blob id mark bytes) = []
+referents_of (Pass id line) = []

@@ -1,0 +1,6 @@
+pub mod BlockSteps
+pub mod DigitLemmas
+pub mod Fronts
+pub mod Places
+pub mod QuoteSteps
+pub mod Rests

@@ -1,0 +1,5 @@
+pub mod Answers
+pub mod Blocks
+pub mod Cursors
+pub mod Quotes
+pub mod Written

@@ -1,0 +1,30 @@
+//! The fields of a stream's lines are read and written.
+#![tactic(auto)]
+
+mod cursor;
+mod data;
+mod fault;
+mod lines;
+mod names;
+mod numbers;
+mod operations;
+mod paths;
+mod people;
+mod quoting;
+mod writing;
+mod written_parts;
+
+pub use cursor::Cursor;
+pub use fault::FieldFault;
+pub use lines::{cut, first_line, skip_line_feed, strip, words};
+pub use names::read_name;
+pub use numbers::{mark_of_digits, number_up_to, read_mark};
+pub use operations::{is_word_left_out, read_content, read_mode, read_op};
+pub use paths::read_path;
+pub use people::read_person;
+pub use plain_model::Place;
+pub use writing::{write_data, write_mark, write_op, write_path, write_person};
+pub use written_parts::mode_digits;
+
+#[cfg(test)]
+mod tests;

@@ -1,0 +1,66 @@
+//! Lines and words of a text, each with what follows it.
+ghost use Rattle.std.specs.Prelude.{◌≡◌, ◌==◌, ◌<◌, length, IfSome};
+ghost use Rattle.std.specs.List.{position};
+ghost use Rattle.std.specs.Option.{option_map, option_copied};
+ghost use Rattle.plain_model.specs.Fields.{first_word, behind_space};
+ghost use Rattle.plain_model.specs.Parts.{line_at, behind, skip_lf, cut_at};
+
+/// The place of the first such byte.
+pub fn place_of(byte: u8, text: &[u8]) -> Option<usize>
+    ensures value { result ≡ position (λ b. b == byte) text.now }
+    ensures within { IfSome result (λ at. at < length text.now) }
+{
+    memchr::memchr(byte, text)
+}
+
+/// What stands before the first such byte, and what stands behind it.
+#[tactic(auto, unfolding(plain_model::specs::Parts::cut_at))]
+pub fn cut(byte: u8, text: &[u8]) -> Option<(&[u8], &[u8])>
+    ensures { option_map (λ x. (x.0.now, x.1.now)) result ≡ cut_at byte text.now }
+{
+    let at = place_of(byte, text)?;
+    Some((&text[..at], &text[at + 1..]))
+}
+
+/// The first line without its LF, and what follows it; none at the end of the text.
+#[tactic(auto, unfolding(plain_model::specs::Parts::line_at))]
+pub fn first_line(text: &[u8]) -> Option<(&[u8], &[u8])>
+    ensures { option_map (λ x. (x.0.now, x.1.now)) result ≡ line_at text.now }
+{
+    if text.is_empty() {
+        return None;
+    }
+    match place_of(b'\n', text) {
+        Some(at) => Some((&text[..at], &text[at + 1..])),
+        None => Some((text, &[])),
+    }
+}
+
+/// What stands behind a word, where the text begins with it.
+#[tactic(auto, unfolding(plain_model::specs::Parts::behind))]
+pub fn strip<'a>(word: &[u8], text: &'a [u8]) -> Option<&'a [u8]>
+    ensures { option_copied result ≡ behind word.now text.now }
+{
+    text.strip_prefix(word)
+}
+
+/// What follows the one LF that may stand there.
+pub fn skip_line_feed(text: &[u8]) -> &[u8]
+    ensures { result.now ≡ skip_lf text.now }
+{
+    match text {
+        [b'\n', rest @ ..] => rest,
+        _ => text,
+    }
+}
+
+/// The first word, and what stands behind the space that ends it, if one does.
+pub fn words(text: &[u8]) -> (&[u8], Option<&[u8]>)
+    ensures first { result.0.now ≡ first_word text.now }
+    ensures behind { option_copied result.1 ≡ behind_space text.now }
+{
+    match cut(b' ', text) {
+        Some((word, rest)) => (word, Some(rest)),
+        None => (text, None),
+    }
+}

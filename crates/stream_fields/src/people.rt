@@ -1,0 +1,104 @@
+//! Who did something, and when, as it is spelled.
+ghost use Rattle.std.specs.Prelude.{◌≡◌};
+ghost use Rattle.std.specs.Option.{option_map, option_copied};
+ghost use Rattle.plain_model.specs.Fields.{person_in};
+ghost use Rattle.plain_model.specs.Parts.{name_of, zone_of, when_of, when_behind, person_parts};
+ghost use Rattle.plain_model.specs.People.{is_clean};
+ghost use Rattle.stream_fields.specs.Answers.{Gives};
+
+use crate::fault::{FieldFault, due};
+use crate::lines::{cut, strip};
+use crate::numbers::number_up_to;
+use plain_model::{Items, MAX_SECONDS, Person, Signed, When, Why};
+use std::alloc::Global;
+
+// The name before an email: nothing, or what stands before a last space.
+#[tactic(auto, unfolding(plain_model::specs::Parts::name_of))]
+fn name_before(part: &[u8]) -> Option<&[u8]>
+    ensures { option_copied result ≡ name_of part.now }
+{
+    if part.is_empty() {
+        return Some(&[]);
+    }
+    let last = part.len() - 1;
+    if part[last] == b' ' {
+        Some(&part[..last])
+    } else {
+        None
+    }
+}
+
+fn is_clean_text(text: &[u8]) -> bool
+    ensures { result ≡ is_clean text.now }
+{
+    text.iter().all(|b| *b != b'<' && *b != b'>' && *b != 0)
+}
+
+// The moment of these seconds, with a sign and four digits.
+#[tactic(auto, unfolding(plain_model::specs::Parts::zone_of))]
+fn with_zone(seconds: u64, text: &[u8]) -> Option<When>
+    ensures { result ≡ zone_of seconds text.now }
+{
+    match text {
+        [] => None,
+        [sign, zone @ ..] => {
+            if !((*sign == b'+' || *sign == b'-') && zone.len() == 4) {
+                return None;
+            }
+            let offset = number_up_to(9999, zone)? as u16;
+            Some(When {
+                seconds,
+                minus: *sign == b'-',
+                offset,
+            })
+        }
+    }
+}
+
+// Seconds, a sign and four digits.
+#[tactic(auto, unfolding(plain_model::specs::Parts::when_of))]
+fn moment(text: &[u8]) -> Option<When>
+    ensures { result ≡ when_of text.now }
+{
+    let (seconds, rest) = cut(b' ', text)?;
+    let seconds = number_up_to(MAX_SECONDS, seconds)?;
+    with_zone(seconds, rest)
+}
+
+// The moment behind an email and a space.
+#[tactic(auto, unfolding(plain_model::specs::Parts::when_behind))]
+fn moment_behind(tail: &[u8]) -> Option<When>
+    ensures { result ≡ when_behind tail.now }
+{
+    moment(strip(b" ", tail)?)
+}
+
+// A name, an email, and what follows the email.
+#[tactic(auto, unfolding(plain_model::specs::Parts::person_parts))]
+fn parts_of_person(text: &[u8]) -> Option<(&[u8], &[u8], &[u8])>
+    ensures { option_map (λ x. (x.0.now, x.1.now, x.2.now)) result ≡ person_parts text.now }
+{
+    let (front, rest) = cut(b'<', text)?;
+    let (email, tail) = cut(b'>', rest)?;
+    let name = name_before(front)?;
+    if is_clean_text(name) && is_clean_text(email) {
+        Some((name, email, tail))
+    } else {
+        None
+    }
+}
+
+/// Who and when: a name and a space, or nothing; an email in `<` and `>`; seconds; a sign and four digits.
+/// (git-fast-import, `committer`.)
+#[tactic(auto, unfolding(plain_model::specs::Fields::person_in))]
+pub fn read_person(alloc: Global, text: &[u8]) -> Result<Signed, FieldFault>
+    ensures { Gives (λ who. who) result (person_in text.now) }
+{
+    let (name, email, tail) = due(Why::BadPerson, parts_of_person(text))?;
+    let when = due(Why::BadWhen, moment_behind(tail))?;
+    let person = Person {
+        name: Items::of(alloc, name)?,
+        email: Items::of(alloc, email)?,
+    };
+    Ok(Signed { person, when })
+}

@@ -1,0 +1,103 @@
+//! Fields at the end of a text: each is put whole, or the text stays as it was. What is written is read again as the
+//! same value.
+ghost use Rattle.std.specs.Prelude.{
+  ◌≡◌,
+  ℕ,
+  List,
+  ◌∷◌,
+  ◌++◌,
+  Ok,
+  OnOk,
+  OnErr,
+  IsTrue,
+  codes,
+  decimal,
+  length,
+};
+ghost use Rattle.plain_model.specs.Fields.{
+  mark_in,
+  person_in,
+  path_in,
+  may_follow,
+  op_in,
+  block_in,
+  HasItsContent,
+};
+ghost use Rattle.plain_model.specs.Soundness.{IsFormedSigned};
+ghost use Rattle.plain_model.specs.Text.{marked, person, path_text, raw_op_text, data_block};
+
+use crate::written_parts::{push_data, push_marked, push_op, push_path, push_person};
+use plain_model::{Mark, NoMemory, Path, Place, RawOp, Signed, Text};
+
+/// Puts a mark with its colon. (git-fast-import, `mark`.)
+#[tactic(auto, using(field_laws::proofs::FieldsAgain::mark_again))]
+pub fn write_mark(mark: Mark, into: &mut Text) -> Result<(), NoMemory>
+    ensures ok { OnOk result (into.new ≡ into.old ++ marked mark) }
+    ensures err { OnErr result (into.new ≡ into.old) }
+    ensures again { OnOk result (mark_in (marked mark) ≡ Ok mark) }
+{
+    let mut field = into.empty_like();
+    push_marked(&mut field, mark.number())?;
+    into.push_all(field.as_slice())
+}
+
+/// Puts who and when: the name and a space, if there is a name, the email in `<` and `>`, the seconds without leading
+/// zeros, the sign and four digits of the zone. (git-fast-import, `committer`.)
+#[tactic(auto, using(field_laws::proofs::FieldsAgain::person_again))]
+pub fn write_person(signed: &Signed, into: &mut Text) -> Result<(), NoMemory>
+    ensures ok { OnOk result (into.new ≡ into.old ++ person signed.now) }
+    ensures err { OnErr result (into.new ≡ into.old) }
+    ensures again { OnOk result
+        (IsFormedSigned signed.now → person_in (person signed.now) ≡ Ok signed.now) }
+{
+    let mut field = into.empty_like();
+    push_person(&mut field, signed)?;
+    into.push_all(field.as_slice())
+}
+
+/// Puts a path, in quotes exactly where it begins with one, holds an LF, or stands before another path and holds a
+/// space. In quotes a backslash stands before `"` and a backslash, and LF is `\n`. (git-fast-import, `<path>`.)
+#[tactic(auto, using(field_laws::proofs::PathsAgain::path_again))]
+pub fn write_path(path: &Path, place: Place, into: &mut Text) -> Result<(), NoMemory>
+    ensures ok { OnOk result (into.new ≡ into.old ++ path_text place path.now) }
+    ensures err { OnErr result (into.new ≡ into.old) }
+    ensures again { OnOk result ((rest : List ℕ) → IsTrue (may_follow place rest)
+        → path_in place (path_text place path.now ++ rest)
+        ≡ Ok (path.now, length (path_text place path.now))) }
+{
+    let mut field = into.empty_like();
+    push_path(&mut field, path, place)?;
+    into.push_all(field.as_slice())
+}
+
+/// Puts an operation without the end of its line. One that gives a link to another repository a mark or bytes is
+/// written too, and isn't read again. (git-fast-import, `M`, `D`, `C`, `R`, `deleteall`.)
+#[tactic(auto, using(field_laws::proofs::FieldsAgain::op_again))]
+pub fn write_op(op: &RawOp, into: &mut Text) -> Result<(), NoMemory>
+    ensures ok { OnOk result (into.new ≡ into.old ++ raw_op_text op.now) }
+    ensures err { OnErr result (into.new ≡ into.old) }
+    ensures again { OnOk result
+        (HasItsContent op.now → op_in (raw_op_text op.now) ≡ Ok op.now) }
+{
+    let mut field = into.empty_like();
+    push_op(&mut field, op)?;
+    into.push_all(field.as_slice())
+}
+
+/// Puts the line `data COUNT`, the bytes and an LF. (git-fast-import, `data`.)
+pub fn write_data(bytes: &[u8], into: &mut Text) -> Result<(), NoMemory>
+    ensures ok { OnOk result (into.new ≡ into.old ++ data_block bytes.now) }
+    ensures err { OnErr result (into.new ≡ into.old) }
+    ensures again { OnOk result ((rest : List ℕ)
+        → block_in (codes "data " ++ decimal (length bytes.now)) (bytes.now ++ 10 ∷ rest)
+        ≡ Ok (bytes.now, rest)) }
+{
+    let before = into.as_slice().len();
+    match push_data(into, bytes) {
+        Ok(()) => Ok(()),
+        Err(NoMemory) => {
+            into.truncate(before);
+            Err(NoMemory)
+        }
+    }
+}
