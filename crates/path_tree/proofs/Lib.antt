@@ -1,0 +1,10 @@
+mod Above
+mod Below
+mod Changes
+mod Exchanging
+mod JoinedPaths
+mod KeptPaths
+mod MapEntries
+mod Moving
+mod Operating
+mod Orders

@@ -1,0 +1,5 @@
+pub mod Answers
+pub mod Exchanges
+pub mod Moves
+pub mod PathMaps
+pub mod Sound
