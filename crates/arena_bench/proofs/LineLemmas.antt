@@ -1,0 +1,200 @@
+-- A line of commits is sound, one step after another.
+use Rattle.std.proofs.Common.{◌≡◌, ◌∙◌, ℕ, ◌+◌, ◌*◌, ◌<◌, ◌≤◌, Bool, true, false, ◌||◌, ◌⊎◌, inl, inr, List, [], ◌∷◌, ◌++◌, Option, Some, refl, sym, ap, subst, eqb, arith, append_assoc, reverse, codes, lit≤}
+use Rattle.std.proofs.lemmas.Bool.{cases_Bool, true≢false}
+use Rattle.std.proofs.lemmas.Bool.Decides.{nat_tests}
+use Rattle.std.proofs.lemmas.List.{reverse-append}
+use Rattle.std.specs.List.{AllByRecursion}
+use Rattle.std.specs.Prelude.{length, IsSome}
+use Rattle.plain_model.specs.declared.id.AnyId.{AnyId}
+use Rattle.plain_model.specs.declared.id.AnyId.TheVariants as any
+use Rattle.plain_model.specs.declared.operation.Entry.{Entry}
+use Rattle.plain_model.specs.declared.operation.Mode.TheVariants.{Plain}
+use Rattle.plain_model.specs.declared.operation.Content.TheVariants.{Blob as OfBlob}
+use Rattle.plain_model.specs.declared.event.PlainEvent.{PlainEvent}
+use Rattle.plain_model.specs.declared.event.PlainEvent.TheVariants as plain
+use Rattle.plain_model.specs.Histories.{Node, begun, folded, nodes, past, tree, tree_in}
+use Rattle.plain_model.specs.Lookups.{AreIdsBelow, id_number}
+use Rattle.plain_model.specs.Soundness.{AreSoundBehind, IsCommitOf, IsFormedSigned, IsSound, IsSoundEvent, are_distinct, has_id}
+use Rattle.plain_model.specs.Streams.{is_marked}
+use Rattle.plain_model.specs.Trees.{Tree}
+use Rattle.event_arena.proofs.SoundLemmas.{has_id-append, has_id-find, is_marked-append}
+use Rattle.arena_bench.specs.Lines.{blob, commit, operation, parents_at, who}
+
+-- ---- tests and lists
+
+differ : (a b : ℕ) → a < b → eqb a b ≡ false
+differ a b h = grind (arith, nat_tests)
+
+self : (n : ℕ) → eqb n n ≡ true
+self n = grind (arith, nat_tests)
+
+or_false : (b : Bool) → b || false ≡ b
+or_false true = refl
+or_false false = refl
+
+or_true : (b : Bool) → b || true ≡ true
+or_true true = refl
+or_true false = refl
+
+append-nil : {X : Type 0} (xs : List X) → xs ++ [] ≡ xs
+append-nil [] = refl
+append-nil (x ∷ xs) = ap (λ ys. x ∷ ys) (append-nil xs)
+
+sound-append : (earlier xs : List PlainEvent) (e : PlainEvent) → AreSoundBehind earlier xs → IsSoundEvent (earlier ++ xs) e → AreSoundBehind earlier (xs ++ e ∷ [])
+sound-append earlier [] e h s = (subst (λ es. IsSoundEvent es e) (append-nil earlier) s, tt)
+sound-append earlier (x ∷ xs) e h s =
+    (h.0, sound-append (earlier ++ x ∷ []) xs e h.1 (subst (λ es. IsSoundEvent es e) (sym (append_assoc earlier (x ∷ []) xs)) s))
+
+-- ---- the trees of a line
+
+-- the one file stands there, and nothing else
+abbrev pub OneFile : Option Tree → Type 0
+OneFile o = (entry : Entry) × (o ≡ Some ((codes "f", entry) ∷ []))
+
+nodes-append : (xs ys : List PlainEvent) → nodes (xs ++ ys) ≡ nodes xs ++ nodes ys
+nodes-append [] ys = refl
+nodes-append (plain.Commit id mark branch author committer encoding comment parents ops ∷ xs) ys =
+    ap (λ ns. record { id = id; parents = parents; ops = ops } ∷ ns) (nodes-append xs ys)
+nodes-append (plain.Blob id mark bytes ∷ xs) ys = nodes-append xs ys
+nodes-append (plain.Tag id name target tagger comment ∷ xs) ys = nodes-append xs ys
+nodes-append (plain.Reset id branch target ∷ xs) ys = nodes-append xs ys
+nodes-append (plain.Pass id line ∷ xs) ys = nodes-append xs ys
+
+node_at : ℕ → Node
+node_at step = record { id = 2 * step + 2; parents = parents_at step; ops = operation step ∷ [] }
+
+past-more : (step : ℕ) (events : List PlainEvent) → past ((events ++ blob step ∷ []) ++ commit step ∷ []) ≡ node_at step ∷ past events
+unfolding node_at
+past-more step events =
+    ap reverse (nodes-append (events ++ blob step ∷ []) (commit step ∷ []) ∙ ap (λ ns. ns ++ node_at step ∷ []) (nodes-append events (blob step ∷ []) ∙ append-nil (nodes events)))
+    ∙ reverse-append (nodes events) (node_at step ∷ [])
+
+one-op : (step : ℕ) (o : Option Tree) → (o ≡ Some []) ⊎ OneFile o → OneFile (folded (operation step ∷ []) o)
+one-op step o (inl e) = rw e (record { mode = Plain; content = OfBlob (2 * step + 1) }, refl)
+one-op step o (inr (entry, e)) = rw e (record { mode = Plain; content = OfBlob (2 * step + 1) }, refl)
+
+-- ---- the steps
+
+-- the events of so many steps
+pub record IsLine (step : ℕ) (events : List PlainEvent) : Type 0 where
+  pub formed : AreSoundBehind [] events
+  pub ids : (id : AnyId) → 2 * step < id_number id → has_id events id ≡ false
+  pub marks : (m : ℕ) → 2 * step < m → is_marked events m ≡ false
+  pub last : eqb step 0 ≡ false → has_id events (any.Commit (2 * step)) ≡ true
+  pub trees : (c : ℕ) → has_id events (any.Commit c) ≡ true → OneFile (tree events c)
+
+pub line-none : IsLine 0 []
+line-none = record {
+  formed = tt;
+  ids = λ id h. refl;
+  marks = λ m h. refl;
+  last = λ h. absurd (true≢false h);
+  trees = λ c h. absurd (true≢false (sym h));
+}
+
+who-formed : IsFormedSigned who
+who-formed = (refl, lit≤ tt, lit≤ tt)
+
+blob-not : (n m : ℕ) (bytes : List ℕ) (id : AnyId) → n < id_number id → has_id (plain.Blob n m bytes ∷ []) id ≡ false
+blob-not n m bytes (any.Blob x) h = rw (differ n x h) refl
+blob-not n m bytes _ h = refl
+
+commit-not : (step : ℕ) (id : AnyId) → 2 * step + 2 < id_number id → has_id (commit step ∷ []) id ≡ false
+commit-not step (any.Commit x) h = rw (differ (2 * step + 2) x h) refl
+commit-not step _ h = refl
+
+module _ (step : ℕ) (events : List PlainEvent) (h : IsLine step events) where
+  mid : List PlainEvent
+  mid = events ++ blob step ∷ []
+
+  commit-sound : IsSoundEvent mid (commit step)
+  unfolding mid
+  commit-sound =
+      let new = any.Commit (2 * step + 2) in (
+        has_id-append events (blob step ∷ []) new ∙ ap (λ t. t || false) (h.ids new (omega arith)),
+        is_marked-append events (blob step ∷ []) (2 * step + 2) ∙ (λ i. h.marks (2 * step + 2) (omega arith) i || (differ (2 * step + 1) (2 * step + 2) (omega arith) i || false)),
+        refl,
+        who-formed,
+        who-formed,
+        tt,
+        parents,
+        distinct,
+        few,
+        (named, tt),
+      )
+    where
+      there : eqb step 0 ≡ false → has_id (events ++ blob step ∷ []) (any.Commit (2 * step)) ≡ true
+      there later = has_id-append events (blob step ∷ []) (any.Commit (2 * step)) ∙ ap (λ t. t || false) (h.last later)
+
+      parents : AllByRecursion (IsCommitOf (events ++ blob step ∷ [])) (parents_at step)
+      parents = elim (cases_Bool (eqb step 0)) [ inl it ↦ rw it tt | inr later ↦ rw later (there later, tt) ]
+
+      distinct : are_distinct (parents_at step) ≡ true
+      distinct = elim (cases_Bool (eqb step 0)) [ inl it ↦ rw it refl | inr later ↦ rw later refl ]
+
+      few : length (parents_at step) ≤ 64
+      few = elim (cases_Bool (eqb step 0)) [ inl it ↦ rw it (lit≤ tt) | inr later ↦ rw later (lit≤ tt) ]
+
+      named : has_id (events ++ blob step ∷ []) (any.Blob (2 * step + 1)) ≡ true
+      named = has_id-append events (blob step ∷ []) (any.Blob (2 * step + 1))
+          ∙ ap (λ t. has_id events (any.Blob (2 * step + 1)) || (t || false)) (self (2 * step + 1)) ∙ or_true (has_id events (any.Blob (2 * step + 1)))
+
+  no-later : (id : AnyId) → 2 * (step + 1) < id_number id → has_id (mid ++ commit step ∷ []) id ≡ false
+  unfolding mid
+  no-later id low =
+      has_id-append mid (commit step ∷ []) id
+      ∙ (λ i. (has_id-append events (blob step ∷ []) id ∙ (λ j. h.ids id (omega arith) j || blob-not (2 * step + 1) (2 * step + 1) (codes "a line of a small file\n") id (omega arith) j)) i
+      || commit-not step id (omega arith) i)
+
+  no-later-mark : (m : ℕ) → 2 * (step + 1) < m → is_marked (mid ++ commit step ∷ []) m ≡ false
+  unfolding mid
+  no-later-mark m low =
+      is_marked-append mid (commit step ∷ []) m
+      ∙ (λ i. (is_marked-append events (blob step ∷ []) m ∙ (λ j. h.marks m (omega arith) j || (differ (2 * step + 1) m (omega arith) j || false))) i
+      || (differ (2 * step + 2) m (omega arith) i || false))
+
+  is-last : has_id (mid ++ commit step ∷ []) (any.Commit (2 * (step + 1))) ≡ true
+  is-last =
+      let same : 2 * (step + 1) ≡ 2 * step + 2 = omega arith in
+      ap (λ n. has_id (mid ++ commit step ∷ []) (any.Commit n)) same
+      ∙ has_id-append mid (commit step ∷ []) (any.Commit (2 * step + 2))
+      ∙ ap (λ t. has_id mid (any.Commit (2 * step + 2)) || (t || false)) (self (2 * step + 2)) ∙ or_true (has_id mid (any.Commit (2 * step + 2)))
+
+  tree-of : (c : ℕ) → has_id (mid ++ commit step ∷ []) (any.Commit c) ≡ true → OneFile (tree (mid ++ commit step ∷ []) c)
+  unfolding mid node_at
+  tree-of c there =
+      subst (λ p. OneFile (tree_in p c)) (sym (past-more step events)) (elim (cases_Bool (eqb (2 * step + 2) c)) [
+        | inl it ↦ rw it (one-op step (begun (tree_in (past events)) (parents_at step)) (elim (cases_Bool (eqb step 0)) [
+          | inl first ↦ inl (rw first refl)
+          | inr later ↦ inr (rw later (h.trees (2 * step) (h.last later)))
+        ]))
+        | inr no_it ↦ rw no_it (h.trees c (sym (older no_it) ∙ there))
+      ])
+    where
+      older : eqb (2 * step + 2) c ≡ false → has_id ((events ++ blob step ∷ []) ++ commit step ∷ []) (any.Commit c) ≡ has_id events (any.Commit c)
+      older no_it =
+          has_id-append (events ++ blob step ∷ []) (commit step ∷ []) (any.Commit c)
+          ∙ ap (λ t. has_id (events ++ blob step ∷ []) (any.Commit c) || (t || false)) no_it ∙ or_false (has_id (events ++ blob step ∷ []) (any.Commit c))
+          ∙ has_id-append events (blob step ∷ []) (any.Commit c) ∙ or_false (has_id events (any.Commit c))
+
+  pub line-more : IsLine (step + 1) ((events ++ blob step ∷ []) ++ commit step ∷ [])
+  unfolding mid
+  line-more = record {
+    formed = sound-append [] mid (commit step) (sound-append [] events (blob step) h.formed (h.ids (any.Blob (2 * step + 1)) (omega arith), h.marks (2 * step + 1) (omega arith))) commit-sound;
+    ids = no-later;
+    marks = no-later-mark;
+    last = λ _. is-last;
+    trees = tree-of;
+  }
+
+pub line-sound : (step : ℕ) (events : List PlainEvent) → IsLine step events → IsSound events
+line-sound step events h = record { formed = h.formed; trees = λ c there. some (tree events c) (h.trees c there) }
+  where
+    some : (o : Option Tree) → OneFile o → IsSome o
+    some o (entry, e) = rw e refl
+
+pub line-low : (step : ℕ) (events : List PlainEvent) → step < 1073741824 → IsLine step events → AreIdsBelow 4611686018427387904 events
+line-low step events few h id there = within (id_number id) (λ above. true≢false (sym (has_id-find events id ∙ there) ∙ h.ids id above))
+  where
+    within : (n : ℕ) → (2 * step < n → ⊥) → n < 4611686018427387904
+    within n not_above = omega arith

@@ -1,0 +1,75 @@
+-- The example of the tests is sound, with its tag, without it, and with another tag.
+use Rattle.std.proofs.Common.{◌≡◌, ℕ, ◌≤◌, inl, inr, List, [], ◌∷◌, ◌++◌, refl, sym, subst, eqb, lit<, lit≤}
+use Rattle.std.proofs.lemmas.Bool.{cases_Bool, eqb-true, true≢false}
+use Rattle.std.specs.Prelude.{IsSome}
+use Rattle.plain_model.specs.declared.event.PlainEvent.{PlainEvent}
+use Rattle.plain_model.specs.declared.id.AnyId.TheVariants as any
+use Rattle.plain_model.specs.Histories.{tree}
+use Rattle.plain_model.specs.Lookups.{AreIdsBelow, next_number}
+use Rattle.plain_model.specs.Soundness.{AreSoundBehind, IsCommitOf, IsFormedSigned, IsSound}
+use Rattle.event_arena.specs.Changes.{IsOrderOf, without}
+use Rattle.event_arena.specs.Examples.{example, front, other_order, reset, signed, tag}
+use Rattle.event_arena.proofs.MeasureLemmas.{ids-below}
+
+signed-formed : (n : ℕ) → n ≤ 250000000000 → IsFormedSigned (signed n)
+signed-formed n h = (refl, h, lit≤ tt)
+
+-- what stands soundly behind the commits
+behind : (rest : List PlainEvent) → AreSoundBehind front rest → AreSoundBehind [] (front ++ rest)
+behind rest h = (
+  (refl, refl),
+  (
+    (refl, refl, refl, signed-formed 2 (lit≤ tt), signed-formed 2 (lit≤ tt), tt, tt, refl, lit≤ tt, tt),
+    (
+      (refl, refl, refl, signed-formed 3 (lit≤ tt), signed-formed 3 (lit≤ tt), tt, (refl, tt), refl, lit≤ tt, tt),
+      (
+        (refl, refl, refl, signed-formed 4 (lit≤ tt), signed-formed 4 (lit≤ tt), tt, (refl, tt), refl, lit≤ tt, tt),
+        (
+          (refl, refl, refl, signed-formed 5 (lit≤ tt), signed-formed 5 (lit≤ tt), tt, (refl, (refl, tt)), refl, lit≤ tt, tt),
+          h,
+        ),
+      ),
+    ),
+  ),
+)
+
+-- the commits, and so their trees, are the same in all three
+trees : (c : ℕ) → IsCommitOf example c → IsSome (tree example c)
+unfolding example
+trees c h = elim (cases_Bool (eqb 2 c)) [
+  | inl it ↦ subst (λ n. IsSome (tree example n)) (eqb-true 2 c it) refl
+  | inr no_2 ↦ elim (cases_Bool (eqb 3 c)) [
+    | inl it ↦ subst (λ n. IsSome (tree example n)) (eqb-true 3 c it) refl
+    | inr no_3 ↦ elim (cases_Bool (eqb 4 c)) [
+      | inl it ↦ subst (λ n. IsSome (tree example n)) (eqb-true 4 c it) refl
+      | inr no_4 ↦ elim (cases_Bool (eqb 5 c)) [
+        | inl it ↦ subst (λ n. IsSome (tree example n)) (eqb-true 5 c it) refl
+        | inr no_5 ↦ absurd (true≢false (sym (rw (no_2, no_3, no_4, no_5) at h)))
+      ]
+    ]
+  ]
+]
+
+pub example-sound : IsSound example
+unfolding example
+example-sound = record { formed = behind (tag 6 5 ∷ reset ∷ []) ((refl, refl, refl, tt), ((refl, refl, refl), tt)); trees = trees }
+
+pub untagged-sound : IsSound (without (any.Tag 6) example)
+unfolding example
+untagged-sound = record { formed = behind (reset ∷ []) ((refl, refl, refl), tt); trees = trees }
+
+pub retagged-sound : IsSound (without (any.Tag 6) example ++ tag 8 5 ∷ [])
+unfolding example
+retagged-sound = record { formed = behind (reset ∷ tag 8 5 ∷ []) ((refl, refl, refl), ((refl, refl, refl, tt), tt)); trees = trees }
+
+pub example-low : AreIdsBelow 4611686018427387904 example
+unfolding example
+example-low = ids-below 4611686018427387904 example (lit< tt, (lit< tt, (lit< tt, (lit< tt, (lit< tt, (lit< tt, (lit< tt, tt)))))))
+
+pub example-next : next_number example ≡ 8
+unfolding example
+example-next = refl
+
+pub other-permutes : IsOrderOf other_order example
+unfolding example other_order
+other-permutes = record { moves = (0, 1) ∷ (5, 6) ∷ []; below = (lit< tt, lit< tt, (lit< tt, lit< tt, tt)); is = refl }

@@ -1,0 +1,11 @@
+pub mod ChainLemmas
+pub mod ChangeLemmas
+pub mod Examples
+pub mod Ids
+pub mod LinkLemmas
+pub mod ListLemmas
+pub mod MeasureLemmas
+pub mod OnceLemmas
+pub mod RowLemmas
+pub mod SoundLemmas
+pub mod SpentLemmas

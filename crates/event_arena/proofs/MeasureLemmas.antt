@@ -1,0 +1,82 @@
+-- What a list of events comes to.
+use Rattle.std.proofs.Common.{◌≡◌, ◌∙◌, ℕ, zero, suc, ◌+◌, ◌<◌, ◌≤◌, inl, inr, List, [], ◌∷◌, Some, refl, sym, ap, subst, length, take, max, arith, length-append}
+use Rattle.std.proofs.lemmas.Bool.{cases_Bool, true≢false}
+use Rattle.std.proofs.lemmas.Option.{none-some, same_Some}
+use Rattle.std.specs.List.{AllByRecursion, fold}
+use Rattle.std.specs.Prelude.{flat_map, map, slice_get, IsSome}
+use Rattle.plain_model.specs.declared.id.AnyId.{AnyId}
+use Rattle.plain_model.specs.declared.event.PlainEvent.{PlainEvent}
+use Rattle.plain_model.specs.Lookups.{AreIdsBelow, event_parents, find_event, id_number, id_of, marks_of, next_number, own_mark, referents_of, same_id}
+use Rattle.plain_model.specs.declared.event.PlainEvent.TheVariants as plain
+use Rattle.plain_model.specs.declared.id.AnyId.TheVariants as any
+use Rattle.event_arena.specs.Needs.{event_need, need}
+use Rattle.event_arena.proofs.Ids.{same_id-refl, same_id-true}
+use Rattle.event_arena.proofs.ListLemmas.{flat-take-item, length-take-item}
+
+-- ---- room
+
+pub need-more : (es : List PlainEvent) (k : ℕ) (e : PlainEvent) → slice_get es k ≡ Some e → need (take (suc k) es) ≡ need (take k es) + event_need e
+need-more es k e h =
+    let a = length-take-item es k e h in
+    let b = ap length (flat-take-item referents_of es k e h) ∙ length-append (flat_map referents_of (take k es)) (referents_of e) in
+    let c = ap length (flat-take-item own_mark es k e h) ∙ length-append (marks_of (take k es)) (own_mark e) in
+    omega arith
+
+-- parents are among what an event refers to
+parents-referents : (e : PlainEvent) → length (event_parents e) ≤ length (referents_of e)
+parents-referents (plain.Commit id mark branch author committer encoding comment parents ops) = rw length-append (rw (mapped parents) (omega arith))
+  where
+    mapped : (ps : List ℕ) → length (map any.Commit ps) ≡ length ps
+    mapped [] = refl
+    mapped (p ∷ ps) = ap suc (mapped ps)
+parents-referents (plain.Blob id mark bytes) = omega arith
+parents-referents (plain.Tag id name target tagger comment) = omega arith
+parents-referents (plain.Reset id branch target) = omega arith
+parents-referents (plain.Pass id line) = omega arith
+
+pub parents-need : (es : List PlainEvent) → length (flat_map event_parents es) ≤ need es
+parents-need es = let h = along es in omega arith
+  where
+    along : (es : List PlainEvent) → length (flat_map event_parents es) ≤ length (flat_map referents_of es)
+    along [] = omega arith
+    along (e ∷ es) = rw (length-append (event_parents e) (flat_map event_parents es), length-append (referents_of e) (flat_map referents_of es))
+        (let a = parents-referents e in let b = along es in omega arith)
+
+-- ---- ids
+
+found-at : (es : List PlainEvent) (k : ℕ) (e : PlainEvent) → slice_get es k ≡ Some e → IsSome (find_event (id_of e) es)
+found-at [] k e h = absurd (none-some e h)
+found-at (x ∷ es) zero e h = rw (sym (ap (λ y. same_id (id_of y) (id_of x)) (same_Some x e h)) ∙ same_id-refl (id_of x)) refl
+found-at (x ∷ es) (suc k) e h = elim (cases_Bool (same_id (id_of e) (id_of x))) [
+  | inl it ↦ rw it refl
+  | inr no_it ↦ rw no_it (found-at es k e h)
+]
+
+-- the id of each event is below the bound
+pub below-at : (bound : ℕ) (es : List PlainEvent) (k : ℕ) (e : PlainEvent) → AreIdsBelow bound es → slice_get es k ≡ Some e → id_number (id_of e) < bound
+below-at bound es k e below h = below (id_of e) (found-at es k e h)
+
+-- each id is below one above the greatest
+pub below-next : (es : List PlainEvent) → AreIdsBelow (next_number es) es
+below-next es = along es 1
+  where
+    grows : (es : List PlainEvent) (a : ℕ) → a ≤ fold (λ n e. max n (id_number (id_of e) + 1)) a es
+    grows [] a = omega arith
+    grows (e ∷ es) a = let h = grows es (max a (id_number (id_of e) + 1)) in omega arith
+
+    along : (es : List PlainEvent) (a : ℕ) (id : AnyId) → IsSome (find_event id es) → id_number id < fold (λ n e. max n (id_number (id_of e) + 1)) a es
+    along [] a id h = absurd (true≢false (sym h))
+    along (e ∷ es) a id h = elim (cases_Bool (same_id id (id_of e))) [
+      | inl it ↦
+          let here = grows es (max a (id_number (id_of e) + 1)) in
+          let same = ap id_number (same_id-true id (id_of e) it) in
+          omega arith
+      | inr no_it ↦ along es (max a (id_number (id_of e) + 1)) id (rw no_it at h)
+    ]
+
+pub ids-below : (bound : ℕ) (es : List PlainEvent) → AllByRecursion (λ e. id_number (id_of e) < bound) es → AreIdsBelow bound es
+ids-below bound [] h id there = absurd (true≢false (sym there))
+ids-below bound (e ∷ es) h id there = elim (cases_Bool (same_id id (id_of e))) [
+  | inl it ↦ subst (λ x. id_number x < bound) (sym (same_id-true id (id_of e) it)) h.0
+  | inr no_it ↦ ids-below bound es h.1 id (rw no_it at there)
+]

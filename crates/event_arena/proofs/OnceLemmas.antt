@@ -1,0 +1,69 @@
+-- Ids and marks that stand once.
+use Rattle.std.proofs.Common.{◌≡◌, ◌∙◌, ℕ, ◌+◌, ◌≤◌, false, inl, inr, List, [], ◌∷◌, ◌++◌, Some, None, refl, ap, sym, subst, eqb, length, take, drop, arith, length-append, suc}
+use Rattle.std.proofs.lemmas.Bool.{cases_Bool}
+use Rattle.std.proofs.lemmas.Bool.Decides.{nat_tests}
+use Rattle.std.proofs.lemmas.Option.{none-some}
+use Rattle.std.specs.Map.{lookup}
+use Rattle.std.specs.Prelude.{flat_map, slice_get}
+use Rattle.plain_model.specs.declared.id.AnyId.{AnyId}
+use Rattle.plain_model.specs.declared.event.PlainEvent.{PlainEvent}
+use Rattle.plain_model.specs.Lookups.{find_event, id_of, marks_of, own_mark, same_id}
+use Rattle.event_arena.specs.Once.{AreDistinct, AreMarkedOnce}
+use Rattle.event_arena.proofs.Ids.{same_id-comm}
+use Rattle.event_arena.proofs.ListLemmas.{flat-split, flat-take-item}
+use Rattle.event_arena.proofs.SpentLemmas.{absent-cons}
+
+-- ---- ids
+
+not-found : (xs ys : List PlainEvent) (e : PlainEvent) (id : AnyId) → find_event id (xs ++ e ∷ ys) ≡ None → same_id (id_of e) id ≡ false
+not-found [] ys e id h = same_id-comm (id_of e) id ∙ (absent-cons id e ys h).0
+not-found (x ∷ xs) ys e id h = not-found xs ys e id (absent-cons id x (xs ++ e ∷ ys) h).1
+
+-- what stands before an event lacks its id
+pub distinct-absent : (xs ys : List PlainEvent) (e : PlainEvent) → AreDistinct (xs ++ e ∷ ys) → find_event (id_of e) xs ≡ None
+distinct-absent [] ys e h = refl
+distinct-absent (x ∷ xs) ys e h = rw (not-found xs ys e (id_of x) h.0) (distinct-absent xs ys e h.1)
+
+-- ---- marks
+
+turned : (a b : ℕ) → eqb a b ≡ eqb b a
+turned a b = grind (arith, nat_tests)
+
+not-in : (xs ys : List (ℕ × AnyId)) (m : ℕ) (i : AnyId) (k : ℕ) → lookup (λ n. eqb k n) (xs ++ (m, i) ∷ ys) ≡ None → eqb m k ≡ false
+not-in [] ys m i k h = elim (cases_Bool (eqb k m)) [
+  | inl it ↦ absurd (none-some i (sym h ∙ rw it refl))
+  | inr no_it ↦ turned m k ∙ no_it
+]
+not-in (x ∷ xs) ys m i k h = elim (cases_Bool (eqb k x.0)) [
+  | inl it ↦ absurd (none-some x.1 (sym h ∙ rw it refl))
+  | inr no_it ↦ not-in xs ys m i k (rw no_it at h)
+]
+
+-- a mark that comes isn't there yet
+pub marked-absent : (xs ys : List (ℕ × AnyId)) (m : ℕ) (i : AnyId) → AreMarkedOnce (xs ++ (m, i) ∷ ys) → lookup (λ n. eqb m n) xs ≡ None
+marked-absent [] ys m i h = refl
+marked-absent (x ∷ xs) ys m i h = rw (not-in xs ys m i x.0 h.0) (marked-absent xs ys m i h.1)
+
+lookup-front : (xs ys : List (ℕ × AnyId)) (k : ℕ) → lookup (λ n. eqb k n) (xs ++ ys) ≡ None → lookup (λ n. eqb k n) xs ≡ None
+lookup-front [] ys k h = refl
+lookup-front (x ∷ xs) ys k h = elim (cases_Bool (eqb k x.0)) [
+  | inl it ↦ absurd (none-some x.1 (sym h ∙ rw it refl))
+  | inr no_it ↦ rw no_it (lookup-front xs ys k (rw no_it at h))
+]
+
+marked-front : (xs ys : List (ℕ × AnyId)) → AreMarkedOnce (xs ++ ys) → AreMarkedOnce xs
+marked-front [] ys h = tt
+marked-front (x ∷ xs) ys h = (lookup-front xs ys x.0 h.0, marked-front xs ys h.1)
+
+pub marks-more : (es : List PlainEvent) (k : ℕ) (e : PlainEvent) → slice_get es k ≡ Some e → AreMarkedOnce (marks_of es) →
+    AreMarkedOnce (marks_of (take k es) ++ own_mark e)
+marks-more es k e h m =
+    subst AreMarkedOnce (flat-take-item own_mark es k e h)
+    (marked-front (flat_map own_mark (take (suc k) es)) (flat_map own_mark (drop (suc k) es)) (subst AreMarkedOnce (sym (flat-split own_mark es (suc k))) m))
+
+pub marks-room : (es : List PlainEvent) (k : ℕ) (e : PlainEvent) → slice_get es k ≡ Some e →
+    length (marks_of (take k es)) + length (own_mark e) ≤ length (marks_of es)
+marks-room es k e h =
+    let a = ap length (flat-take-item own_mark es k e h) ∙ length-append (marks_of (take k es)) (own_mark e) in
+    let b = sym (ap length (flat-split own_mark es (suc k))) ∙ length-append (flat_map own_mark (take (suc k) es)) (flat_map own_mark (drop (suc k) es)) in
+    omega arith

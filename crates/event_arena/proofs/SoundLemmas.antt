@@ -1,0 +1,232 @@
+-- In a sound history ids, marks and parents stand once, and what isn't there has no children.
+use Rattle.std.proofs.Common.{◌≡◌, ◌∙◌, ℕ, suc, Bool, true, false, cond, ◌||◌, inl, inr, List, [], ◌∷◌, ◌++◌, Option, Some, None, refl, sym, ap, eqb, arith, append_assoc}
+use Rattle.std.proofs.lemmas.Bool.{cases_Bool, eqb-true, true≢false}
+use Rattle.std.proofs.lemmas.Bool.Decides.{nat_tests}
+use Rattle.std.proofs.lemmas.Option.{none-some}
+use Rattle.std.specs.List.{AllByRecursion, list_any}
+use Rattle.std.specs.Map.{lookup}
+use Rattle.std.specs.Prelude.{is_some, option_map}
+use Rattle.plain_model.specs.declared.id.AnyId.{AnyId}
+use Rattle.plain_model.specs.declared.id.AnyId.TheVariants as any
+use Rattle.plain_model.specs.declared.event.PlainEvent.{PlainEvent}
+use Rattle.plain_model.specs.declared.event.PlainEvent.TheVariants as plain
+use Rattle.plain_model.specs.Lookups.{children_of, event_parents, find_event, id_of, marks_of, own_child, own_mark, place_of, same_id}
+use Rattle.plain_model.specs.Soundness.{AreSoundBehind, IsCommitOf, IsSound, IsSoundEvent, are_distinct, has_id}
+use Rattle.plain_model.specs.Streams.{is_marked}
+use Rattle.event_arena.specs.Once.{AreDistinct, AreMarkedOnce, AreParentsOnce, StandsOnce}
+use Rattle.event_arena.proofs.Ids.{same_id-refl, same_id-true}
+use Rattle.event_arena.proofs.SpentLemmas.{absent-cons, cons-absent}
+
+turned : (a b : ℕ) → eqb a b ≡ eqb b a
+turned a b = grind (arith, nat_tests)
+
+self : (n : ℕ) → eqb n n ≡ true
+self n = grind (arith, nat_tests)
+
+or_assoc : (a b c : Bool) → a || (b || c) ≡ (a || b) || c
+or_assoc true b c = refl
+or_assoc false b c = refl
+
+or_false : (b : Bool) → b || false ≡ b
+or_false true = refl
+or_false false = refl
+
+or_true : (b : Bool) → b || true ≡ true
+or_true true = refl
+or_true false = refl
+
+-- ---- ids
+
+has_id-cons : (e : PlainEvent) (es : List PlainEvent) (id : AnyId) → has_id (e ∷ es) id ≡ same_id id (id_of e) || has_id es id
+has_id-cons (plain.Blob i mark bytes) es (any.Blob b) = ap (λ t. t || has_id es (any.Blob b)) (turned i b)
+has_id-cons (plain.Commit i mark branch author committer encoding comment parents ops) es (any.Commit c) = ap (λ t. t || has_id es (any.Commit c)) (turned i c)
+has_id-cons (plain.Tag i name target tagger comment) es (any.Tag t) = ap (λ b. b || has_id es (any.Tag t)) (turned i t)
+has_id-cons (plain.Reset i branch target) es (any.Reset r) = ap (λ t. t || has_id es (any.Reset r)) (turned i r)
+has_id-cons (plain.Pass i line) es (any.Pass p) = ap (λ t. t || has_id es (any.Pass p)) (turned i p)
+has_id-cons _ es _ = refl
+
+pub has_id-find : (es : List PlainEvent) (id : AnyId) → has_id es id ≡ is_some (find_event id es)
+has_id-find [] id = refl
+has_id-find (e ∷ es) id = has_id-cons e es id ∙ ap (λ b. same_id id (id_of e) || b) (has_id-find es id) ∙ either (same_id id (id_of e)) (find_event id es)
+  where
+    either : (b : Bool) (o : Option PlainEvent) → b || is_some o ≡ is_some (cond b (Some e) o)
+    either true o = refl
+    either false o = refl
+
+pub has_id-append : (xs ys : List PlainEvent) (id : AnyId) → has_id (xs ++ ys) id ≡ has_id xs id || has_id ys id
+has_id-append [] ys id = refl
+has_id-append (x ∷ xs) ys id =
+    has_id-cons x (xs ++ ys) id ∙ ap (λ b. same_id id (id_of x) || b) (has_id-append xs ys id)
+    ∙ or_assoc (same_id id (id_of x)) (has_id xs id) (has_id ys id) ∙ ap (λ b. b || has_id ys id) (sym (has_id-cons x xs id))
+
+event-new : (earlier : List PlainEvent) (e : PlainEvent) → IsSoundEvent earlier e → has_id earlier (id_of e) ≡ false
+event-new earlier (plain.Blob id mark bytes) h = h.0
+event-new earlier (plain.Commit id mark branch author committer encoding comment parents ops) h = h.0
+event-new earlier (plain.Tag id name target tagger comment) h = h.0
+event-new earlier (plain.Reset id branch target) h = h.0
+event-new earlier (plain.Pass id line) h = h.0
+
+-- what is earlier isn't later
+apart : (earlier events : List PlainEvent) → AreSoundBehind earlier events → (id : AnyId) → has_id earlier id ≡ true → find_event id events ≡ None
+apart earlier [] h id there = refl
+apart earlier (e ∷ es) h id there = elim (cases_Bool (same_id id (id_of e))) [
+  | inl it ↦ absurd (true≢false (sym there ∙ ap (has_id earlier) (same_id-true id (id_of e) it) ∙ event-new earlier e h.0))
+  | inr no_it ↦ cons-absent id e es no_it (apart (earlier ++ e ∷ []) es h.1 id (has_id-append earlier (e ∷ []) id ∙ ap (λ b. b || has_id (e ∷ []) id) there))
+]
+
+distinct : (earlier events : List PlainEvent) → AreSoundBehind earlier events → AreDistinct events
+distinct earlier [] h = tt
+distinct earlier (e ∷ es) h = (apart (earlier ++ e ∷ []) es h.1 (id_of e) own, distinct (earlier ++ e ∷ []) es h.1)
+  where
+    own : has_id (earlier ++ e ∷ []) (id_of e) ≡ true
+    own = has_id-append earlier (e ∷ []) (id_of e)
+        ∙ ap (λ b. has_id earlier (id_of e) || b) (has_id-cons e [] (id_of e) ∙ ap (λ b. b || false) (same_id-refl (id_of e)))
+        ∙ or_true (has_id earlier (id_of e))
+
+-- ---- marks
+
+is_marked-cons : (e : PlainEvent) (es : List PlainEvent) (m : ℕ) → is_marked (e ∷ es) m ≡ is_marked (e ∷ []) m || is_marked es m
+is_marked-cons (plain.Blob id mark bytes) es m = or_assoc (eqb mark m) false (is_marked es m)
+is_marked-cons (plain.Commit id mark branch author committer encoding comment parents ops) es m = or_assoc (eqb mark m) false (is_marked es m)
+is_marked-cons (plain.Tag id name target tagger comment) es m = refl
+is_marked-cons (plain.Reset id branch target) es m = refl
+is_marked-cons (plain.Pass id line) es m = refl
+
+pub is_marked-append : (xs ys : List PlainEvent) (m : ℕ) → is_marked (xs ++ ys) m ≡ is_marked xs m || is_marked ys m
+is_marked-append [] ys m = refl
+is_marked-append (x ∷ xs) ys m =
+    is_marked-cons x (xs ++ ys) m ∙ ap (λ b. is_marked (x ∷ []) m || b) (is_marked-append xs ys m)
+    ∙ or_assoc (is_marked (x ∷ []) m) (is_marked xs m) (is_marked ys m) ∙ ap (λ b. b || is_marked ys m) (sym (is_marked-cons x xs m))
+
+lookup-none : (xs ys : List (ℕ × AnyId)) (m : ℕ) → lookup (λ n. eqb m n) xs ≡ None → lookup (λ n. eqb m n) ys ≡ None → lookup (λ n. eqb m n) (xs ++ ys) ≡ None
+lookup-none [] ys m h i = i
+lookup-none (x ∷ xs) ys m h i = elim (cases_Bool (eqb m x.0)) [
+  | inl it ↦ absurd (none-some x.1 (sym h ∙ rw it refl))
+  | inr no_it ↦ rw no_it (lookup-none xs ys m (rw no_it at h) i)
+]
+
+other-mark : (earlier : List PlainEvent) (mark m : ℕ) (id : AnyId) → is_marked earlier mark ≡ false → is_marked earlier m ≡ true → lookup (λ n. eqb m n) ((mark, id) ∷ []) ≡ None
+other-mark earlier mark m id new there = elim (cases_Bool (eqb m mark)) [
+  | inl it ↦ absurd (true≢false (sym there ∙ ap (is_marked earlier) (eqb-true m mark it) ∙ new))
+  | inr no_it ↦ rw no_it refl
+]
+
+event-other : (earlier : List PlainEvent) (e : PlainEvent) → IsSoundEvent earlier e → (m : ℕ) → is_marked earlier m ≡ true → lookup (λ n. eqb m n) (own_mark e) ≡ None
+event-other earlier (plain.Blob id mark bytes) h m there = other-mark earlier mark m (any.Blob id) h.1 there
+event-other earlier (plain.Commit id mark branch author committer encoding comment parents ops) h m there = other-mark earlier mark m (any.Commit id) h.1 there
+event-other earlier (plain.Tag id name target tagger comment) h m there = refl
+event-other earlier (plain.Reset id branch target) h m there = refl
+event-other earlier (plain.Pass id line) h m there = refl
+
+-- a mark that is earlier isn't later
+unmarked : (earlier events : List PlainEvent) → AreSoundBehind earlier events → (m : ℕ) → is_marked earlier m ≡ true → lookup (λ n. eqb m n) (marks_of events) ≡ None
+unmarked earlier [] h m there = refl
+unmarked earlier (e ∷ es) h m there =
+    lookup-none (own_mark e) (marks_of es) m (event-other earlier e h.0 m there)
+    (unmarked (earlier ++ e ∷ []) es h.1 m (is_marked-append earlier (e ∷ []) m ∙ ap (λ b. b || is_marked (e ∷ []) m) there))
+
+own-marked : (earlier : List PlainEvent) (e : PlainEvent) (m : ℕ) → is_marked (e ∷ []) m ≡ true → is_marked (earlier ++ e ∷ []) m ≡ true
+own-marked earlier e m own = is_marked-append earlier (e ∷ []) m ∙ ap (λ b. is_marked earlier m || b) own ∙ or_true (is_marked earlier m)
+
+marked-once : (earlier events : List PlainEvent) → AreSoundBehind earlier events → AreMarkedOnce (marks_of events)
+marked-once earlier [] h = tt
+marked-once earlier (plain.Blob id mark bytes ∷ es) h =
+    let e = plain.Blob id mark bytes in
+    (unmarked (earlier ++ e ∷ []) es h.1 mark (own-marked earlier e mark (ap (λ b. b || false) (self mark))), marked-once (earlier ++ e ∷ []) es h.1)
+marked-once earlier (plain.Commit id mark branch author committer encoding comment parents ops ∷ es) h =
+    let e = plain.Commit id mark branch author committer encoding comment parents ops in
+    (unmarked (earlier ++ e ∷ []) es h.1 mark (own-marked earlier e mark (ap (λ b. b || false) (self mark))), marked-once (earlier ++ e ∷ []) es h.1)
+marked-once earlier (plain.Tag id name target tagger comment ∷ es) h = marked-once (earlier ++ plain.Tag id name target tagger comment ∷ []) es h.1
+marked-once earlier (plain.Reset id branch target ∷ es) h = marked-once (earlier ++ plain.Reset id branch target ∷ []) es h.1
+marked-once earlier (plain.Pass id line ∷ es) h = marked-once (earlier ++ plain.Pass id line ∷ []) es h.1
+
+-- ---- parents
+
+parents-once : (earlier events : List PlainEvent) → AreSoundBehind earlier events → AreParentsOnce events
+parents-once earlier [] h = tt
+parents-once earlier (e ∷ es) h = (once e h.0, parents-once (earlier ++ e ∷ []) es h.1)
+  where
+    once : (e : PlainEvent) → IsSoundEvent earlier e → are_distinct (event_parents e) ≡ true
+    once (plain.Commit id mark branch author committer encoding comment parents ops) h = h.7
+    once (plain.Blob id mark bytes) h = refl
+    once (plain.Tag id name target tagger comment) h = refl
+    once (plain.Reset id branch target) h = refl
+    once (plain.Pass id line) h = refl
+
+-- no parent is a commit that isn't earlier
+not-among : (earlier : List PlainEvent) (c : ℕ) → has_id earlier (any.Commit c) ≡ false → (ps : List ℕ) → AllByRecursion (IsCommitOf earlier) ps → list_any (λ p. eqb p c) ps ≡ false
+not-among earlier c absent [] h = refl
+not-among earlier c absent (p ∷ ps) h = elim (cases_Bool (eqb p c)) [
+  | inl it ↦ absurd (true≢false (sym h.0 ∙ ap (λ n. has_id earlier (any.Commit n)) (eqb-true p c it) ∙ absent))
+  | inr no_it ↦ rw no_it (not-among earlier c absent ps h.1)
+]
+
+no-child : (earlier : List PlainEvent) (c : ℕ) → has_id earlier (any.Commit c) ≡ false → (e : PlainEvent) → IsSoundEvent earlier e → own_child c e ≡ []
+no-child earlier c absent (plain.Commit id mark branch author committer encoding comment parents ops) h = rw (not-among earlier c absent parents h.6) refl
+no-child earlier c absent (plain.Blob id mark bytes) h = refl
+no-child earlier c absent (plain.Tag id name target tagger comment) h = refl
+no-child earlier c absent (plain.Reset id branch target) h = refl
+no-child earlier c absent (plain.Pass id line) h = refl
+
+find-front : (xs ys : List PlainEvent) (id : AnyId) → find_event id (xs ++ ys) ≡ None → find_event id xs ≡ None
+find-front [] ys id h = refl
+find-front (x ∷ xs) ys id h =
+    let rest = absent-cons id x (xs ++ ys) h in
+    cons-absent id x xs rest.0 (find-front xs ys id rest.1)
+
+childless : (earlier events : List PlainEvent) → AreSoundBehind earlier events → (c : ℕ) → find_event (any.Commit c) (earlier ++ events) ≡ None → children_of c events ≡ []
+childless earlier [] h c none = refl
+childless earlier (e ∷ es) h c none =
+    let absent = has_id-find earlier (any.Commit c) ∙ ap is_some (find-front earlier (e ∷ es) (any.Commit c) none) in
+    rw (no-child earlier c absent e h.0)
+    (childless (earlier ++ e ∷ []) es h.1 c (ap (find_event (any.Commit c)) (append_assoc earlier (e ∷ []) es) ∙ none))
+
+pub sound-once : (events : List PlainEvent) → IsSound events → StandsOnce events
+sound-once events h = record {
+  ids = distinct [] events h.formed;
+  marks = marked-once [] events h.formed;
+  parents = parents-once [] events h.formed;
+  childless = childless [] events h.formed;
+}
+
+-- what has no place isn't there
+pub placeless : (es : List PlainEvent) (id : AnyId) → place_of id es ≡ None → find_event id es ≡ None
+placeless [] id h = refl
+placeless (e ∷ es) id h = elim (cases_Bool (same_id id (id_of e))) [
+  | inl it ↦ absurd (none-some 0 (sym h ∙ rw it refl))
+  | inr no_it ↦ cons-absent id e es no_it (placeless es id (no_suc (place_of id es) (rw no_it at h)))
+]
+  where
+    no_suc : (o : Option ℕ) → option_map suc o ≡ None → o ≡ None
+    no_suc None h = refl
+    no_suc (Some k) h = absurd (none-some (suc k) (sym h))
+
+-- a commit that isn't there is nobody's child
+no_child : (c n : ℕ) (es : List PlainEvent) → find_event (any.Commit n) es ≡ None → list_any (λ m. eqb m n) (children_of c es) ≡ false
+no_child c n [] h = refl
+no_child c n (plain.Commit id mark branch author committer encoding comment parents ops ∷ es) h =
+    let e = plain.Commit id mark branch author committer encoding comment parents ops in
+    let rest = absent-cons (any.Commit n) e es h in
+    let later = no_child c n es rest.1 in
+    elim (cases_Bool (list_any (λ p. eqb p c) parents)) [
+      | inl it ↦ rw it (rw (turned id n, rest.0) later)
+      | inr no_it ↦ rw no_it later
+    ]
+no_child c n (plain.Blob id mark bytes ∷ es) h = no_child c n es h
+no_child c n (plain.Tag id name target tagger comment ∷ es) h = no_child c n es h
+no_child c n (plain.Reset id branch target ∷ es) h = no_child c n es h
+no_child c n (plain.Pass id line ∷ es) h = no_child c n es h
+
+-- each child stands once
+pub children-once : (c : ℕ) (es : List PlainEvent) → AreDistinct es → are_distinct (children_of c es) ≡ true
+children-once c [] h = refl
+children-once c (plain.Commit id mark branch author committer encoding comment parents ops ∷ es) h =
+    let later = children-once c es h.1 in
+    elim (cases_Bool (list_any (λ p. eqb p c) parents)) [
+      | inl it ↦ rw it (rw (no_child c id es h.0) later)
+      | inr no_it ↦ rw no_it later
+    ]
+children-once c (plain.Blob id mark bytes ∷ es) h = children-once c es h.1
+children-once c (plain.Tag id name target tagger comment ∷ es) h = children-once c es h.1
+children-once c (plain.Reset id branch target ∷ es) h = children-once c es h.1
+children-once c (plain.Pass id line ∷ es) h = children-once c es h.1

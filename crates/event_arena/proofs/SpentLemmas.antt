@@ -1,0 +1,93 @@
+-- Which ids a change of a list can add.
+use Rattle.std.proofs.Common.{◌≡◌, ◌∙◌, Bool, false, inl, inr, List, [], ◌∷◌, ◌++◌, Option, Some, None, refl, ap, sym, subst, filter}
+use Rattle.std.proofs.lemmas.Bool.{cases_Bool}
+use Rattle.std.proofs.lemmas.Option.{none-some}
+use Rattle.std.specs.Prelude.{Result, Ok, Err, OnOk, OnErr, option_to_list}
+use Rattle.plain_model.specs.declared.id.AnyId.{AnyId}
+use Rattle.plain_model.specs.declared.event.PlainEvent.{PlainEvent}
+use Rattle.plain_model.specs.Lookups.{find_event, id_of, same_id}
+use Rattle.event_arena.specs.Changes.{changed, in_order, put_after, without}
+use Rattle.event_arena.specs.Spent.{AddsNone, AddsOnly}
+use Rattle.event_arena.proofs.Ids.{same_id-true}
+
+-- an id that isn't there is neither the first event's nor a later one's
+pub absent-cons : (id : AnyId) (e : PlainEvent) (es : List PlainEvent) → find_event id (e ∷ es) ≡ None →
+    (same_id id (id_of e) ≡ false) × (find_event id es ≡ None)
+absent-cons id e es h = elim (cases_Bool (same_id id (id_of e))) [
+  | inl it ↦ absurd (none-some e (sym h ∙ rw it refl))
+  | inr no_it ↦ (no_it, rw no_it at h)
+]
+
+pub cons-absent : (id : AnyId) (e : PlainEvent) (es : List PlainEvent) → same_id id (id_of e) ≡ false → find_event id es ≡ None → find_event id (e ∷ es) ≡ None
+cons-absent id e es no_it h = rw no_it h
+
+-- an event that is found has the id
+pub find-id : (id : AnyId) (es : List PlainEvent) (e : PlainEvent) → find_event id es ≡ Some e → id ≡ id_of e
+find-id id [] e h = absurd (none-some e h)
+find-id id (x ∷ es) e h = elim (cases_Bool (same_id id (id_of x))) [
+  | inl it ↦ same_id-true id (id_of x) it ∙ ap id_of (found (rw it at h))
+  | inr no_it ↦ find-id id es e (rw no_it at h)
+]
+  where
+    found : Some x ≡ Some e → x ≡ e
+    found h = cc
+
+pub adds-without : (x : AnyId) (es : List PlainEvent) → AddsNone es (without x es)
+adds-without x [] id h = refl
+adds-without x (e ∷ es) id h =
+    let rest = absent-cons id e es h in
+    elim (cases_Bool (same_id x (id_of e))) [
+      | inl it ↦ rw it rest.1
+      | inr no_it ↦ rw no_it (cons-absent id e (without x es) rest.0 (adds-without x es id rest.1))
+    ]
+
+pub adds-filter : (p : PlainEvent → Bool) (es : List PlainEvent) → AddsNone es (filter p es)
+adds-filter p [] id h = refl
+adds-filter p (e ∷ es) id h =
+    let rest = absent-cons id e es h in
+    elim (cases_Bool (p e)) [
+      | inl it ↦ rw it (cons-absent id e (filter p es) rest.0 (adds-filter p es id rest.1))
+      | inr no_it ↦ rw no_it (adds-filter p es id rest.1)
+    ]
+
+pub adds-changed : (x : AnyId) (f : PlainEvent → PlainEvent) → ((e : PlainEvent) → id_of (f e) ≡ id_of e) → (es : List PlainEvent) → AddsNone es (changed x f es)
+adds-changed x f same [] id h = refl
+adds-changed x f same (e ∷ es) id h =
+    let rest = absent-cons id e es h in
+    elim (cases_Bool (same_id x (id_of e))) [
+      | inl it ↦ rw it (cons-absent id (f e) es (ap (same_id id) (same e) ∙ rest.0) rest.1)
+      | inr no_it ↦ rw no_it (cons-absent id e (changed x f es) rest.0 (adds-changed x f same es id rest.1))
+    ]
+
+pub adds-append : (new : PlainEvent) (es : List PlainEvent) → AddsOnly (id_of new) es (es ++ new ∷ [])
+adds-append new [] id other h = rw other refl
+adds-append new (e ∷ es) id other h =
+    let rest = absent-cons id e es h in
+    cons-absent id e (es ++ new ∷ []) rest.0 (adds-append new es id other rest.1)
+
+pub adds-put_after : (x : AnyId) (new : PlainEvent) (es : List PlainEvent) → AddsOnly (id_of new) es (put_after x new es)
+adds-put_after x new [] id other h = refl
+adds-put_after x new (e ∷ es) id other h =
+    let rest = absent-cons id e es h in
+    elim (cases_Bool (same_id x (id_of e))) [
+      | inl it ↦ rw it (cons-absent id e (new ∷ es) rest.0 (cons-absent id new es other rest.1))
+      | inr no_it ↦ rw no_it (cons-absent id e (put_after x new es) rest.0 (adds-put_after x new es id other rest.1))
+    ]
+
+-- what is put in order was found in the list
+pub adds-in_order : (order : List AnyId) (es : List PlainEvent) → AddsNone es (in_order order es)
+adds-in_order [] es id h = refl
+adds-in_order (x ∷ order) es id h = by (find_event x es) refl (adds-in_order order es id h)
+  where
+    by : (o : Option PlainEvent) → find_event x es ≡ o → find_event id (in_order order es) ≡ None → find_event id (option_to_list o ++ in_order order es) ≡ None
+    by None is rest = rest
+    by (Some e) is rest = elim (cases_Bool (same_id id (id_of e))) [
+      | inl it ↦ absurd (none-some e (sym h ∙ ap (λ i. find_event i es) (same_id-true id (id_of e) it ∙ sym (find-id x es e is)) ∙ is))
+      | inr no_it ↦ cons-absent id e (in_order order es) no_it rest
+    ]
+
+-- a fact about what a change leaves, whether it was made or refused
+pub either : (P : List PlainEvent → Type 0) {E : Type 0} {A : Type 0} (r : Result A E) (old new after : List PlainEvent) →
+    OnOk r (new ≡ after) → OnErr r (new ≡ old) → P after → P old → P new
+either P (Ok x) old new after ok err h i = subst P (sym ok) h
+either P (Err x) old new after ok err h i = subst P (sym err) i

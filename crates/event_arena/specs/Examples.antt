@@ -1,0 +1,33 @@
+-- A small history with a merge, a tag and a reset, for the tests. (own)
+use Rattle.std.specs.Prelude.{ℕ, List, [], ◌∷◌, ◌++◌, Some, None, codes, false}
+use Rattle.plain_model.specs.declared.id.AnyId.{AnyId}
+use Rattle.plain_model.specs.declared.id.AnyId.TheVariants as any
+use Rattle.plain_model.specs.declared.person.Signed.{Signed}
+use Rattle.plain_model.specs.declared.event.PlainEvent.{PlainEvent}
+use Rattle.plain_model.specs.declared.event.PlainEvent.TheVariants.{Blob, Commit, Tag, Reset}
+
+-- A <e>, at so many seconds
+abbrev pub signed : ℕ → Signed
+signed seconds = record { person = record { name = codes "A"; email = codes "e" }; when = record { seconds = seconds; minus = false; offset = 0 } }
+
+-- a commit with its number as its mark
+abbrev pub commit : ℕ → List ℕ → PlainEvent
+commit n parents = Commit n n (codes "main") (signed n) (signed n) None (codes "why") parents []
+
+abbrev pub tag : ℕ → ℕ → PlainEvent
+tag n target = Tag n (codes "v1") target None (codes "tagged")
+
+abbrev pub reset : PlainEvent
+reset = Reset 7 (codes "side") (Some 4)
+
+-- a blob; a root, two children of it and their merge
+abbrev pub front : List PlainEvent
+front = Blob 1 1 (codes "one") ∷ commit 2 [] ∷ commit 3 (2 ∷ []) ∷ commit 4 (2 ∷ []) ∷ commit 5 (3 ∷ 4 ∷ []) ∷ []
+
+-- and a tag of the merge, and a reset to the second child
+unfoldable pub example : List PlainEvent
+example = front ++ tag 6 5 ∷ reset ∷ []
+
+-- the same ids, the first two and the last two exchanged
+unfoldable pub other_order : List AnyId
+other_order = any.Commit 2 ∷ any.Blob 1 ∷ any.Commit 3 ∷ any.Commit 4 ∷ any.Commit 5 ∷ any.Reset 7 ∷ any.Tag 6 ∷ []

@@ -1,0 +1,19 @@
+-- How the children at the places of a list grow, while commits are linked to their parents. (own)
+use Rattle.std.specs.Prelude.{◌≡◌, ◌==◌, ℕ, List, [], ◌∷◌, ◌++◌, Some, slice_index_or, if◌then◌else◌}
+use Rattle.std.specs.List.{list_any}
+use Rattle.plain_model.specs.declared.id.AnyId.TheVariants as any
+use Rattle.plain_model.specs.declared.event.PlainEvent.{PlainEvent}
+use Rattle.plain_model.specs.Lookups.{children_of, own_child, place_of}
+
+-- at the place of each commit of the list stand its children among the others
+abbrev pub HasChildren : List (List ℕ) → List PlainEvent → List PlainEvent → Type 0
+HasChildren lists events others = (c k : ℕ) → place_of (any.Commit c) events ≡ Some k → slice_index_or lists k [] ≡ children_of c others
+
+-- a child is put before the others of each of its parents
+abbrev pub IsLinked : ℕ → List ℕ → List PlainEvent → List (List ℕ) → List (List ℕ) → Type 0
+IsLinked child parents events old new = (c k : ℕ) → place_of (any.Commit c) events ≡ Some k →
+    slice_index_or new k [] ≡ (if list_any (λ p. p == c) parents then child ∷ slice_index_or old k [] else slice_index_or old k [])
+
+-- so is an event, if it is a commit
+abbrev pub IsLinkedEvent : PlainEvent → List PlainEvent → List (List ℕ) → List (List ℕ) → Type 0
+IsLinkedEvent e events old new = (c k : ℕ) → place_of (any.Commit c) events ≡ Some k → slice_index_or new k [] ≡ own_child c e ++ slice_index_or old k []

@@ -1,0 +1,11 @@
+pub mod Chains
+pub mod Changes
+pub mod Examples
+pub mod Families
+pub mod Graphs
+pub mod Indexed
+pub mod Indices
+pub mod Needs
+pub mod Once
+pub mod Rows
+pub mod Spent

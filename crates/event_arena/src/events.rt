@@ -1,0 +1,226 @@
+//! A history as an indexed graph.
+ghost use Rattle.std.specs.Prelude.{
+  ◌≡◌,
+  ◌≤◌,
+  ◌^◌,
+  [],
+  None,
+  length,
+  option_map,
+  slice_get,
+  IfOk,
+  IsTrue,
+  OnOk,
+};
+ghost use Rattle.event_arena.specs.Needs.{need};
+ghost use Rattle.event_arena.specs.Spent.{BringsNoneBack};
+ghost use Rattle.plain_model.specs.Lookups.{
+  AreIdsBelow,
+  children_of,
+  event_at,
+  find_event,
+  find_mark,
+  next_mark,
+  next_number,
+  number_of,
+};
+ghost use Rattle.plain_model.specs.Soundness.{IsSound, are_distinct};
+ghost use Rattle.plain_model.specs.declared.id.AnyId.TheVariants.{Commit};
+
+use crate::index::{fill_links, fill_marks};
+use crate::links::{Children, Links};
+use crate::measure::{greatest_mark, need_of, next_number};
+use crate::plan::Plan;
+use crate::table::EventTable;
+use indexmap::IndexMap;
+use plain_model::{AnyId, CommitId, EventList, MAX_MARK, Mark, NoMemory, PlainEvent};
+use std::alloc::Global;
+use std::marker::Model;
+
+/// A sound history. Contracts see its list of events, `next_id`, the number below which all ids are spent, and
+/// `room`, up to which a plan can be carried out without memory.
+#[derive(Drop)]
+pub struct Events {
+    alloc: Global,
+    table: EventTable,
+    marks: IndexMap<u64, AnyId>,
+    links: Links,
+    next_id: u64,
+    room: usize,
+}
+
+impl Model for Events {
+    ghost use Rattle.event_arena.specs.Graphs.{Graph};
+
+    ghost Value = { Graph };
+
+    ghost use Rattle.event_arena.specs.Indexed.{graph, IsIndexed};
+
+    ghost view = { graph };
+
+    ghost invariant = { IsIndexed };
+}
+
+impl Events {
+    /// The history of a list. The ids below one above the greatest count as spent.
+    pub fn from_plain(alloc: Global, list: EventList) -> Result<Events, NoMemory>
+        requires sound { IsSound list }
+        requires low { AreIdsBelow (2 ^ 62) list }
+        ensures list { IfOk result (λ events. events.list ≡ list) }
+        ensures next_id { IfOk result (λ events. events.next_id ≡ next_number list) }
+        ensures low { IfOk result (λ events. events.next_id ≤ 2 ^ 62) }
+        ensures room { IfOk result (λ events. need list ≤ events.room) }
+    {
+        let table = EventTable::from_list(alloc, list)?;
+        let Some(room) = need_of(&table) else {
+            return Err(NoMemory);
+        };
+        let mut marks = IndexMap::with_capacity(alloc, room)?;
+        let mut links = Links::new(alloc);
+        links.reserve(room, room)?;
+        fill_marks(&table, &mut marks);
+        fill_links(&table, &mut links);
+        let next_id = next_number(&table);
+        Ok(Events {
+            alloc,
+            table,
+            marks,
+            links,
+            next_id,
+            room,
+        })
+    }
+
+    /// The list itself, with copies of the events.
+    pub fn plain(&self) -> Result<EventList, NoMemory>
+        ensures { IfOk result (λ list. list ≡ self.now.list) }
+    {
+        self.table.to_list()
+    }
+
+    /// How many events there are. Every history is sound.
+    pub fn count(&self) -> usize
+        ensures count { result ≡ length self.now.list }
+        ensures sound { IsSound self.now.list }
+    {
+        self.table.count()
+    }
+
+    /// The id of the event with the number, from 1.
+    pub fn at(&self, number: usize) -> Option<AnyId>
+        ensures { result ≡ event_at number self.now.list }
+    {
+        self.table.at(number)
+    }
+
+    /// The number of the event with the id, from 1.
+    pub fn position(&self, id: AnyId) -> Option<usize>
+        ensures { result ≡ number_of id self.now.list }
+    {
+        self.table.position(id)
+    }
+
+    /// The event with the id.
+    pub fn event(&self, id: AnyId) -> Option<&PlainEvent>
+        ensures { option_map (λ event. event.now) result ≡ find_event id self.now.list }
+    {
+        self.table.event(id)
+    }
+
+    /// The id of the event with the mark.
+    pub fn by_mark(&self, mark: Mark) -> Option<AnyId>
+        ensures { result ≡ find_mark mark self.now.list }
+    {
+        match self.marks.get(&mark.number()) {
+            Some(id) => Some(*id),
+            None => None,
+        }
+    }
+
+    /// One above the greatest mark, or :1 where there is none. `None` exactly where the greatest is the last
+    /// mark, :4294967295.
+    pub fn fresh_mark(&self) -> Option<Mark>
+        ensures { result ≡ next_mark self.now.list }
+    {
+        let greatest = greatest_mark(&self.table);
+        if greatest == MAX_MARK {
+            None
+        } else {
+            Mark::new(greatest + 1)
+        }
+    }
+
+    /// The children of a commit, each once, in the order of the list; none where the id isn't there.
+    pub fn children(&self, id: CommitId) -> Children<'_>
+        ensures children { result ≡ children_of id self.now.list }
+        ensures once { IsTrue (are_distinct result) }
+        ensures absent { find_event (Commit id) self.now.list ≡ None → result ≡ [] }
+    {
+        match self.table.place(AnyId::Commit(id)) {
+            Some(place) => self.links.children(place),
+            None => self.links.none(),
+        }
+    }
+
+    /// The earliest child of a commit.
+    pub fn first_child(&self, id: CommitId) -> Option<CommitId>
+        ensures { result ≡ slice_get (children_of id self.now.list) 0 }
+    {
+        self.children(id).next()
+    }
+
+    /// The number below which all ids are spent. Every id that is there is one of them.
+    pub fn next_id(&self) -> u64
+        ensures value { result ≡ self.now.next_id }
+        ensures spent { AreIdsBelow self.now.next_id self.now.list }
+    {
+        self.next_id
+    }
+
+    /// An equal table over the same events.
+    pub(crate) fn share(&self, alloc: Global) -> Result<EventTable, NoMemory>
+        ensures { IfOk result (λ table. table ≡ self.now.list) }
+    {
+        self.table.share(alloc)
+    }
+
+    /// Makes room for what a plan leaves, so that it can be carried out.
+    pub fn reserve_for(&mut self, plan: &Plan) -> Result<(), NoMemory>
+        ensures list { self.new.list ≡ self.old.list }
+        ensures next_id { self.new.next_id ≡ self.old.next_id }
+        ensures room { self.old.room ≤ self.new.room }
+        ensures ok { OnOk result (need plan.now.after ≤ self.new.room) }
+    {
+        let Some(room) = need_of(plan.table()) else {
+            return Err(NoMemory);
+        };
+        if self.room < room {
+            self.links.reserve(room, room)?;
+            let more = room.saturating_sub(self.marks.len());
+            self.marks.reserve(more)?;
+            self.room = room;
+        }
+        Ok(())
+    }
+
+    /// Carries a plan out. It takes no memory and can't be refused.
+    pub fn carry_out(&mut self, plan: Plan)
+        requires before { plan.before ≡ self.old.list }
+        requires made_at { plan.made_at ≡ self.old.next_id }
+        requires sound { IsSound plan.after }
+        requires room { need plan.after ≤ self.old.room }
+        ensures list { self.new.list ≡ plan.after }
+        ensures next_id { self.new.next_id ≡ plan.next }
+        ensures room { self.new.room ≡ self.old.room }
+
+        // What is spent stays spent, and a spent id that isn't there never comes back.
+        ensures spent { self.old.next_id ≤ self.new.next_id }
+        ensures none_back { BringsNoneBack self.old.next_id self.old.list self.new.list }
+    {
+        let (table, next_id) = plan.into_after();
+        fill_marks(&table, &mut self.marks);
+        fill_links(&table, &mut self.links);
+        self.table = table;
+        self.next_id = next_id;
+    }
+}

@@ -1,0 +1,134 @@
+//! How the indices of a history are filled from its table of events.
+ghost use Rattle.indexmap.specs.IndexMap.{index_map_len, spare};
+ghost use Rattle.std.specs.Map.{lookup};
+ghost use Rattle.std.specs.Prelude.{
+  ◌≡◌,
+  ◌≤◌,
+  ◌<◌,
+  ◌+◌,
+  ◌∷◌,
+  ◌++◌,
+  [],
+  None,
+  flat_map,
+  length,
+  nat_eq,
+  slice_index_or,
+  IsTrue,
+};
+ghost use Rattle.event_arena.specs.Indices.{HasChildren, IsLinked, IsLinkedEvent};
+ghost use Rattle.event_arena.specs.Once.{AreMarkedOnce, AreParentsOnce};
+ghost use Rattle.plain_model.specs.Lookups.{event_parents, marks_of, own_mark};
+ghost use Rattle.plain_model.specs.Soundness.{are_distinct};
+
+use crate::links::Links;
+use crate::table::EventTable;
+use indexmap::IndexMap;
+use plain_model::{AnyId, CommitId, PlainEvent};
+
+// Links a child to those of its parents that are in the table.
+fn link_to(table: &EventTable, links: &mut Links, child: CommitId, parents: &[CommitId])
+    requires once { IsTrue (are_distinct parents.now) }
+    requires places { length links.old.lists ≡ length table.now }
+    requires room { links.old.used + length parents.now ≤ links.old.link_room }
+    ensures places { length links.new.lists ≡ length table.now }
+    ensures used { links.new.used ≤ links.old.used + length parents.now }
+    ensures place_room { links.new.place_room ≡ links.old.place_room }
+    ensures link_room { links.new.link_room ≡ links.old.link_room }
+    ensures linked { IsLinked child parents.now table.now links.old.lists links.new.lists }
+{
+    for parent in parents {
+        if let Some(place) = table.place(AnyId::Commit(*parent)) {
+            links.add_child(place, child);
+        }
+    }
+}
+
+// Links an event to its parents, if it is a commit.
+fn link(table: &EventTable, links: &mut Links, event: &PlainEvent)
+    requires once { IsTrue (are_distinct (event_parents event.now)) }
+    requires places { length links.old.lists ≡ length table.now }
+    requires room { links.old.used + length (event_parents event.now) ≤ links.old.link_room }
+    ensures places { length links.new.lists ≡ length table.now }
+    ensures used { links.new.used ≤ links.old.used + length (event_parents event.now) }
+    ensures place_room { links.new.place_room ≡ links.old.place_room }
+    ensures link_room { links.new.link_room ≡ links.old.link_room }
+    ensures linked { IsLinkedEvent event.now table.now links.old.lists links.new.lists }
+{
+    if let PlainEvent::Commit { id, parents, .. } = event {
+        link_to(table, links, *id, parents.as_slice());
+    }
+}
+
+// Makes so many places without children, and forgets all others.
+fn clear_places(count: usize, links: &mut Links)
+    requires { count ≤ links.old.place_room }
+    ensures places { length links.new.lists ≡ count }
+    ensures empty { (k : _) → slice_index_or links.new.lists k [] ≡ [] }
+    ensures used { links.new.used ≡ 0 }
+    ensures place_room { links.new.place_room ≡ links.old.place_room }
+    ensures link_room { links.new.link_room ≡ links.old.link_room }
+{
+    links.clear();
+    for _place in 0..count {
+        links.add_place();
+    }
+}
+
+/// Links each commit of the table to its parents. It goes from the last one back, and each child is put before
+/// the others, so that children stand in the order of the table.
+pub fn fill_links(table: &EventTable, links: &mut Links)
+    requires once { AreParentsOnce table.now }
+    requires place_room { length table.now ≤ links.old.place_room }
+    requires link_room { length (flat_map event_parents table.now) ≤ links.old.link_room }
+    ensures places { length links.new.lists ≡ length table.now }
+    ensures children { HasChildren links.new.lists table.now table.now }
+    ensures place_room { links.new.place_room ≡ links.old.place_room }
+    ensures link_room { links.new.link_room ≡ links.old.link_room }
+{
+    let count = table.count();
+    clear_places(count, links);
+    for done in 0..count {
+        link(table, links, table.nth(count - 1 - done));
+    }
+}
+
+// Notes a mark that wasn't noted, in room that is there.
+fn note(marks: &mut IndexMap<u64, AnyId>, mark: u64, id: AnyId)
+    requires absent { lookup (nat_eq mark) marks.old.entries ≡ None }
+    requires room { 0 < spare marks.old }
+    ensures entries { marks.new.entries ≡ marks.old.entries ++ (mark, id) ∷ [] }
+    ensures room { index_map_len marks.old + spare marks.old
+        ≤ index_map_len marks.new + spare marks.new }
+{
+    let _ = marks.insert(mark, id).unwrap();
+}
+
+// Notes the mark of an event, if it has one.
+fn note_event(marks: &mut IndexMap<u64, AnyId>, event: &PlainEvent)
+    requires once { AreMarkedOnce (marks.old.entries ++ own_mark event.now) }
+    requires room { length (own_mark event.now) ≤ spare marks.old }
+    ensures entries { marks.new.entries ≡ marks.old.entries ++ own_mark event.now }
+    ensures room { index_map_len marks.old + spare marks.old
+        ≤ index_map_len marks.new + spare marks.new }
+{
+    match event {
+        PlainEvent::Blob { id, mark, .. } => note(marks, mark.number(), AnyId::Blob(*id)),
+        PlainEvent::Commit { id, mark, .. } => note(marks, mark.number(), AnyId::Commit(*id)),
+        _ => {}
+    }
+}
+
+/// Notes each mark of the table, and forgets all others.
+pub fn fill_marks(table: &EventTable, marks: &mut IndexMap<u64, AnyId>)
+    requires once { AreMarkedOnce (marks_of table.now) }
+    requires room { length (marks_of table.now) ≤ index_map_len marks.old + spare marks.old }
+    ensures entries { marks.new.entries ≡ marks_of table.now }
+    ensures room { index_map_len marks.old + spare marks.old
+        ≤ index_map_len marks.new + spare marks.new }
+{
+    marks.clear();
+    for place in 0..table.count() {
+        note_event(marks, table.nth(place));
+    }
+}

@@ -1,0 +1,19 @@
+//! The event graph under stable ids: histories whose events are found by id, number and mark, and plans that change them.
+//! Read in this order: `table`, `links`, `index` (the parts), `events` (a history), `field`, `plan` (a change of one).
+#![tactic(auto)]
+
+mod events;
+mod field;
+mod index;
+mod links;
+mod measure;
+mod plan;
+mod table;
+
+pub use events::Events;
+pub use field::Role;
+pub use links::Children;
+pub use plan::Plan;
+
+#[cfg(test)]
+mod tests;

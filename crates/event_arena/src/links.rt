@@ -1,0 +1,169 @@
+//! The links from each place of a list to the children of the commit that stands there.
+ghost use Rattle.std.specs.Iterator.{YieldsFirst, item_count};
+ghost use Rattle.std.specs.Prelude.{
+  ◌≡◌,
+  ◌≤◌,
+  ◌<◌,
+  ◌+◌,
+  ◌∷◌,
+  ◌++◌,
+  [],
+  length,
+  slice_index_or,
+  slice_set,
+  OnOk,
+};
+
+use plain_model::{CommitId, NoMemory};
+use std::alloc::Global;
+use std::marker::Model;
+
+/// A child, and the place of the link to the next child of the same commit. That link is older.
+#[derive(Clone, Copy)]
+pub struct Link {
+    child: CommitId,
+    next: Option<usize>,
+}
+
+/// For each place of a list the children of the commit there, and room for more places and children.
+#[derive(Drop)]
+pub struct Links {
+    // For each place its youngest link.
+    heads: Vec<Option<usize>>,
+    links: Vec<Link>,
+}
+
+impl Model for Links {
+    ghost use Rattle.event_arena.specs.Families.{Families};
+
+    ghost Value = { Families };
+
+    ghost use Rattle.event_arena.specs.Chains.{families, AreChains};
+
+    ghost view = { families };
+
+    ghost invariant = { AreChains };
+}
+
+impl Links {
+    pub fn new(alloc: Global) -> Links
+        ensures { result.lists ≡ [] }
+    {
+        Links {
+            heads: Vec::new(alloc),
+            links: Vec::new(alloc),
+        }
+    }
+
+    /// Makes room for so many places and so many children, those that are there included.
+    pub fn reserve(&mut self, places: usize, links: usize) -> Result<(), NoMemory>
+        ensures lists { self.new.lists ≡ self.old.lists }
+        ensures used { self.new.used ≡ self.old.used }
+        ensures ok { OnOk result ((places ≤ self.new.place_room) × (links ≤ self.new.link_room)) }
+        ensures place_room { self.old.place_room ≤ self.new.place_room }
+        ensures link_room { self.old.link_room ≤ self.new.link_room }
+    {
+        let more_places = places.saturating_sub(self.heads.len());
+        self.heads.reserve(more_places)?;
+        let more_links = links.saturating_sub(self.links.len());
+        self.links.reserve(more_links)?;
+        Ok(())
+    }
+
+    /// Forgets all places and children, and keeps the room.
+    pub fn clear(&mut self)
+        ensures lists { self.new.lists ≡ [] }
+        ensures used { self.new.used ≡ 0 }
+        ensures place_room { self.new.place_room ≡ self.old.place_room }
+        ensures link_room { self.new.link_room ≡ self.old.link_room }
+    {
+        self.heads.clear();
+        self.links.clear();
+    }
+
+    /// Puts a place without children at the end.
+    pub fn add_place(&mut self)
+        requires { length self.old.lists < self.old.place_room }
+        ensures lists { self.new.lists ≡ self.old.lists ++ [] ∷ [] }
+        ensures used { self.new.used ≡ self.old.used }
+        ensures place_room { self.new.place_room ≡ self.old.place_room }
+        ensures link_room { self.new.link_room ≡ self.old.link_room }
+    {
+        self.heads.push_reserved(None);
+    }
+
+    /// Puts a child before the others of a place.
+    pub fn add_child(&mut self, place: usize, child: CommitId)
+        requires within { place < length self.old.lists }
+        requires room { self.old.used < self.old.link_room }
+        ensures lists { self.new.lists
+            ≡ slice_set self.old.lists place (child ∷ slice_index_or self.old.lists place []) }
+        ensures used { self.new.used ≡ self.old.used + 1 }
+        ensures place_room { self.new.place_room ≡ self.old.place_room }
+        ensures link_room { self.new.link_room ≡ self.old.link_room }
+    {
+        let next = self.heads[place];
+        let at = self.links.len();
+        self.links.push_reserved(Link { child, next });
+        self.heads[place] = Some(at);
+    }
+
+    /// The children of a place, the youngest link first.
+    pub fn children(&self, place: usize) -> Children<'_>
+        requires { place < length self.now.lists }
+        ensures { result ≡ slice_index_or self.now.lists place [] }
+    {
+        Children {
+            at: self.heads[place],
+            links: self.links.as_slice(),
+        }
+    }
+
+    /// No children.
+    pub fn none(&self) -> Children<'_>
+        ensures { result ≡ [] }
+    {
+        Children {
+            at: None,
+            links: self.links.as_slice(),
+        }
+    }
+}
+
+/// The children of a commit, each once. Contracts see the list of those that are still to come.
+#[derive(Drop)]
+pub struct Children<'a> {
+    links: &'a [Link],
+    at: Option<usize>,
+}
+
+impl<'a> Model for Children<'a> {
+    ghost use Rattle.std.specs.Prelude.{List, ℕ};
+
+    ghost Value = { List ℕ };
+
+    ghost use Rattle.event_arena.specs.Chains.{chain_left, IsChain};
+
+    ghost view = { chain_left };
+
+    ghost invariant = { IsChain };
+}
+
+impl<'a> Iterator for Children<'a> {
+    type Item = CommitId;
+
+    ghost next_gives = { YieldsFirst (λ left. left) };
+
+    ghost remaining = { item_count (λ left. left) };
+
+    fn next(&mut self) -> Option<CommitId> {
+        match self.at {
+            Some(place) => {
+                let link = self.links[place];
+                self.at = link.next;
+                Some(link.child)
+            }
+            None => None,
+        }
+    }
+}

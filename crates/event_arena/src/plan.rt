@@ -1,0 +1,320 @@
+//! A change of a history that is made whole before it is carried out.
+ghost use Rattle.std.specs.Prelude.{
+  ◌≡◌,
+  ◌≤◌,
+  ◌<◌,
+  ◌+◌,
+  ◌^◌,
+  ◌∷◌,
+  ◌++◌,
+  [],
+  None,
+  length,
+  option_map,
+  IfOk,
+  IsSome,
+  IsTrue,
+  OnErr,
+  OnOk,
+};
+ghost use Rattle.event_arena.specs.Changes.{
+  IsOrderOf,
+  changed,
+  has_comment,
+  has_mark,
+  has_signed,
+  has_target,
+  in_order,
+  put_after,
+  with_comment,
+  with_field,
+  with_mark,
+  with_ops,
+  with_parents,
+  with_signed,
+  with_target,
+  without,
+  without_all,
+};
+ghost use Rattle.event_arena.specs.Spent.{BringsNoneBack};
+ghost use Rattle.plain_model.specs.Lookups.{
+  AreIdsBelow,
+  event_at,
+  find_event,
+  id_number,
+  id_of,
+  number_of,
+};
+ghost use Rattle.plain_model.specs.declared.id.AnyId.TheVariants.{Commit};
+
+use crate::events::Events;
+use crate::field::{Field, Role};
+use crate::table::EventTable;
+use plain_model::{
+    AnyId, CommitId, IdList, Mark, NoMemory, OpList, ParentList, PlainEvent, Signed, Text,
+};
+use std::alloc::Global;
+use std::marker::Model;
+
+/// A plan: the list of events before, the list after, and the ids that it has given. It shares the history's
+/// events and copies only those that it changes. A refused change leaves it as it was.
+#[derive(Drop)]
+pub struct Plan {
+    before: EventTable,
+    after: EventTable,
+    made_at: u64,
+    next: u64,
+}
+
+impl Model for Plan {
+    ghost use Rattle.event_arena.specs.Graphs.{Change};
+
+    ghost Value = { Change };
+
+    ghost use Rattle.event_arena.specs.Indexed.{change, IsPlanned};
+
+    ghost view = { change };
+
+    ghost invariant = { IsPlanned };
+}
+
+impl Plan {
+    /// The plan that changes nothing.
+    pub fn new(alloc: Global, events: &Events) -> Result<Plan, NoMemory>
+        ensures before { IfOk result (λ plan. plan.before ≡ events.now.list) }
+        ensures after { IfOk result (λ plan. plan.after ≡ events.now.list) }
+        ensures made_at { IfOk result (λ plan. plan.made_at ≡ events.now.next_id) }
+        ensures next { IfOk result (λ plan. plan.next ≡ events.now.next_id) }
+    {
+        let before = events.share(alloc)?;
+        let after = events.share(alloc)?;
+        let next = events.next_id();
+        Ok(Plan {
+            before,
+            after,
+            made_at: next,
+            next,
+        })
+    }
+
+    /// How many events there are after.
+    pub fn count(&self) -> usize
+        ensures { result ≡ length self.now.after }
+    {
+        self.after.count()
+    }
+
+    /// The id of the event with the number after, from 1.
+    pub fn at(&self, number: usize) -> Option<AnyId>
+        ensures { result ≡ event_at number self.now.after }
+    {
+        self.after.at(number)
+    }
+
+    /// The number after of the event with the id, from 1.
+    pub fn position(&self, id: AnyId) -> Option<usize>
+        ensures { result ≡ number_of id self.now.after }
+    {
+        self.after.position(id)
+    }
+
+    /// The event with the id, as it is after.
+    pub fn event(&self, id: AnyId) -> Option<&PlainEvent>
+        ensures { option_map (λ event. event.now) result ≡ find_event id self.now.after }
+    {
+        self.after.event(id)
+    }
+
+    /// How many events there were before.
+    pub fn old_count(&self) -> usize
+        ensures { result ≡ length self.now.before }
+    {
+        self.before.count()
+    }
+
+    /// The id of the event with the number before, from 1.
+    pub fn old_at(&self, number: usize) -> Option<AnyId>
+        ensures { result ≡ event_at number self.now.before }
+    {
+        self.before.at(number)
+    }
+
+    /// The number before of the event with the id, from 1.
+    pub fn old_position(&self, id: AnyId) -> Option<usize>
+        ensures { result ≡ number_of id self.now.before }
+    {
+        self.before.position(id)
+    }
+
+    /// The event with the id, as it was before.
+    pub fn old_event(&self, id: AnyId) -> Option<&PlainEvent>
+        ensures { option_map (λ event. event.now) result ≡ find_event id self.now.before }
+    {
+        self.before.event(id)
+    }
+
+    pub(crate) fn table(&self) -> &EventTable
+        ensures { result.now ≡ self.now.after }
+    {
+        &self.after
+    }
+
+    pub(crate) fn into_after(self) -> (EventTable, u64)
+        ensures after { result.0 ≡ self.after }
+        ensures next { result.1 ≡ self.next }
+        ensures later { self.made_at ≤ self.next }
+        ensures spent { AreIdsBelow self.next self.after }
+        ensures none_back { BringsNoneBack self.made_at self.before self.after }
+    {
+        (self.after, self.next)
+    }
+
+    /// A number that was never an id's in this history. The plan gives each once.
+    pub fn unused(&mut self) -> u64
+        requires { self.old.next < 2 ^ 63 }
+        ensures number { result ≡ self.old.next }
+        ensures unspent { self.old.made_at ≤ result }
+        ensures plan { self.new ≡ record self.old { next = self.old.next + 1 } }
+    {
+        let number = self.next;
+        self.next = number + 1;
+        number
+    }
+
+    /// Puts an event at the end, under an id that `unused` has given.
+    pub fn append(&mut self, event: PlainEvent) -> Result<(), NoMemory>
+        requires unspent { self.old.made_at ≤ id_number (id_of event) }
+        requires given { id_number (id_of event) < self.old.next }
+        requires unknown { find_event (id_of event) self.old.after ≡ None }
+        ensures ok { OnOk result
+            (self.new ≡ record self.old { after = self.old.after ++ event ∷ [] }) }
+        ensures err { OnErr result (self.new ≡ self.old) }
+    {
+        self.after.append(event)
+    }
+
+    /// Puts an event right behind the one with the id, under an id that `unused` has given. The later ones
+    /// move down, which costs a move of each.
+    pub fn insert_after(&mut self, id: AnyId, event: PlainEvent) -> Result<(), NoMemory>
+        requires there { IsSome (find_event id self.old.after) }
+        requires unspent { self.old.made_at ≤ id_number (id_of event) }
+        requires given { id_number (id_of event) < self.old.next }
+        requires unknown { find_event (id_of event) self.old.after ≡ None }
+        ensures ok { OnOk result
+            (self.new ≡ record self.old { after = put_after id event self.old.after }) }
+        ensures err { OnErr result (self.new ≡ self.old) }
+    {
+        self.after.insert_after(id, event)
+    }
+
+    /// Takes the event with the id away. The later ones move up, which costs a move of each: take many away
+    /// by one call of `remove_all`.
+    pub fn remove(&mut self, id: AnyId) -> Result<(), NoMemory>
+        requires { IsSome (find_event id self.old.after) }
+        ensures ok { OnOk result
+            (self.new ≡ record self.old { after = without id self.old.after }) }
+        ensures err { OnErr result (self.new ≡ self.old) }
+    {
+        self.after.remove(id);
+        Ok(())
+    }
+
+    /// Takes away the events with these ids, in one pass over the list. Ids that aren't there are passed by.
+    pub fn remove_all(&mut self, ids: &IdList) -> Result<(), NoMemory>
+        ensures ok { OnOk result
+            (self.new ≡ record self.old { after = without_all ids.now self.old.after }) }
+        ensures err { OnErr result (self.new ≡ self.old) }
+    {
+        self.after.remove_all(ids.as_slice())
+    }
+
+    /// Puts the events in another order, in one pass.
+    pub fn set_order(&mut self, order: &IdList) -> Result<(), NoMemory>
+        requires { IsOrderOf order.now self.old.after }
+        ensures ok { OnOk result
+            (self.new ≡ record self.old { after = in_order order.now self.old.after }) }
+        ensures err { OnErr result (self.new ≡ self.old) }
+    {
+        self.after.set_order(order.as_slice())
+    }
+
+    // Puts a value into a field of the event with the id.
+    fn set(&mut self, id: AnyId, field: Field) -> Result<(), NoMemory>
+        requires { IsSome (find_event id self.old.after) }
+        ensures ok { OnOk result
+            (self.new ≡ record self.old { after = changed id (with_field field) self.old.after }) }
+        ensures err { OnErr result (self.new ≡ self.old) }
+    {
+        self.after.set(id, field)
+    }
+
+    /// Gives a commit other parents.
+    pub fn set_parents(&mut self, id: CommitId, parents: ParentList) -> Result<(), NoMemory>
+        requires { IsSome (find_event (Commit id) self.old.after) }
+        ensures ok { OnOk result (self.new ≡ record self.old {
+          after = changed (Commit id) (with_parents parents) self.old.after;
+        }) }
+        ensures err { OnErr result (self.new ≡ self.old) }
+    {
+        self.set(AnyId::Commit(id), Field::Parents(parents))
+    }
+
+    /// Gives a commit other operations.
+    pub fn set_ops(&mut self, id: CommitId, ops: OpList) -> Result<(), NoMemory>
+        requires { IsSome (find_event (Commit id) self.old.after) }
+        ensures ok { OnOk result (self.new ≡ record self.old {
+          after = changed (Commit id) (with_ops ops) self.old.after;
+        }) }
+        ensures err { OnErr result (self.new ≡ self.old) }
+    {
+        self.set(AnyId::Commit(id), Field::Ops(ops))
+    }
+
+    /// Gives a blob or a commit another mark.
+    pub fn set_mark(&mut self, id: AnyId, mark: Mark) -> Result<(), NoMemory>
+        requires there { IsSome (find_event id self.old.after) }
+        requires field { IsTrue (has_mark id) }
+        ensures ok { OnOk result (self.new ≡ record self.old {
+          after = changed id (with_mark mark) self.old.after;
+        }) }
+        ensures err { OnErr result (self.new ≡ self.old) }
+    {
+        self.set(id, Field::Mark(mark))
+    }
+
+    /// Sets a tag or a reset to another commit.
+    pub fn set_target(&mut self, id: AnyId, target: CommitId) -> Result<(), NoMemory>
+        requires there { IsSome (find_event id self.old.after) }
+        requires field { IsTrue (has_target id) }
+        ensures ok { OnOk result (self.new ≡ record self.old {
+          after = changed id (with_target target) self.old.after;
+        }) }
+        ensures err { OnErr result (self.new ≡ self.old) }
+    {
+        self.set(id, Field::Target(target))
+    }
+
+    /// Gives a commit or a tag another comment.
+    pub fn set_comment(&mut self, id: AnyId, comment: Text) -> Result<(), NoMemory>
+        requires there { IsSome (find_event id self.old.after) }
+        requires field { IsTrue (has_comment id) }
+        ensures ok { OnOk result (self.new ≡ record self.old {
+          after = changed id (with_comment comment) self.old.after;
+        }) }
+        ensures err { OnErr result (self.new ≡ self.old) }
+    {
+        self.set(id, Field::Comment(comment))
+    }
+
+    /// Gives a commit another author or committer, or a tag another tagger.
+    pub fn set_signed(&mut self, id: AnyId, which: Role, signed: Signed) -> Result<(), NoMemory>
+        requires there { IsSome (find_event id self.old.after) }
+        requires field { IsTrue (has_signed which id) }
+        ensures ok { OnOk result (self.new ≡ record self.old {
+          after = changed id (with_signed which signed) self.old.after;
+        }) }
+        ensures err { OnErr result (self.new ≡ self.old) }
+    {
+        self.set(id, Field::Signed(which, signed))
+    }
+}

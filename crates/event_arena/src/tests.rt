@@ -1,0 +1,493 @@
+ghost use Rattle.std.specs.Prelude.{◌≡◌, ◌<◌, ◌^◌, None, IfOk, IsSome, OnOk};
+ghost use Rattle.event_arena.specs.Changes.{without};
+ghost use Rattle.event_arena.specs.Examples.{commit, example, other_order, signed, tag};
+ghost use Rattle.plain_model.specs.Lookups.{find_event};
+ghost use Rattle.plain_model.specs.declared.id.AnyId.TheVariants.{Blob, Commit, Reset, Tag};
+
+use crate::*;
+use plain_model::{
+    AnyId, BlobId, CommitId, EventList, FileOp, IdList, Items, Mark, NoMemory, Person, PlainEvent,
+    ResetId, Signed, TagId, Text, When,
+};
+use std::alloc::Global;
+use std::test::*;
+
+fn text(alloc: Global, bytes: &[u8]) -> Result<Text, Fail>
+    ensures { IfOk result (λ text. text ≡ bytes.now) }
+{
+    Ok(Items::of(alloc, bytes)?)
+}
+
+fn mark(number: u64) -> Result<Mark, Fail>
+    ensures { IfOk result (λ mark. mark ≡ number) }
+{
+    Ok(Mark::new(number).ok_or("mark")?)
+}
+
+fn signed(alloc: Global, seconds: u64) -> Result<Signed, Fail>
+    ensures { IfOk result (λ made. made ≡ signed seconds) }
+{
+    Ok(Signed {
+        person: Person {
+            name: text(alloc, b"A")?,
+            email: text(alloc, b"e")?,
+        },
+        when: When {
+            seconds,
+            minus: false,
+            offset: 0,
+        },
+    })
+}
+
+fn commit(alloc: Global, number: u64, parents: &[CommitId]) -> Result<PlainEvent, Fail>
+    ensures { IfOk result (λ event. event ≡ commit number parents.now) }
+{
+    Ok(PlainEvent::Commit {
+        id: CommitId::new(number),
+        mark: mark(number)?,
+        branch: text(alloc, b"main")?,
+        author: signed(alloc, number)?,
+        committer: signed(alloc, number)?,
+        encoding: None,
+        comment: text(alloc, b"why")?,
+        parents: Items::of(alloc, parents)?,
+        ops: Items::new(alloc)?,
+    })
+}
+
+fn tag(alloc: Global, number: u64, target: u64) -> Result<PlainEvent, Fail>
+    ensures { IfOk result (λ event. event ≡ tag number target) }
+{
+    Ok(PlainEvent::Tag {
+        id: TagId::new(number),
+        name: text(alloc, b"v1")?,
+        target: CommitId::new(target),
+        tagger: None,
+        comment: text(alloc, b"tagged")?,
+    })
+}
+
+// A blob; a root, two children of it and their merge; a tag of the merge and a reset to the second child.
+#[tactic(auto, unfolding(crate::specs::Examples::example))]
+fn list(alloc: Global) -> Result<EventList, Fail>
+    ensures { IfOk result (λ list. list ≡ example) }
+{
+    let mut list = Items::new(alloc)?;
+    list.push(PlainEvent::Blob {
+        id: BlobId::new(1),
+        mark: mark(1)?,
+        bytes: text(alloc, b"one")?,
+    })?;
+    list.push(commit(alloc, 2, &[])?)?;
+    list.push(commit(alloc, 3, &[CommitId::new(2)])?)?;
+    list.push(commit(alloc, 4, &[CommitId::new(2)])?)?;
+    list.push(commit(alloc, 5, &[CommitId::new(3), CommitId::new(4)])?)?;
+    list.push(tag(alloc, 6, 5)?)?;
+    list.push(PlainEvent::Reset {
+        id: ResetId::new(7),
+        branch: text(alloc, b"side")?,
+        target: Some(CommitId::new(4)),
+    })?;
+    Ok(list)
+}
+
+fn history(alloc: Global) -> Result<Events, Fail>
+    ensures list { IfOk result (λ events. events.list ≡ example) }
+    ensures next_id { IfOk result (λ events. events.next_id ≡ 8) }
+{
+    Ok(Events::from_plain(alloc, list(alloc)?)?)
+}
+
+fn find(plan: &Plan, id: AnyId) -> Result<(), Fail>
+    ensures { OnOk result (IsSome (find_event id plan.now.after)) }
+{
+    plan.event(id).ok_or("no such event")?;
+    Ok(())
+}
+
+fn miss(plan: &Plan, id: AnyId) -> Result<(), Fail>
+    ensures { OnOk result (find_event id plan.now.after ≡ None) }
+{
+    match plan.event(id) {
+        Some(_) => Err("such an event")?,
+        None => Ok(()),
+    }
+}
+
+// A kind, an id, `:` and a mark; of a commit then the comment, the seconds of author and committer, the parents in
+// parentheses and the number of operations; of a tag or a reset `>` and the target; of a tag the comment and the
+// seconds of the tagger.
+fn put_event(out: &mut Text, event: &PlainEvent) -> Result<(), NoMemory> {
+    match event {
+        PlainEvent::Blob { id, mark, .. } => {
+            put_number(out, b"b", id.number())?;
+            put_number(out, b":", mark.number())
+        }
+        PlainEvent::Commit {
+            id,
+            mark,
+            author,
+            committer,
+            comment,
+            parents,
+            ops,
+            ..
+        } => {
+            put_number(out, b"c", id.number())?;
+            put_number(out, b":", mark.number())?;
+            put_text(out, comment)?;
+            put_number(out, b" ", author.when.seconds)?;
+            put_number(out, b"/", committer.when.seconds)?;
+            for parent in parents.as_slice() {
+                put_number(out, b" ^", parent.number())?;
+            }
+            for _ in ops.as_slice() {
+                out.push_all(b" op")?;
+            }
+            Ok(())
+        }
+        PlainEvent::Tag {
+            id,
+            target,
+            tagger,
+            comment,
+            ..
+        } => {
+            put_number(out, b"t", id.number())?;
+            put_number(out, b">", target.number())?;
+            put_text(out, comment)?;
+            match tagger {
+                Some(tagger) => put_number(out, b" ", tagger.when.seconds),
+                None => Ok(()),
+            }
+        }
+        PlainEvent::Reset { id, target, .. } => {
+            put_number(out, b"r", id.number())?;
+            match target {
+                Some(target) => put_number(out, b">", target.number()),
+                None => Ok(()),
+            }
+        }
+        PlainEvent::Pass { id, .. } => put_number(out, b"p", id.number()),
+    }
+}
+
+fn put_number(out: &mut Text, before: &[u8], number: u64) -> Result<(), NoMemory> {
+    out.push_all(before)?;
+    out.push_number(number)
+}
+
+fn put_text(out: &mut Text, text: &Text) -> Result<(), NoMemory> {
+    out.push(b' ')?;
+    out.push_all(text.as_slice())
+}
+
+// The events in the order of their numbers, each with a comma behind it.
+fn shown(alloc: Global, plan: &Plan) -> Result<Text, Fail> {
+    let mut out = Items::new(alloc)?;
+    for number in 0..plan.count() {
+        let id = plan.at(number.saturating_add(1)).ok_or("number")?;
+        put_event(&mut out, plan.event(id).ok_or("id")?)?;
+        out.push(b',')?;
+    }
+    Ok(out)
+}
+
+fn blob_id(number: u64) -> AnyId
+    ensures { result ≡ Blob number }
+{
+    AnyId::Blob(BlobId::new(number))
+}
+
+fn commit_id(number: u64) -> AnyId
+    ensures { result ≡ Commit number }
+{
+    AnyId::Commit(CommitId::new(number))
+}
+
+fn tag_id(number: u64) -> AnyId
+    ensures { result ≡ Tag number }
+{
+    AnyId::Tag(TagId::new(number))
+}
+
+fn reset_id(number: u64) -> AnyId
+    ensures { result ≡ Reset number }
+{
+    AnyId::Reset(ResetId::new(number))
+}
+
+fn put_id(out: &mut Text, id: AnyId) -> Result<(), NoMemory> {
+    match id {
+        AnyId::Blob(id) => put_number(out, b" b", id.number()),
+        AnyId::Commit(id) => put_number(out, b" c", id.number()),
+        AnyId::Tag(id) => put_number(out, b" t", id.number()),
+        AnyId::Reset(id) => put_number(out, b" r", id.number()),
+        AnyId::Pass(id) => put_number(out, b" p", id.number()),
+    }
+}
+
+// The letter of a kind and a number, or a dash for none.
+fn put_found(out: &mut Text, id: Option<AnyId>) -> Result<(), NoMemory> {
+    match id {
+        Some(id) => put_id(out, id),
+        None => out.push_all(b" -"),
+    }
+}
+
+// The ids at the numbers from 0 to 8, those with the marks from :1 to :6, and a fresh mark.
+fn put_all_found(out: &mut Text, events: &Events) -> Result<(), Fail> {
+    for number in 0..9 {
+        put_found(out, events.at(number))?;
+    }
+    out.push(b',')?;
+    for number in 1..7 {
+        put_found(out, events.by_mark(mark(number)?))?;
+    }
+    let fresh = events.fresh_mark().ok_or("no mark is left")?;
+    put_number(out, b", :", fresh.number())?;
+    Ok(())
+}
+
+// The numbers of events and of their copies, and the first id that isn't spent.
+fn put_counts(out: &mut Text, events: &Events) -> Result<(), NoMemory> {
+    put_number(out, b", ", events.count() as u64)?;
+    put_number(out, b" ", events.plain()?.as_slice().len() as u64)?;
+    put_number(out, b" ", events.next_id())
+}
+
+// The number of the event with the id and a star where it is found; or a dash and no star.
+fn put_place(out: &mut Text, events: &Events, id: &AnyId) -> Result<(), NoMemory> {
+    match events.position(*id) {
+        Some(number) => put_number(out, b", ", number as u64)?,
+        None => out.push_all(b", -")?,
+    }
+    match events.event(*id) {
+        Some(_) => out.push(b'*'),
+        None => Ok(()),
+    }
+}
+
+fn seen(alloc: Global, events: &Events, id: AnyId) -> Result<Text, Fail> {
+    let mut out = Items::new(alloc)?;
+    put_all_found(&mut out, events)?;
+    put_counts(&mut out, events)?;
+    put_place(&mut out, events, &id)?;
+    Ok(out)
+}
+
+#[test]
+fn events_are_found_by_number_mark_and_id(rt: HostRuntime) -> Result<(), Fail> {
+    let events = history(rt.alloc())?;
+    let want: &[u8] = b" - b1 c2 c3 c4 c5 t6 r7 -, b1 c2 c3 c4 c5 -, :6, 7 7 8, 6*";
+    assert_eq!(rt; seen(rt.alloc(), &events, tag_id(6))?.as_slice(), want);
+    Ok(())
+}
+
+#[test]
+fn an_id_of_another_kind_is_another_id(rt: HostRuntime) -> Result<(), Fail> {
+    let events = history(rt.alloc())?;
+    let mut out: Text = Items::new(rt.alloc())?;
+    put_place(&mut out, &events, &commit_id(6))?;
+    let want: &[u8] = b", -";
+    assert_eq!(rt; out.as_slice(), want);
+    Ok(())
+}
+
+// The children of the events 2 to 6, and behind each of these the first of them.
+fn families(alloc: Global) -> Result<Text, Fail> {
+    let events = history(alloc)?;
+    let mut out: Text = Items::new(alloc)?;
+    for number in 2..7 {
+        for child in events.children(CommitId::new(number)) {
+            put_number(&mut out, b" ", child.number())?;
+        }
+        match events.first_child(CommitId::new(number)) {
+            Some(child) => put_number(&mut out, b" <", child.number())?,
+            None => out.push_all(b" -")?,
+        }
+    }
+    Ok(out)
+}
+
+#[test]
+fn children_are_those_that_name_a_parent(rt: HostRuntime) -> Result<(), Fail> {
+    let want: &[u8] = b" 3 4 <3 5 <5 5 <5 - -";
+    assert_eq!(rt; families(rt.alloc())?.as_slice(), want);
+    Ok(())
+}
+
+fn set_fields(alloc: Global, plan: &mut Plan) -> Result<(), Fail> {
+    find(plan, commit_id(5))?;
+    plan.set_parents(CommitId::new(5), Items::of(alloc, &[CommitId::new(4)])?)?;
+    find(plan, commit_id(3))?;
+    plan.set_ops(CommitId::new(3), Items::of(alloc, &[FileOp::DeleteAll])?)?;
+    find(plan, blob_id(1))?;
+    plan.set_mark(blob_id(1), mark(9)?)?;
+    find(plan, tag_id(6))?;
+    plan.set_target(tag_id(6), CommitId::new(4))?;
+    find(plan, reset_id(7))?;
+    plan.set_target(reset_id(7), CommitId::new(5))?;
+    find(plan, commit_id(4))?;
+    plan.set_comment(commit_id(4), text(alloc, b"because")?)?;
+    Ok(())
+}
+
+fn set_people(alloc: Global, plan: &mut Plan) -> Result<(), Fail> {
+    find(plan, commit_id(4))?;
+    plan.set_signed(commit_id(4), Role::Author, signed(alloc, 44)?)?;
+    find(plan, commit_id(5))?;
+    plan.set_signed(commit_id(5), Role::Committer, signed(alloc, 55)?)?;
+    find(plan, tag_id(6))?;
+    plan.set_signed(tag_id(6), Role::Tagger, signed(alloc, 66)?)?;
+    Ok(())
+}
+
+fn with_fields_set(alloc: Global) -> Result<Text, Fail> {
+    let events = history(alloc)?;
+    let mut plan = Plan::new(alloc, &events)?;
+    set_fields(alloc, &mut plan)?;
+    set_people(alloc, &mut plan)?;
+    shown(alloc, &plan)
+}
+
+#[test]
+fn fields_are_set_by_id(rt: HostRuntime) -> Result<(), Fail> {
+    let want: &[u8] =
+        b"b1:9,c2:2 why 2/2,c3:3 why 3/3 ^2 op,c4:4 because 44/4 ^2,c5:5 why 5/55 ^4,t6>4 tagged 66,r7>5,";
+    assert_eq!(rt; with_fields_set(rt.alloc())?.as_slice(), want);
+    Ok(())
+}
+
+fn put_in(alloc: Global, plan: &mut Plan) -> Result<(), Fail>
+    requires { plan.old.next < 2 ^ 62 }
+{
+    let number = plan.unused();
+    find(plan, commit_id(2))?;
+    miss(plan, commit_id(number))?;
+    plan.insert_after(commit_id(2), commit(alloc, number, &[CommitId::new(2)])?)?;
+    let number = plan.unused();
+    miss(plan, tag_id(number))?;
+    plan.append(tag(alloc, number, 8)?)?;
+    Ok(())
+}
+
+fn take_away(alloc: Global, plan: &mut Plan) -> Result<(), Fail> {
+    find(plan, commit_id(3))?;
+    plan.remove(commit_id(3))?;
+    let ids: IdList = Items::of(alloc, &[tag_id(6), reset_id(7), tag_id(7), tag_id(6)])?;
+    plan.remove_all(&ids)?;
+    Ok(())
+}
+
+// The ids at the old numbers 0 to 8, and the numbers, now and before, of the first two commits and of the last.
+fn put_plan(out: &mut Text, plan: &Plan) -> Result<(), Fail> {
+    for number in 0..9 {
+        put_found(out, plan.old_at(number))?;
+    }
+    put_number(out, b", ", plan.old_count() as u64)?;
+    for number in [2, 3, 8] {
+        let now = plan.position(commit_id(number)).unwrap_or(0);
+        let before = plan.old_position(commit_id(number)).unwrap_or(0);
+        put_number(out, b", ", now as u64)?;
+        put_number(out, b"<", before as u64)?;
+        if plan.old_event(commit_id(number)).is_some() {
+            out.push(b'*')?;
+        }
+    }
+    Ok(())
+}
+
+fn put_in_and_taken_away(alloc: Global) -> Result<Text, Fail> {
+    let events = history(alloc)?;
+    let mut plan = Plan::new(alloc, &events)?;
+    put_in(alloc, &mut plan)?;
+    take_away(alloc, &mut plan)?;
+    let mut out = shown(alloc, &plan)?;
+    put_plan(&mut out, &plan)?;
+    Ok(out)
+}
+
+#[test]
+fn events_are_put_in_and_taken_away(rt: HostRuntime) -> Result<(), Fail> {
+    let want: &[u8] =
+        b"b1:1,c2:2 why 2/2,c8:8 why 8/8 ^2,c4:4 why 4/4 ^2,c5:5 why 5/5 ^3 ^4,t9>8 tagged, \
+- b1 c2 c3 c4 c5 t6 r7 -, 7, 2<2*, 0<3*, 3<0";
+    assert_eq!(rt; put_in_and_taken_away(rt.alloc())?.as_slice(), want);
+    Ok(())
+}
+
+#[tactic(auto, unfolding(crate::specs::Examples::other_order))]
+fn order(alloc: Global) -> Result<IdList, Fail>
+    ensures { IfOk result (λ order. order ≡ other_order) }
+{
+    let ids = [
+        AnyId::Commit(CommitId::new(2)),
+        AnyId::Blob(BlobId::new(1)),
+        AnyId::Commit(CommitId::new(3)),
+        AnyId::Commit(CommitId::new(4)),
+        AnyId::Commit(CommitId::new(5)),
+        AnyId::Reset(ResetId::new(7)),
+        AnyId::Tag(TagId::new(6)),
+    ];
+    Ok(Items::of(alloc, &ids)?)
+}
+
+fn reordered(alloc: Global) -> Result<Text, Fail> {
+    let events = history(alloc)?;
+    let mut plan = Plan::new(alloc, &events)?;
+    plan.set_order(&order(alloc)?)?;
+    shown(alloc, &plan)
+}
+
+#[test]
+fn events_are_put_in_another_order(rt: HostRuntime) -> Result<(), Fail> {
+    let want: &[u8] =
+        b"c2:2 why 2/2,b1:1,c3:3 why 3/3 ^2,c4:4 why 4/4 ^2,c5:5 why 5/5 ^3 ^4,r7>4,t6>5 tagged,";
+    assert_eq!(rt; reordered(rt.alloc())?.as_slice(), want);
+    Ok(())
+}
+
+// The history without its tag.
+fn untagged(alloc: Global) -> Result<Events, Fail>
+    ensures list { IfOk result (λ events. events.list ≡ without (Tag 6) example) }
+    ensures next_id { IfOk result (λ events. events.next_id ≡ 8) }
+{
+    let mut events = history(alloc)?;
+    let mut plan = Plan::new(alloc, &events)?;
+    find(&plan, AnyId::Tag(TagId::new(6)))?;
+    plan.remove(AnyId::Tag(TagId::new(6)))?;
+    events.reserve_for(&plan)?;
+    events.carry_out(plan);
+    Ok(events)
+}
+
+// The history with another tag in place of its own, and with one more number given.
+fn retagged(alloc: Global) -> Result<Events, Fail> {
+    let mut events = untagged(alloc)?;
+    let mut plan = Plan::new(alloc, &events)?;
+    let number = plan.unused();
+    plan.unused();
+    miss(&plan, AnyId::Tag(TagId::new(number)))?;
+    plan.append(tag(alloc, number, 5)?)?;
+    events.reserve_for(&plan)?;
+    events.carry_out(plan);
+    Ok(events)
+}
+
+#[test]
+fn a_removed_id_is_gone(rt: HostRuntime) -> Result<(), Fail> {
+    let events = untagged(rt.alloc())?;
+    let want: &[u8] = b" - b1 c2 c3 c4 c5 r7 - -, b1 c2 c3 c4 c5 -, :6, 6 6 8, -";
+    assert_eq!(rt; seen(rt.alloc(), &events, tag_id(6))?.as_slice(), want);
+    Ok(())
+}
+
+#[test]
+fn a_removed_id_never_comes_back(rt: HostRuntime) -> Result<(), Fail> {
+    let events = retagged(rt.alloc())?;
+    let want: &[u8] = b" - b1 c2 c3 c4 c5 r7 t8 -, b1 c2 c3 c4 c5 -, :6, 7 7 10, -";
+    assert_eq!(rt; seen(rt.alloc(), &events, tag_id(6))?.as_slice(), want);
+    Ok(())
+}
