@@ -1,0 +1,15 @@
+pub mod Runs
+pub mod Numbers
+pub mod FirstLines
+pub mod Refusals
+pub mod Completion
+pub mod Defects
+pub mod InStep
+pub mod Judging
+pub mod LimitLaws
+pub mod LineLaws
+pub mod DrivingLaws
+pub mod BlockLaws
+pub mod CursorLaws
+pub mod ExampleLaws
+pub mod ReadingLaws

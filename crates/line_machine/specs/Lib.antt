@@ -1,0 +1,4 @@
+pub mod Example
+pub mod Limits
+pub mod Lines
+pub mod Machine

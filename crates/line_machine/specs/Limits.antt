@@ -1,0 +1,54 @@
+-- An automaton that looks besides whether a line passes a limit.
+use Rattle.std.specs.Prelude.{◌≡◌, ℕ, true, ◌∷◌, ◌++◌, Option, Some, None, Result, Ok, Err}
+use Rattle.plain_model.specs.Paths.{Bytes}
+use Rattle.line_machine.specs.Machine.{Next, Automaton, all, begun, run, first_lines}
+use Rattle.line_machine.specs.Machine.Mode.{InLine}
+use Rattle.line_machine.specs.Machine.Machine.{At, Stopped}
+
+-- why a line is refused: it has a defect, or it passes a limit
+pub data Cause (Why Limit : Type 0) : Type 0 where
+  Defect : Why → Cause Why Limit
+  Passes : Limit → Cause Why Limit
+
+-- by the states before and behind a step, the limit that it passes, if it passes one
+module _ {State Why Limit : Type 0} (a : Automaton State Why)
+    (passed : State → State → Option Limit) where
+  -- a step that was made stands where it passes no limit
+  abbrev pub within : State × Next → Option Limit → Result (State × Next) (Cause Why Limit)
+  within made None = Ok made
+  within made (Some limit) = Err (Passes limit)
+
+  -- a defect comes before a limit
+  abbrev pub limited_step : State → Result (State × Next) Why
+      → Result (State × Next) (Cause Why Limit)
+  limited_step old (Err why) = Err (Defect why)
+  limited_step old (Ok made) = within made (passed old made.0)
+
+  -- the automaton with its limits
+  abbrev pub limited : Automaton State (Cause Why Limit)
+  limited = record {
+    start = a.start;
+    step = λ judge s line. limited_step s (a.step judge s line);
+    landed = a.landed;
+    is_due = a.is_due;
+  }
+
+  -- no line through n is refused
+  abbrev pub IsReadThrough : ℕ → Bytes → Type 0
+  IsReadThrough n bytes =
+      (k : ℕ) (why : Why) → run a all (begun a) (first_lines n bytes) ≡ Stopped k why → ⊥
+
+  -- Line n of a text passes the limit, though the lines through n are read: behind these bytes the
+  -- line has come in the state old, it makes the state new of it, and this step passes the limit.
+  pub record PassesLimit (bytes : Bytes) (n : ℕ) (limit : Limit) : Type 0 where
+    pub is_read : IsReadThrough n bytes
+    pub before : Bytes
+    pub line : Bytes
+    pub behind : Bytes
+    pub old : State
+    pub new : State
+    pub next : Next
+    pub is_there : first_lines n bytes ≡ before ++ 10 ∷ behind
+    pub reached : run a all (begun a) before ≡ At n (InLine line) old
+    pub made : a.step true old line ≡ Ok (new, next)
+    pub passes : passed old new ≡ Some limit
