@@ -1,0 +1,3 @@
+mod Completion
+mod Spelled
+mod FirstDefect

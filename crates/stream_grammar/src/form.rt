@@ -1,0 +1,186 @@
+//! Which line may stand where.
+ghost use Rattle.std.specs.Prelude.{◌≡◌};
+ghost use Rattle.stream_grammar.specs.Lines.{
+  begun_by,
+  behind_word,
+  follows,
+  gone_on,
+  is_inline_due,
+  is_required,
+  must_go_on,
+};
+
+use crate::lines::{Due, Follow, Standing, Word};
+use plain_model::Why;
+
+impl Due {
+    /// The event lacks a line.
+    pub fn is_required(self) -> bool
+        ensures { result ≡ is_required self }
+    {
+        match self {
+            Due::Event
+            | Due::CommitFrom
+            | Due::CommitMerge
+            | Due::CommitOperation
+            | Due::ResetFrom
+            | Due::ResetEnd => false,
+            _ => true,
+        }
+    }
+
+    /// What a line of this word does here.
+    pub fn follow(self, word: Word) -> Follow
+        ensures { result ≡ follows self word }
+    {
+        match self {
+            Due::Event => Follow::Finished,
+            Due::BlobMark => match word {
+                Word::Mark => Follow::Goes(Due::BlobOid),
+                Word::Oid => Follow::Goes(Due::BlobData),
+                Word::Data => Follow::Goes(Due::Event),
+                _ => Follow::Lacking,
+            },
+            Due::BlobOid => match word {
+                Word::Oid => Follow::Goes(Due::BlobData),
+                Word::Data => Follow::Goes(Due::Event),
+                _ => Follow::Lacking,
+            },
+            Due::BlobData => match word {
+                Word::Data => Follow::Goes(Due::Event),
+                _ => Follow::Lacking,
+            },
+            Due::CommitMark => match word {
+                Word::Mark => Follow::Goes(Due::CommitOid),
+                Word::Oid => Follow::Goes(Due::CommitAuthor),
+                Word::Author => Follow::Goes(Due::CommitCommitter),
+                Word::Committer => Follow::Goes(Due::CommitEncoding),
+                _ => Follow::Lacking,
+            },
+            Due::CommitOid => match word {
+                Word::Oid => Follow::Goes(Due::CommitAuthor),
+                Word::Author => Follow::Goes(Due::CommitCommitter),
+                Word::Committer => Follow::Goes(Due::CommitEncoding),
+                _ => Follow::Lacking,
+            },
+            Due::CommitAuthor => match word {
+                Word::Author => Follow::Goes(Due::CommitCommitter),
+                Word::Committer => Follow::Goes(Due::CommitEncoding),
+                _ => Follow::Lacking,
+            },
+            Due::CommitCommitter => match word {
+                Word::Committer => Follow::Goes(Due::CommitEncoding),
+                _ => Follow::Lacking,
+            },
+            Due::CommitEncoding => match word {
+                Word::Encoding => Follow::Goes(Due::CommitData),
+                Word::Data => Follow::Goes(Due::CommitFrom),
+                _ => Follow::Lacking,
+            },
+            Due::CommitData => match word {
+                Word::Data => Follow::Goes(Due::CommitFrom),
+                _ => Follow::Lacking,
+            },
+            Due::CommitFrom => match word {
+                Word::From | Word::Merge => Follow::Goes(Due::CommitMerge),
+                Word::Operation => Follow::Goes(Due::CommitOperation),
+                Word::InlineOperation => Follow::Goes(Due::InlineData),
+                _ => Follow::Finished,
+            },
+            Due::CommitMerge => match word {
+                Word::Merge => Follow::Goes(Due::CommitMerge),
+                Word::Operation => Follow::Goes(Due::CommitOperation),
+                Word::InlineOperation => Follow::Goes(Due::InlineData),
+                _ => Follow::Finished,
+            },
+            Due::CommitOperation => match word {
+                Word::Operation => Follow::Goes(Due::CommitOperation),
+                Word::InlineOperation => Follow::Goes(Due::InlineData),
+                _ => Follow::Finished,
+            },
+            Due::InlineData => match word {
+                Word::Data => Follow::Goes(Due::CommitOperation),
+                _ => Follow::Lacking,
+            },
+            Due::TagFrom => match word {
+                Word::From => Follow::Goes(Due::TagOid),
+                Word::Mark => Follow::LeftOut,
+                _ => Follow::Lacking,
+            },
+            Due::TagOid => match word {
+                Word::Oid => Follow::Goes(Due::TagTagger),
+                Word::Tagger => Follow::Goes(Due::TagData),
+                Word::Data => Follow::Goes(Due::Event),
+                Word::Mark => Follow::LeftOut,
+                _ => Follow::Lacking,
+            },
+            Due::TagTagger => match word {
+                Word::Tagger => Follow::Goes(Due::TagData),
+                Word::Data => Follow::Goes(Due::Event),
+                Word::Mark => Follow::LeftOut,
+                _ => Follow::Lacking,
+            },
+            Due::TagData => match word {
+                Word::Data => Follow::Goes(Due::Event),
+                Word::Mark => Follow::LeftOut,
+                _ => Follow::Lacking,
+            },
+            Due::ResetFrom => match word {
+                Word::From => Follow::Goes(Due::ResetEnd),
+                _ => Follow::Finished,
+            },
+            Due::ResetEnd => Follow::Finished,
+        }
+    }
+}
+
+impl Standing {
+    // Behind a line between events.
+    fn begun_by(self, word: Word) -> Result<Standing, Why>
+        ensures { result ≡ begun_by self word }
+    {
+        let due = match word {
+            Word::Blob => Due::BlobMark,
+            Word::Commit => Due::CommitMark,
+            Word::Tag => Due::TagFrom,
+            Word::Reset => Due::ResetFrom,
+            Word::Pass | Word::Empty | Word::FeatureDone | Word::Done => Due::Event,
+            _ => return Err(Why::UnknownLine),
+        };
+        let wants_done = match word {
+            Word::FeatureDone => true,
+            Word::Done => false,
+            _ => self.wants_done,
+        };
+        Ok(Standing { due, wants_done })
+    }
+
+    /// Where the stream stands behind a line of this word, or why it can't stand here.
+    pub fn behind(self, word: Word) -> Result<Standing, Why>
+        ensures { result ≡ behind_word self word }
+    {
+        if word == Word::LeftOut {
+            return Err(Why::LeftOut);
+        }
+        match self.due.follow(word) {
+            Follow::Goes(due) => Ok(Standing { due, ..self }),
+            Follow::Lacking => Err(Why::MissingLine),
+            Follow::Finished => self.begun_by(word),
+            Follow::LeftOut => Err(Why::LeftOut),
+        }
+    }
+
+    /// A block that comes here is the content of an operation.
+    pub fn is_inline(self) -> bool
+        ensures { result ≡ is_inline_due self.due }
+    {
+        self.due == Due::CommitOperation
+    }
+
+    /// A stream can't end here.
+    pub fn must_go_on(self) -> bool
+        ensures { result ≡ must_go_on self }
+    {
+        self.due.is_required() || self.wants_done
+    }
+}

@@ -1,0 +1,42 @@
+//! Laws of streams. Each function's contract is one, and its body is empty.
+ghost use Rattle.std.specs.Prelude.{◌≡◌, ◌↔◌, ℕ, List, Some, is_some, not};
+ghost use Rattle.plain_model.specs.declared.fault.Why.{Why};
+ghost use Rattle.line_machine.specs.Machine.{EndsEarly, IsCleanBefore, NoneIsClean, Stops, all, none, outcome, up_to};
+ghost use Rattle.line_machine.specs.Machine.Outcome.{Lacks, Reads, Refuses};
+ghost use Rattle.stream_grammar.specs.Lines.{AreSpelledAlike, IsFirstDefect, State, defect_in, history_in, stream};
+
+/// The first defect of a stream is its first refusal: line `n` is the first behind which no text can go on that is clean
+/// so far, and its kind is what that line does.
+pub fn first_refusal_is_the_first_defect()
+    ensures { (bytes : List ℕ) (n : ℕ) (why : Why) →
+        Stops stream bytes n why ↔ (outcome stream all bytes ≡ Refuses n why) }
+{}
+
+/// A stream has one first defect: its line is fixed by the other texts alone, and its kind with it.
+pub fn a_first_defect_is_the_only_one()
+    ensures line { (bytes : List ℕ) (n m : ℕ) → IsCleanBefore stream bytes n →
+        NoneIsClean stream bytes n → IsCleanBefore stream bytes m →
+        NoneIsClean stream bytes m → n ≡ m }
+    ensures kind { (bytes : List ℕ) (n m : ℕ) (why other : Why) → Stops stream bytes n why →
+        Stops stream bytes m other → (n ≡ m) × (why ≡ other) }
+{}
+
+/// A stream ends early where its reading lacks a line or a block.
+pub fn an_early_end_is_a_lack()
+    ensures { (bytes : List ℕ) (n : ℕ) →
+        EndsEarly stream bytes n ↔ (outcome stream all bytes ≡ Lacks n) }
+{}
+
+/// What is clean through a line is a stream in its form, of the same lines and blocks.
+pub fn what_is_clean_is_spelled()
+    ensures { (n : ℕ) (bytes : List ℕ) (s : State) → outcome stream (up_to n) bytes ≡ Reads s →
+        (t : State) × (outcome stream none bytes ≡ Reads t) × AreSpelledAlike s t }
+{}
+
+/// The defect that reading finds is the first one, and each text has a history or a defect.
+pub fn what_is_no_history_has_a_first_defect()
+    ensures first { (bytes : List ℕ) (n : ℕ) (why : Why) →
+        (defect_in bytes ≡ Some (n, why)) ↔ IsFirstDefect bytes n why }
+    ensures either { (bytes : List ℕ) →
+        is_some (history_in bytes) ≡ not (is_some (defect_in bytes)) }
+{}

@@ -1,0 +1,32 @@
+//! One answer of each call.
+use crate::{Due, Follow, Standing, Word, is_comment, text_of};
+use plain_model::Why;
+use std::test::*;
+
+#[test]
+fn lines_have_words(rt: HostRuntime) {
+    assert!(rt; Word::of(b"M 644 inline f") == Word::InlineOperation);
+    assert!(rt; Word::of(b"M 644 :1 inline") == Word::Operation);
+    assert!(rt; Word::of(b"encoding") == Word::Other);
+    assert!(rt; text_of(b"from :1") == b":1".as_slice());
+    assert!(rt; is_comment(b"# blob"));
+}
+
+#[test]
+fn a_stream_goes_on_or_stops(rt: HostRuntime) {
+    let start = Standing {
+        due: Due::Event,
+        wants_done: false,
+    };
+    assert!(rt;
+        start.behind(Word::Blob)
+            == Ok(Standing {
+                due: Due::BlobMark,
+                wants_done: false
+            })
+    );
+    assert!(rt; start.behind(Word::Data) == Err(Why::UnknownLine));
+    assert!(rt; !start.must_go_on());
+    assert!(rt; Due::TagFrom.follow(Word::Mark) == Follow::LeftOut);
+    assert!(rt; Due::InlineData.is_required());
+}
