@@ -1,0 +1,54 @@
+use Rattle.std.proofs.Common.{Some, sym, ◌∙◌, ap, subst}
+use Rattle.plain_model.specs.Fields.{block_in}
+use Rattle.plain_model.specs.Paths.{Bytes}
+use Rattle.stream_fields.specs.Cursors.{rest}
+use Rattle.stream_grammar.specs.Known.{with_data}
+use Rattle.stream_grammar.specs.Lines.{judged}
+use Rattle.stream_lines.specs.Reading.{answer, GoesOn, Tells}
+use Rattle.stream_lines.proofs.Turns.{tells_of, refused_by_form, landed, not_landed, over, judged_on, not_judged}
+use Rattle.stream_lines.proofs.reading.take.Goals as goal
+
+pub returns-in-Err : goal.returns-in-Err
+returns-in-Err g c = λ old first spelled.
+    refused_by_form old c.args.line.now c.args.cursor.now first c.args.standing (g.K.KeepsEvents.known c.args.keeper.now)
+    c.of-word.result c.requires c.of-word.ensures c.in-Err.why (sym c.behind.ensures ∙ c.in-Err.is) spelled
+    ∙ ap (λ n. Some (n, c.in-Err.why)) (sym c.number-number.ensures)
+
+pub returns-in_ok-land-in-Ok-block : goal.returns-in_ok-land-in-Ok-block
+returns-in_ok-land-in-Ok-block g c = λ old first.
+    subst (λ l. GoesOn old c.args.standing (g.K.KeepsEvents.known c.args.keeper.now) c.block.new.self c.in-Ok.behind l)
+    (ap (λ inline. with_data inline c.in-Ok-block.bytes (g.K.KeepsEvents.known c.args.keeper.now)) (sym c.is_inline.ensures) ∙ sym c.in_ok-land-in-Ok-block.ensures)
+    (landed old c.args.line.now c.args.cursor.now first c.args.standing (g.K.KeepsEvents.known c.args.keeper.now)
+    c.of-word.result c.requires c.of-word.ensures c.in-Ok.behind (sym c.behind.ensures ∙ c.in-Ok.is) c.in-Data.is
+    _ c.block.new.self c.in-Ok-block.ensures.text c.in-Ok-block.ensures.value)
+
+pub returns-in-Err-block : goal.returns-in-Err-block
+returns-in-Err-block g c = λ old first.
+    subst (Tells (answer old c.args.standing (g.K.KeepsEvents.known c.args.keeper.now))) (sym c.in_line.ensures)
+    (tells_of (answer old c.args.standing (g.K.KeepsEvents.known c.args.keeper.now)) c.number-number.result {X = Bytes} (λ bytes. (bytes, rest c.block.new.self)) c.in-Err-block.fault
+    (block_in c.args.line.now (rest c.args.cursor.now)) c.in-Err-block.ensures.value
+    (λ why e spelled.
+    not_landed old c.args.line.now c.args.cursor.now first c.args.standing (g.K.KeepsEvents.known c.args.keeper.now)
+    c.of-word.result c.requires c.of-word.ensures c.in-Ok.behind (sym c.behind.ensures ∙ c.in-Ok.is) c.in-Data.is why e spelled
+    ∙ ap (λ n. Some (n, why)) (sym c.number-number.ensures)))
+
+pub returns-in-Done : goal.returns-in-Done
+returns-in-Done g c = λ old first.
+    over old c.args.line.now c.args.cursor.now first c.args.standing (g.K.KeepsEvents.known c.args.keeper.now)
+    c.of-word.result c.requires c.of-word.ensures c.in-Ok.behind (sym c.behind.ensures ∙ c.in-Ok.is) c.in-Done.is
+
+pub returns-in-Ok-judge : goal.returns-in-Ok-judge
+returns-in-Ok-judge g c = λ old first.
+    judged_on old c.args.line.now c.args.cursor.now first c.args.standing (g.K.KeepsEvents.known c.args.keeper.now)
+    c.of-word.result c.requires c.of-word.ensures c.in-Ok.behind (sym c.behind.ensures ∙ c.in-Ok.is) c.in_default.not-Data c.in_default.not-Done
+    (g.K.KeepsEvents.known c.judge.new.self) c.in-Ok-judge.ensures
+
+pub returns-in-Err-judge : goal.returns-in-Err-judge
+returns-in-Err-judge g c = λ old first.
+    subst (Tells (answer old c.args.standing (g.K.KeepsEvents.known c.args.keeper.now))) (sym c.in_line-in-Err-judge.ensures)
+    (tells_of (answer old c.args.standing (g.K.KeepsEvents.known c.args.keeper.now)) c.number-number.result {X = Unit {0}} (λ _. g.K.KeepsEvents.known c.judge.new.self) c.in-Err-judge.fault
+    (judged c.of-word.result c.args.line.now (g.K.KeepsEvents.known c.args.keeper.now)) c.in-Err-judge.ensures
+    (λ why e spelled.
+    not_judged old c.args.line.now c.args.cursor.now first c.args.standing (g.K.KeepsEvents.known c.args.keeper.now)
+    c.of-word.result c.requires c.of-word.ensures c.in-Ok.behind (sym c.behind.ensures ∙ c.in-Ok.is) c.in_default.not-Data c.in_default.not-Done why e spelled
+    ∙ ap (λ n. Some (n, why)) (sym c.number-number.ensures)))

@@ -1,0 +1,13 @@
+//! The lines of a stream, one after another, are handed to whoever keeps its events.
+#![tactic(auto)]
+
+mod fault;
+mod keeping;
+mod reading;
+
+pub use fault::ReadFault;
+pub use keeping::KeepsEvents;
+pub use reading::read_lines;
+
+#[cfg(test)]
+mod tests;

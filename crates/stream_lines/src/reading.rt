@@ -1,0 +1,146 @@
+//! A whole stream is read line by line.
+ghost use Rattle.std.specs.Prelude.{◌≡◌, ◌-◌, ◌<◌, ◌^◌, OnOk, IfErr, Some, count_by, false, get_or, length, not};
+ghost use Rattle.plain_model.specs.Parts.{is_lf};
+ghost use Rattle.line_machine.specs.Lines.{line_count};
+ghost use Rattle.stream_fields.specs.Cursors.{Position};
+ghost use Rattle.stream_grammar.specs.Known.{history_of};
+ghost use Rattle.stream_grammar.specs.Lines.{history_in, is_comment, nothing_known};
+ghost use Rattle.stream_lines.specs.Reading.{IsDefectIn, IsFirst, Turns, in_line};
+
+use crate::fault::ReadFault;
+use crate::keeping::KeepsEvents;
+use plain_model::Why;
+use std::alloc::Global;
+use stream_fields::{Cursor, FieldFault};
+use stream_grammar::{Due, Standing, Word, is_comment};
+
+/// What was reached behind a line.
+#[derive(Clone, Copy, Debug)]
+enum Reached {
+    /// The next line, from here on.
+    Line(Standing),
+    /// Nothing that is looked at.
+    Over,
+    /// There was no line.
+    End,
+}
+
+// The fault of a field in its line.
+fn in_line(line: u64, fault: FieldFault) -> ReadFault
+    ensures { result ≡ in_line line fault }
+{
+    match fault {
+        FieldFault::Bad(why) => ReadFault::Defect { line, why },
+        FieldFault::Memory => ReadFault::Memory,
+    }
+}
+
+fn count_line_ends(text: &[u8]) -> usize
+    ensures { result ≡ count_by is_lf text.now }
+{
+    text.iter().filter(|b| **b == b'\n').count()
+}
+
+// Whether the last line lacks its LF.
+fn lacks_line_end(text: &[u8]) -> bool
+    ensures { result ≡ not (is_lf (get_or text.now (length text.now - 1) 10)) }
+{
+    match text.last() {
+        Some(last) => *last != b'\n',
+        None => false,
+    }
+}
+
+// How many lines a text has.
+fn count_lines(text: &[u8]) -> u64
+    ensures value { result ≡ line_count text.now }
+    ensures room { result < 2 ^ 63 }
+{
+    count_line_ends(text) as u64 + if lacks_line_end(text) { 1 } else { 0 }
+}
+
+// A line that is no comment, where the stream stood before it.
+fn take<K: KeepsEvents>(
+    alloc: Global,
+    keeper: &mut K,
+    cursor: &mut Cursor,
+    standing: Standing,
+    line: &[u8],
+) -> Result<Reached, ReadFault>
+    requires { is_comment line.now ≡ false }
+    ensures { (old : Position) → IsFirst old line.now cursor.old →
+        Turns old standing (K.known keeper.old) cursor.new (K.known keeper.new) result }
+{
+    let number = cursor.number();
+    let word = Word::of(line);
+    let behind = match standing.behind(word) {
+        Ok(behind) => behind,
+        Err(why) => return Err(ReadFault::Defect { line: number, why }),
+    };
+    match word {
+        Word::Data => match cursor.block(alloc, line) {
+            Ok(bytes) => {
+                keeper.land(behind.is_inline(), bytes)?;
+                Ok(Reached::Line(behind))
+            }
+            Err(fault) => Err(in_line(number, fault)),
+        },
+        Word::Done => Ok(Reached::Over),
+        _ => match keeper.judge(alloc, word, line) {
+            Ok(()) => Ok(Reached::Line(behind)),
+            Err(fault) => Err(in_line(number, fault)),
+        },
+    }
+}
+
+// The next line, if there is one.
+fn read_line<K: KeepsEvents>(
+    alloc: Global,
+    keeper: &mut K,
+    cursor: &mut Cursor,
+    standing: Standing,
+) -> Result<Reached, ReadFault>
+    ensures { Turns cursor.old standing (K.known keeper.old) cursor.new (K.known keeper.new) result }
+{
+    let Some(line) = cursor.line() else {
+        return Ok(Reached::End);
+    };
+    if is_comment(line) {
+        return Ok(Reached::Line(standing));
+    }
+    take(alloc, keeper, cursor, standing, line)
+}
+
+/// Reads a whole stream with someone who knows of no event yet: the history of what is known then is that of the stream,
+/// or its first defect is told.
+pub fn read_lines<K: KeepsEvents>(
+    alloc: Global,
+    keeper: &mut K,
+    text: &[u8],
+) -> Result<(), ReadFault>
+    requires { K.known keeper.old ≡ nothing_known }
+    ensures history { OnOk result (history_in text.now ≡ Some (history_of (K.known keeper.new))) }
+    ensures defect { IfErr result (IsDefectIn text.now) }
+{
+    let lines = count_lines(text);
+    let mut cursor = Cursor::new(text);
+    let mut standing = Standing {
+        due: Due::Event,
+        wants_done: false,
+    };
+    for _ in 0..lines {
+        match read_line(alloc, keeper, &mut cursor, standing)? {
+            Reached::Line(behind) => standing = behind,
+            Reached::Over => return Ok(()),
+            Reached::End => break,
+        }
+    }
+    if standing.must_go_on() {
+        Err(ReadFault::Defect {
+            line: 1 + lines,
+            why: Why::Truncated,
+        })
+    } else {
+        Ok(())
+    }
+}
