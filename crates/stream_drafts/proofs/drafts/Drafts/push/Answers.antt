@@ -1,0 +1,17 @@
+use Rattle.std.proofs.Common.{◌≡◌, ◌++◌, ◌∷◌, [], arith, nat_eq}
+use Rattle.std.specs.HashMap.{get}
+use Rattle.stream_drafts.specs.Indexed.{tip_in}
+use Rattle.stream_drafts.proofs.Indexes.{IsIndexed-push}
+use Rattle.stream_drafts.proofs.drafts.Drafts.push.Goals as goal
+
+pub invariant_of-self-2 : goal.invariant_of-self-2
+invariant_of-self-2 c =
+    let at_end : c.push-pushed.new.self.items ≡ c.self.inside.drafts.items ++ c.args.draft ∷ [] = grind arith in
+    IsIndexed-push c.self.inside.drafts.items c.push-pushed.new.self.items c.args.draft
+    (get nat_eq c.self.inside.blobs) (get nat_eq c.self.inside.commits)
+    (get nat_eq c.make_blob_room.new.blobs) (get nat_eq c.make_commit_room.new.commits)
+    (get nat_eq c.note_blob.new.blobs) (get nat_eq c.note_commit.new.commits)
+    (tip_in c.self.inside.tips) (tip_in c.note_tip.new.tips)
+    c.self.inside.greatest c.number.result c.max-self-inside.result
+    at_end c.self.invariant c.make_blob_room.ensures.same c.note_blob.ensures c.make_commit_room.ensures.same c.note_commit.ensures
+    c.in_ok-note_tip.ensures.ok c.number.ensures.value c.number.ensures.range c.max-self-inside.ensures

@@ -1,0 +1,225 @@
+//! The events so far, with what is found in them.
+ghost use Rattle.std.specs.Prelude.{◌≡◌, [], ◌+◌, ◌≤◌, ◌<◌, All, Err, IfOk, OnOk, OnErr};
+ghost use Rattle.plain_model.specs.declared.event.PlainEvent.TheVariants as plain;
+ghost use Rattle.plain_model.specs.Lookups.{greatest_mark};
+ghost use Rattle.plain_model.specs.Snapshots.{refs};
+ghost use Rattle.plain_model.specs.Streams.{is_marked, blob_marked, commit_marked};
+ghost use Rattle.plain_model.specs.Trees.{at};
+ghost use Rattle.stream_grammar.specs.Known.{next_id, with_event, with_marks};
+ghost use Rattle.stream_drafts.specs.Events.{
+  IsMarked,
+  commit_of,
+  event_of,
+  number_or_0,
+  unmarked_count,
+};
+
+use crate::draft::{CommitFields, Draft};
+use crate::finish::{FinishFault, marked_events};
+use crate::index::{make_blob_room, make_commit_room, note_blob, note_commit, note_tip};
+use plain_model::{
+    BlobId, CommitId, EventList, MAX_MARK, Mark, NoMemory, PassId, ResetId, Signed, TagId, Text,
+};
+use std::alloc::Global;
+use std::collections::HashMap;
+use std::marker::Model;
+
+/// The events that were read so far, each with its place from 1 as its id. Contracts see the plain list, in
+/// which a blob or a commit that has no mark yet has 0. It keeps its allocator, so that its calls take none.
+#[derive(Drop)]
+pub struct Drafts {
+    alloc: Global,
+    drafts: Vec<Draft>,
+    blobs: HashMap<u64, BlobId>,
+    commits: HashMap<u64, CommitId>,
+    tips: HashMap<Vec<u8>, CommitId>,
+    greatest: u64,
+}
+
+impl Model for Drafts {
+    ghost use Rattle.std.specs.Prelude.{List, nat_eq};
+    ghost use Rattle.std.specs.HashMap.{get};
+    ghost use Rattle.plain_model.specs.declared.event.PlainEvent.{PlainEvent};
+    ghost use Rattle.stream_drafts.specs.Events.{events_of};
+    ghost use Rattle.stream_drafts.specs.Indexed.{IsIndexed, tip_in};
+
+    ghost Value = { List PlainEvent };
+
+    ghost view = { λ d. events_of d.drafts.items };
+
+    ghost invariant = { λ d. IsIndexed (events_of d.drafts.items) (get nat_eq d.blobs)
+        (get nat_eq d.commits) (tip_in d.tips) d.greatest };
+}
+
+impl Drafts {
+    /// No events.
+    pub fn new(alloc: Global) -> Drafts
+        ensures { result ≡ [] }
+    {
+        Drafts {
+            alloc,
+            drafts: Vec::new(alloc),
+            blobs: HashMap::new(alloc),
+            commits: HashMap::new(alloc),
+            tips: HashMap::new(alloc),
+            greatest: 0,
+        }
+    }
+
+    /// The id of the next event, which is its place from 1.
+    pub fn next_id(&self) -> u64
+        ensures { result ≡ next_id self.now }
+    {
+        self.drafts.len() as u64 + 1
+    }
+
+    /// Whether a blob or a commit has the mark.
+    pub fn is_marked(&self, mark: Mark) -> bool
+        ensures { result ≡ is_marked self.now mark }
+    {
+        self.blob_marked(mark).is_some() || self.commit_marked(mark).is_some()
+    }
+
+    /// The blob with the mark.
+    pub fn blob_marked(&self, mark: Mark) -> Option<BlobId>
+        ensures { result ≡ blob_marked self.now mark }
+    {
+        self.blobs.get(&mark.number()).copied()
+    }
+
+    /// The commit with the mark.
+    pub fn commit_marked(&self, mark: Mark) -> Option<CommitId>
+        ensures { result ≡ commit_marked self.now mark }
+    {
+        self.commits.get(&mark.number()).copied()
+    }
+
+    /// The commit on which the branch stands.
+    pub fn tip(&self, branch: &[u8]) -> Option<CommitId>
+        ensures { result ≡ at (refs self.now) branch.now }
+    {
+        self.tips.get(branch).copied()
+    }
+
+    // Puts a draft at the end. What can want memory comes first.
+    fn push(&mut self, draft: Draft) -> Result<(), NoMemory>
+        ensures ok { OnOk result (self.new ≡ with_event self.old (event_of draft)) }
+        ensures err { OnErr result (self.new ≡ self.old) }
+    {
+        self.drafts.reserve(1)?;
+        make_blob_room(&mut self.blobs)?;
+        make_commit_room(&mut self.commits)?;
+        note_tip(self.alloc, &mut self.tips, &draft)?;
+        note_blob(&mut self.blobs, &draft);
+        note_commit(&mut self.commits, &draft);
+        self.greatest = self.greatest.max(draft.number());
+        let pushed: Result<_, _> = self.drafts.push(draft);
+        pushed.unwrap();
+        Ok(())
+    }
+
+    /// Puts a blob at the end.
+    pub fn push_blob(&mut self, mark: Option<Mark>, bytes: Text) -> Result<BlobId, NoMemory>
+        ensures ok { OnOk result (self.new ≡ with_event self.old
+            (plain.Blob (next_id self.old) (number_or_0 mark) bytes)) }
+        ensures id { IfOk result (λ id. id ≡ next_id self.old) }
+        ensures err { OnErr result (self.new ≡ self.old) }
+    {
+        let id = BlobId::new(self.next_id());
+        self.push(Draft::Blob { id, mark, bytes })?;
+        Ok(id)
+    }
+
+    /// Puts a commit at the end. Its branch stands on it from then on.
+    pub fn push_commit(
+        &mut self,
+        mark: Option<Mark>,
+        fields: CommitFields,
+    ) -> Result<CommitId, NoMemory>
+        ensures ok { OnOk result
+            (self.new ≡ with_event self.old (commit_of (next_id self.old) mark fields)) }
+        ensures id { IfOk result (λ id. id ≡ next_id self.old) }
+        ensures err { OnErr result (self.new ≡ self.old) }
+    {
+        let id = CommitId::new(self.next_id());
+        self.push(Draft::Commit { id, mark, fields })?;
+        Ok(id)
+    }
+
+    /// Puts a tag at the end.
+    pub fn push_tag(
+        &mut self,
+        name: Text,
+        target: CommitId,
+        tagger: Option<Signed>,
+        comment: Text,
+    ) -> Result<TagId, NoMemory>
+        ensures ok { OnOk result (self.new ≡ with_event self.old
+            (plain.Tag (next_id self.old) name target tagger comment)) }
+        ensures id { IfOk result (λ id. id ≡ next_id self.old) }
+        ensures err { OnErr result (self.new ≡ self.old) }
+    {
+        let id = TagId::new(self.next_id());
+        self.push(Draft::Tag {
+            id,
+            name,
+            target,
+            tagger,
+            comment,
+        })?;
+        Ok(id)
+    }
+
+    /// Puts a reset at the end. Its branch stands on its target from then on, or is gone.
+    pub fn push_reset(
+        &mut self,
+        branch: Text,
+        target: Option<CommitId>,
+    ) -> Result<ResetId, NoMemory>
+        ensures ok { OnOk result (self.new ≡ with_event self.old
+            (plain.Reset (next_id self.old) branch target)) }
+        ensures id { IfOk result (λ id. id ≡ next_id self.old) }
+        ensures err { OnErr result (self.new ≡ self.old) }
+    {
+        let id = ResetId::new(self.next_id());
+        self.push(Draft::Reset { id, branch, target })?;
+        Ok(id)
+    }
+
+    /// Puts a line at the end that is passed through as it is.
+    pub fn push_pass(&mut self, line: Text) -> Result<PassId, NoMemory>
+        ensures ok { OnOk result (self.new ≡ with_event self.old
+            (plain.Pass (next_id self.old) line)) }
+        ensures id { IfOk result (λ id. id ≡ next_id self.old) }
+        ensures err { OnErr result (self.new ≡ self.old) }
+    {
+        let id = PassId::new(self.next_id());
+        self.push(Draft::Pass { id, line })?;
+        Ok(id)
+    }
+
+    /// The history: each blob or commit without a mark gets the next one above the greatest.
+    pub fn finish(self) -> Result<EventList, FinishFault>
+        ensures list { IfOk result (λ list. list ≡ with_marks (greatest_mark self) self) }
+        ensures marked { IfOk result (All IsMarked) }
+
+        // The marks are spent only where fewer are left than there are blobs and commits without one.
+        ensures fits { OnOk result (greatest_mark self + unmarked_count self ≤ MAX_MARK) }
+        ensures spent { result ≡ Err FinishFault.MarksSpent →
+            MAX_MARK < greatest_mark self + unmarked_count self }
+    {
+        let Drafts {
+            alloc,
+            drafts,
+            blobs,
+            commits,
+            tips,
+            greatest,
+        } = self;
+        // They give their memory back before the history takes its own.
+        drop(blobs);
+        drop(commits);
+        drop(tips);
+        marked_events(alloc, drafts, greatest)
+    }
+}

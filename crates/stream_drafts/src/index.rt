@@ -1,0 +1,144 @@
+//! Where blobs and commits are found by mark, and tips by branch.
+ghost use Rattle.std.specs.Prelude.{
+  ◌≡◌,
+  ◌≤◌,
+  ◌<◌,
+  ◌∷◌,
+  [],
+  ℕ,
+  List,
+  Some,
+  None,
+  nat_eq,
+  OnOk,
+  OnErr,
+  if◌then◌else◌,
+  ◌==◌,
+  bytes_eq,
+};
+ghost use Rattle.std.specs.HashMap.{get, spare};
+ghost use Rattle.plain_model.specs.Streams.{blob_marked, commit_marked};
+ghost use Rattle.stream_drafts.specs.Events.{event_of};
+ghost use Rattle.stream_drafts.specs.Indexed.{first_of, tip_behind, tip_in};
+
+use crate::draft::Draft;
+use plain_model::{BlobId, CommitId, Mark, NoMemory};
+use std::alloc::Global;
+use std::collections::HashMap;
+
+/// Makes room for one mark more.
+pub fn make_blob_room(blobs: &mut HashMap<u64, BlobId>) -> Result<(), NoMemory>
+    ensures same { (n : ℕ) → get nat_eq blobs.new n ≡ get nat_eq blobs.old n }
+    ensures room { OnOk result (0 < spare blobs.new) }
+{
+    blobs.reserve(1)?;
+    Ok(())
+}
+
+/// Makes room for one mark more.
+pub fn make_commit_room(commits: &mut HashMap<u64, CommitId>) -> Result<(), NoMemory>
+    ensures same { (n : ℕ) → get nat_eq commits.new n ≡ get nat_eq commits.old n }
+    ensures room { OnOk result (0 < spare commits.new) }
+{
+    commits.reserve(1)?;
+    Ok(())
+}
+
+fn note_blob_mark(blobs: &mut HashMap<u64, BlobId>, mark: Mark, id: BlobId)
+    requires { 0 < spare blobs.old }
+    ensures { (n : ℕ) → get nat_eq blobs.new n ≡
+        first_of (get nat_eq blobs.old n) (if mark == n then Some id else None) }
+{
+    if !blobs.contains_key(&mark.number()) {
+        let noted: Result<_, _> = blobs.insert(mark.number(), id);
+        let _ = noted.unwrap();
+    }
+}
+
+fn note_commit_mark(commits: &mut HashMap<u64, CommitId>, mark: Mark, id: CommitId)
+    requires { 0 < spare commits.old }
+    ensures { (n : ℕ) → get nat_eq commits.new n ≡
+        first_of (get nat_eq commits.old n) (if mark == n then Some id else None) }
+{
+    if !commits.contains_key(&mark.number()) {
+        let noted: Result<_, _> = commits.insert(mark.number(), id);
+        let _ = noted.unwrap();
+    }
+}
+
+/// Notes the mark of a blob, if it has one that no earlier blob has.
+pub fn note_blob(blobs: &mut HashMap<u64, BlobId>, draft: &Draft)
+    requires { 0 < spare blobs.old }
+    ensures { (n : ℕ) → 1 ≤ n → get nat_eq blobs.new n ≡
+        first_of (get nat_eq blobs.old n) (blob_marked (event_of draft.now ∷ []) n) }
+{
+    if let Draft::Blob {
+        id,
+        mark: Some(mark),
+        ..
+    } = draft
+    {
+        note_blob_mark(blobs, *mark, *id);
+    }
+}
+
+/// Notes the mark of a commit, if it has one that no earlier commit has.
+pub fn note_commit(commits: &mut HashMap<u64, CommitId>, draft: &Draft)
+    requires { 0 < spare commits.old }
+    ensures { (n : ℕ) → 1 ≤ n → get nat_eq commits.new n ≡
+        first_of (get nat_eq commits.old n) (commit_marked (event_of draft.now ∷ []) n) }
+{
+    if let Draft::Commit {
+        id,
+        mark: Some(mark),
+        ..
+    } = draft
+    {
+        note_commit_mark(commits, *mark, *id);
+    }
+}
+
+fn set_tip(
+    alloc: Global,
+    tips: &mut HashMap<Vec<u8>, CommitId>,
+    branch: &[u8],
+    tip: CommitId,
+) -> Result<(), NoMemory>
+    ensures ok { OnOk result ((b : List ℕ) →
+        tip_in tips.new b ≡ (if bytes_eq b branch.now then Some tip else tip_in tips.old b)) }
+    ensures err { OnErr result ((b : List ℕ) → tip_in tips.new b ≡ tip_in tips.old b) }
+{
+    let branch = Vec::from_slice(alloc, branch)?;
+    tips.insert(branch, tip)?;
+    Ok(())
+}
+
+fn remove_tip(tips: &mut HashMap<Vec<u8>, CommitId>, branch: &[u8])
+    ensures { (b : List ℕ) →
+        tip_in tips.new b ≡ (if bytes_eq b branch.now then None else tip_in tips.old b) }
+{
+    tips.remove(branch);
+}
+
+/// Sets or removes the tip of the branch that the event changes, if it changes one.
+pub fn note_tip(
+    alloc: Global,
+    tips: &mut HashMap<Vec<u8>, CommitId>,
+    draft: &Draft,
+) -> Result<(), NoMemory>
+    ensures ok { OnOk result ((b : List ℕ) →
+        tip_in tips.new b ≡ tip_behind (event_of draft.now) b (tip_in tips.old b)) }
+    ensures err { OnErr result ((b : List ℕ) → tip_in tips.new b ≡ tip_in tips.old b) }
+{
+    match draft {
+        Draft::Commit { id, fields, .. } => set_tip(alloc, tips, fields.branch.as_slice(), *id),
+        Draft::Reset { branch, target, .. } => match target {
+            Some(commit) => set_tip(alloc, tips, branch.as_slice(), *commit),
+            None => {
+                remove_tip(tips, branch.as_slice());
+                Ok(())
+            }
+        },
+        _ => Ok(()),
+    }
+}

@@ -1,0 +1,14 @@
+//! The events of a stream so far, while some of their blobs and commits have no mark yet.
+#![tactic(auto)]
+
+mod draft;
+mod drafts;
+mod finish;
+mod index;
+
+pub use draft::CommitFields;
+pub use drafts::Drafts;
+pub use finish::FinishFault;
+
+#[cfg(test)]
+mod tests;
