@@ -2,7 +2,7 @@
 use Rattle.std.specs.Prelude.{ℕ, ◌+◌, ◌==◌, ◌&&◌, not, nat_le, Bool, false, List, [], ◌∷◌, ◌++◌, Option, Some, None, if◌then◌else◌}
 use Rattle.std.specs.List.{list_all}
 use Rattle.plain_model.specs.Paths.{Bytes, is_empty}
-use Rattle.plain_model.specs.Reading.{behind}
+use Rattle.plain_model.specs.Parts.{behind}
 use Rattle.history_machine.specs.declared.script.ScriptItem.{ScriptItem}
 
 -- ---- the command line

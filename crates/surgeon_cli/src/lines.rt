@@ -1,7 +1,7 @@
 //! The lines of a script, and the commands that stand in them.
 ghost use Rattle.std.specs.Prelude.{◌≡◌, IfOk, codes};
 ghost use Rattle.std.specs.Option.{option_copied};
-ghost use Rattle.plain_model.specs.Reading.{behind};
+ghost use Rattle.plain_model.specs.Parts.{behind};
 ghost use Rattle.history_machine.specs.Commands.{command_due, command_in};
 ghost use Rattle.history_machine.specs.Scripts.{items_of, name_behind, word_of};
 ghost use Rattle.file_calls.specs.Calls.{GivesAlone};
@@ -34,7 +34,7 @@ pub fn items_in(alloc: Global, bytes: &[u8]) -> Result<ItemList, NoMemory>
     Ok(items)
 }
 
-#[tactic(auto, unfolding(plain_model::specs::Reading::behind))]
+#[tactic(auto, unfolding(plain_model::specs::Parts::behind))]
 fn strip<'a>(word: &[u8], line: &'a [u8]) -> Option<&'a [u8]>
     ensures { option_copied result ≡ behind word.now line.now }
 {
