@@ -88,7 +88,7 @@ module _ {State Why : Type 0} (a : Automaton State Why) where
 
 -- ---- limits
 
-module _ {State Why Limit : Type 0} (a : Automaton State Why) (passed : State → State → Option Limit) where
+module _ {State Why Limit : Type 0} (a : Automaton State Why) (passed : Bytes → State → Option Limit) where
   -- ---- steps
 
   made_or : State × Next → Result (State × Next) (Cause Why Limit) → State × Next
@@ -96,38 +96,38 @@ module _ {State Why Limit : Type 0} (a : Automaton State Why) (passed : State �
   made_or other (Err cause) = other
 
   -- what is made within the limits is made without
-  step_made : (s new : State) (next : Next) (r : Result (State × Next) Why) → limited_step a passed s r ≡ Ok (new, next) → r ≡ Ok (new, next)
+  step_made : (line : Bytes) (new : State) (next : Next) (r : Result (State × Next) Why) → limited_step a passed line r ≡ Ok (new, next) → r ≡ Ok (new, next)
   unfolding made_or
-  step_made s new next (Err why) e = absurd cc
-  step_made s new next (Ok made) e = go (passed s made.0) e
+  step_made line new next (Err why) e = absurd cc
+  step_made line new next (Ok made) e = go (passed line made.0) e
     where
       go : (o : Option Limit) → within a passed made o ≡ Ok (new, next) → ◌≡◌ {A = Result (State × Next) Why} (Ok made) (Ok (new, next))
       go None e = ap (λ m. Ok m) (ap (made_or made) e)
       go (Some limit) e = absurd cc
 
   -- a defect is one without limits
-  step_refused : (s : State) (why : Why) (r : Result (State × Next) Why) → limited_step a passed s r ≡ Err (Defect why) → r ≡ Err why
-  step_refused s why (Err w) e = let same : w ≡ why = cc in ap (λ w. Err w) same
-  step_refused s why (Ok made) e = absurd (go (passed s made.0) e)
+  step_refused : (line : Bytes) (why : Why) (r : Result (State × Next) Why) → limited_step a passed line r ≡ Err (Defect why) → r ≡ Err why
+  step_refused line why (Err w) e = let same : w ≡ why = cc in ap (λ w. Err w) same
+  step_refused line why (Ok made) e = absurd (go (passed line made.0) e)
     where
       go : (o : Option Limit) → within a passed made o ≡ Err (Defect why) → ⊥
       go None e = absurd cc
       go (Some limit) e = absurd cc
 
   -- a limit is passed by a step that is made without
-  step_passed : (s : State) (limit : Limit) (r : Result (State × Next) Why) → limited_step a passed s r ≡ Err (Passes limit)
-      → (new : State) × (next : Next) × (r ≡ Ok (new, next)) × (passed s new ≡ Some limit)
-  step_passed s limit (Err w) e = absurd cc
-  step_passed s limit (Ok made) e = (made.0, made.1, refl, go (passed s made.0) e)
+  step_passed : (line : Bytes) (limit : Limit) (r : Result (State × Next) Why) → limited_step a passed line r ≡ Err (Passes limit)
+      → (new : State) × (next : Next) × (r ≡ Ok (new, next)) × (passed line new ≡ Some limit)
+  step_passed line limit (Err w) e = absurd cc
+  step_passed line limit (Ok made) e = (made.0, made.1, refl, go (passed line made.0) e)
     where
       go : (o : Option Limit) → within a passed made o ≡ Err (Passes limit) → o ≡ Some limit
       go None e = absurd cc
       go (Some l) e = let same : l ≡ limit = cc in ap (λ l. Some l) same
 
   twin_step : (j : ℕ → Bool) (n : ℕ) (s t : State) (line : Bytes) (new : State) (next : Next) → s ≡ t
-      → limited_step a passed s (a.step (j n) s line) ≡ Ok (new, next) → (other : State) × (a.step (j n) t line ≡ Ok (other, next)) × (new ≡ other)
+      → limited_step a passed line (a.step (j n) s line) ≡ Ok (new, next) → (other : State) × (a.step (j n) t line ≡ Ok (other, next)) × (new ≡ other)
   twin_step j n s t line new next same e =
-      (new, ap (λ q. a.step (j n) q line) (sym same) ∙ step_made s new next (a.step (j n) s line) e, refl)
+      (new, ap (λ q. a.step (j n) q line) (sym same) ∙ step_made line new next (a.step (j n) s line) e, refl)
 
   -- ---- texts
 
@@ -170,7 +170,7 @@ module _ {State Why Limit : Type 0} (a : Automaton State Why) (passed : State �
   pub limited_defect : (j : ℕ → Bool) (x : Bytes) (n : ℕ) (why : Why) → outcome within_limits j x ≡ Refuses n (Defect why) → outcome a j x ≡ Refuses n why
   limited_defect j x n why h =
       let s = stops_at within_limits j 1 (InLine []) a.start (first_lines n x) n (Defect why) (outcome_refused within_limits j x n (Defect why) h) in
-      let refused = step_refused s.state why (a.step (j n) s.state s.line) s.refused in
+      let refused = step_refused s.line why (a.step (j n) s.state s.line) s.refused in
       let stops : run a j (begun a) (first_lines n x) ≡ Stopped n why =
       ap (run a j (begun a)) s.is_there
       ∙ run_line a j s.before s.line s.behind n s.state (run_within j s.before n (InLine s.line) s.state s.reached)
@@ -182,7 +182,7 @@ module _ {State Why Limit : Type 0} (a : Automaton State Why) (passed : State �
   pub limited_passes : (x : Bytes) (n : ℕ) (limit : Limit) → outcome within_limits all x ≡ Refuses n (Passes limit) → PassesLimit a passed x n limit
   limited_passes x n limit h =
       let s = stops_at within_limits all 1 (InLine []) a.start (first_lines n x) n (Passes limit) (outcome_refused within_limits all x n (Passes limit) h) in
-      let p = step_passed s.state limit (a.step true s.state s.line) s.refused in
+      let p = step_passed s.line limit (a.step true s.state s.line) s.refused in
       let reached = run_within all s.before n (InLine s.line) s.state s.reached in
       record {
         is_read = λ k why. read_on k why s.before s.line s.behind s.state p.0 p.1 s.is_there reached p.2;

@@ -68,9 +68,9 @@ example = record {
   is_due = λ s. s.due;
 }
 
--- the limit that a step to these items passes
-abbrev pub items_passed : ItemsRead → ItemsRead → Option ItemLimit
-items_passed old new = if nat_le (length new.names) 2 then None else Some TooManyItems
+-- the limit that a line passes behind which there are these items
+abbrev pub items_passed : Bytes → ItemsRead → Option ItemLimit
+items_passed line new = if nat_le (length new.names) 2 then None else Some TooManyItems
 
 -- the grammar with two items at most
 abbrev pub two_items : Automaton ItemsRead (Cause ItemDefect ItemLimit)

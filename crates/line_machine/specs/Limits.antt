@@ -10,25 +10,25 @@ pub data Cause (Why Limit : Type 0) : Type 0 where
   Defect : Why → Cause Why Limit
   Passes : Limit → Cause Why Limit
 
--- by the states before and behind a step, the limit that it passes, if it passes one
+-- by a line and the state behind it, the limit that it passes, if it passes one
 module _ {State Why Limit : Type 0} (a : Automaton State Why)
-    (passed : State → State → Option Limit) where
+    (passed : Bytes → State → Option Limit) where
   -- a step that was made stands where it passes no limit
   abbrev pub within : State × Next → Option Limit → Result (State × Next) (Cause Why Limit)
   within made None = Ok made
   within made (Some limit) = Err (Passes limit)
 
   -- a defect comes before a limit
-  abbrev pub limited_step : State → Result (State × Next) Why
+  abbrev pub limited_step : Bytes → Result (State × Next) Why
       → Result (State × Next) (Cause Why Limit)
-  limited_step old (Err why) = Err (Defect why)
-  limited_step old (Ok made) = within made (passed old made.0)
+  limited_step line (Err why) = Err (Defect why)
+  limited_step line (Ok made) = within made (passed line made.0)
 
   -- the automaton with its limits
   abbrev pub limited : Automaton State (Cause Why Limit)
   limited = record {
     start = a.start;
-    step = λ judge s line. limited_step s (a.step judge s line);
+    step = λ judge s line. limited_step line (a.step judge s line);
     landed = a.landed;
     is_due = a.is_due;
   }
@@ -51,4 +51,4 @@ module _ {State Why Limit : Type 0} (a : Automaton State Why)
     pub is_there : first_lines n bytes ≡ before ++ 10 ∷ behind
     pub reached : run a all (begun a) before ≡ At n (InLine line) old
     pub made : a.step true old line ≡ Ok (new, next)
-    pub passes : passed old new ≡ Some limit
+    pub passes : passed line new ≡ Some limit
