@@ -1,13 +1,13 @@
 //! A place in a stream that goes on line by line and block by block.
-ghost use Rattle.std.specs.Prelude.{◌≡◌, ◌-◌, ◌≤◌, OnErr, IfSome, IfNone, count_by, option_map, length};
+ghost use Rattle.std.specs.Prelude.{◌≡◌, ◌-◌, ◌≤◌, OnErr, IfSome, IfNone, option_map, length};
 ghost use Rattle.plain_model.specs.Fields.{block_in};
-ghost use Rattle.plain_model.specs.Parts.{line_at, is_lf};
+ghost use Rattle.plain_model.specs.Parts.{line_at};
 ghost use Rattle.stream_fields.specs.Answers.{Gives};
 ghost use Rattle.stream_fields.specs.Cursors.{Position, rest, number_at};
 
 use crate::data::block_end;
 use crate::fault::FieldFault;
-use crate::lines::{first_line, skip_line_feed};
+use crate::lines::{count_line_ends, first_line, skip_line_feed};
 use plain_model::{Items, Text};
 use std::alloc::Global;
 use std::marker::Model;
@@ -33,12 +33,6 @@ impl<'a> Model for Cursor<'a> {
     ghost view = { λ c. record { text = c.text.now; at = c.at; number = c.number } };
 
     ghost invariant = { λ c. (c.at ≤ length c.text.now) × (c.ends ≡ count_by is_lf (take c.at c.text.now)) };
-}
-
-fn count_line_ends(text: &[u8]) -> usize
-    ensures { result ≡ count_by is_lf text.now }
-{
-    text.iter().filter(|b| **b == b'\n').count()
 }
 
 impl<'a> Cursor<'a> {

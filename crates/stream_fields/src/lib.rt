@@ -15,12 +15,12 @@ mod writing;
 mod written_parts;
 
 pub use cursor::Cursor;
-pub use fault::FieldFault;
-pub use lines::{cut, first_line, skip_line_feed, strip, words};
+pub use fault::{FieldFault, due};
+pub use lines::{count_line_ends, cut, first_line, skip_line_feed, strip, words};
 pub use names::read_name;
 pub use numbers::{mark_of_digits, number_up_to, read_mark};
 pub use operations::{is_word_left_out, read_content, read_mode, read_op};
-pub use paths::read_path;
+pub use paths::{read_last_path, read_path};
 pub use people::read_person;
 pub use plain_model::Place;
 pub use writing::{write_data, write_mark, write_op, write_path, write_person};

@@ -1,9 +1,9 @@
 //! Lines and words of a text, each with what follows it.
-ghost use Rattle.std.specs.Prelude.{◌≡◌, ◌==◌, ◌<◌, length, IfSome};
+ghost use Rattle.std.specs.Prelude.{◌≡◌, ◌==◌, ◌<◌, count_by, length, IfSome};
 ghost use Rattle.std.specs.List.{position};
 ghost use Rattle.std.specs.Option.{option_map, option_copied};
 ghost use Rattle.plain_model.specs.Fields.{first_word, behind_space};
-ghost use Rattle.plain_model.specs.Parts.{line_at, behind, skip_lf, cut_at};
+ghost use Rattle.plain_model.specs.Parts.{line_at, behind, is_lf, skip_lf, cut_at};
 
 /// The place of the first such byte.
 pub fn place_of(byte: u8, text: &[u8]) -> Option<usize>
@@ -34,6 +34,13 @@ pub fn first_line(text: &[u8]) -> Option<(&[u8], &[u8])>
         Some(at) => Some((&text[..at], &text[at + 1..])),
         None => Some((text, &[])),
     }
+}
+
+/// How many LFs a text has.
+pub fn count_line_ends(text: &[u8]) -> usize
+    ensures { result ≡ count_by is_lf text.now }
+{
+    text.iter().filter(|b| **b == b'\n').count()
 }
 
 /// What stands behind a word, where the text begins with it.

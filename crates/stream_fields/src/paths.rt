@@ -12,6 +12,7 @@ ghost use Rattle.plain_model.specs.Fields.{
 };
 ghost use Rattle.plain_model.specs.Fields.Quoting.{Between};
 ghost use Rattle.plain_model.specs.Parts.{begins};
+ghost use Rattle.plain_model.specs.Text.{begins_quoted};
 ghost use Rattle.stream_fields.specs.Answers.{Gives};
 
 use crate::fault::FieldFault;
@@ -77,8 +78,9 @@ fn spelled_plain(place: Place, text: &[u8]) -> &[u8]
     }
 }
 
-fn begins_with_quote(text: &[u8]) -> bool
+pub fn begins_with_quote(text: &[u8]) -> bool
     ensures value { result ≡ begins (codes "\"") text.now }
+    ensures same { result ≡ begins_quoted text.now }
     ensures some { IsTrue result → 1 ≤ length text.now }
 {
     matches!(text, [b'"', ..])

@@ -24,7 +24,6 @@ ghost use Rattle.plain_model.specs.Text.{
   person,
   quoted_byte,
   quoted,
-  begins_quoted,
   path_text,
   last_path,
   mode_text,
@@ -35,6 +34,7 @@ ghost use Rattle.plain_model.specs.Text.{
 };
 ghost use Rattle.stream_fields.specs.Written.{name_part, address, date, modify_text, paths_text};
 
+use crate::paths::begins_with_quote;
 use plain_model::{Mode, NoMemory, Path, Person, Place, RawContent, RawOp, Signed, Text, When};
 
 // ---- who and when
@@ -105,15 +105,6 @@ pub fn push_person(out: &mut Text, signed: &Signed) -> Result<(), NoMemory>
 
 // ---- paths
 
-fn begins_quote(bytes: &[u8]) -> bool
-    ensures { result ≡ begins_quoted bytes.now }
-{
-    match bytes {
-        [first, ..] => *first == b'"',
-        [] => false,
-    }
-}
-
 fn has_lf(bytes: &[u8]) -> bool
     ensures { result ≡ list_any (λ b. b == LF) bytes.now }
 {
@@ -154,14 +145,14 @@ pub fn push_path(out: &mut Text, path: &Path, place: Place) -> Result<(), NoMemo
     let bytes = path.as_bytes();
     match place {
         Place::Last => {
-            if begins_quote(bytes) || has_lf(bytes) {
+            if begins_with_quote(bytes) || has_lf(bytes) {
                 push_quoted(out, bytes)
             } else {
                 out.push_all(bytes)
             }
         }
         Place::Source => {
-            if begins_quote(bytes) || has_lf_or_space(bytes) {
+            if begins_with_quote(bytes) || has_lf_or_space(bytes) {
                 push_quoted(out, bytes)
             } else {
                 out.push_all(bytes)
