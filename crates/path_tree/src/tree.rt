@@ -1,5 +1,5 @@
 //! A tree of paths.
-ghost use Rattle.std.specs.Prelude.{◌≡◌, ◌+◌, ◌-◌, ◌^◌, [], min, Ok, IfOk, IfErr, OnOk, OnErr};
+ghost use Rattle.std.specs.Prelude.{◌≡◌, ◌+◌, ◌-◌, ◌^◌, [], length, min, Ok, IfOk, IfErr, OnOk, OnErr};
 ghost use Rattle.plain_model.specs.Trees.{apply, at, subtree, IsTree};
 ghost use Rattle.path_tree.specs.Answers.{TellsOf};
 
@@ -50,6 +50,13 @@ impl PathTree {
         steps.tick();
         operations_keep_trees();
         self.entries.apply(op)
+    }
+
+    /// How many paths there are.
+    pub fn len(&self) -> usize
+        ensures { result ≡ length self.now }
+    {
+        self.entries.len()
     }
 
     /// What stands at the path. It takes no memory.
