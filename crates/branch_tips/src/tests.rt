@@ -39,3 +39,19 @@ fn resets_set_and_remove_a_tip(rt: HostRuntime) -> Result<(), Fail> {
     }
     Ok(())
 }
+
+fn after_changes(alloc: Global) -> Option<Tips> {
+    let mut tips = Tips::new(alloc);
+    tips.set(b"main", CommitId::new(3)).ok()?;
+    tips.set(b"side", CommitId::new(4)).ok()?;
+    tips.remove(b"main");
+    Some(tips)
+}
+
+#[test]
+fn a_branch_is_set_and_removed_by_itself(rt: HostRuntime) -> Result<(), Fail> {
+    let tips = after_changes(rt.alloc()).ok_or("memory")?;
+    assert!(rt; !tips.has(b"main"));
+    assert_eq!(rt; tips.tip(b"side").map(|tip| tip.number()), Some(4));
+    Ok(())
+}

@@ -1,5 +1,5 @@
 //! The tips of branches.
-ghost use Rattle.std.specs.Prelude.{◌≡◌, ◌∷◌, [], not, bytes_eq, OnOk};
+ghost use Rattle.std.specs.Prelude.{◌≡◌, ◌∷◌, [], not, bytes_eq, OnOk, OnErr};
 ghost use Rattle.plain_model.specs.Snapshots.{refs_after};
 ghost use Rattle.plain_model.specs.Trees.{at, has, put, where_path};
 
@@ -52,23 +52,27 @@ impl Tips {
         self.tip(branch).is_some()
     }
 
-    fn set(&mut self, branch: &[u8], tip: CommitId) -> Result<(), NoMemory>
-        ensures { OnOk result (self.new ≡ put branch.now tip self.old) }
+    /// The branch stands on the commit from now on.
+    pub fn set(&mut self, branch: &[u8], tip: CommitId) -> Result<(), NoMemory>
+        ensures ok { OnOk result (self.new ≡ put branch.now tip self.old) }
+        ensures err { OnErr result (self.new ≡ self.old) }
     {
         let branch = Vec::from_slice(self.alloc, branch)?;
         self.by_branch.insert(branch, tip)?;
         Ok(())
     }
 
-    fn remove(&mut self, branch: &[u8])
+    /// The branch has no tip from now on.
+    pub fn remove(&mut self, branch: &[u8])
         ensures { self.new ≡ where_path (λ other. not (bytes_eq branch.now other)) self.old }
     {
         self.by_branch.remove(branch);
     }
 
-    /// Goes on by one event. Where memory is wanting, it is left open whether the tips went on.
+    /// Goes on by one event. Where memory is wanting, the tips stay as they were.
     pub fn note(&mut self, event: &PlainEvent) -> Result<(), NoMemory>
-        ensures { OnOk result (self.new ≡ refs_after self.old (event.now ∷ [])) }
+        ensures ok { OnOk result (self.new ≡ refs_after self.old (event.now ∷ [])) }
+        ensures err { OnErr result (self.new ≡ self.old) }
     {
         match event {
             PlainEvent::Commit { id, branch, .. } => self.set(branch.as_slice(), *id),
