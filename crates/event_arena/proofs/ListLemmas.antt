@@ -52,6 +52,11 @@ module _ {X Y : Type 0} (f : X → List Y) where
   flat-split (x ∷ xs) zero = refl
   flat-split (x ∷ xs) (suc k) = append_assoc (f x) (flat_map f (take k xs)) (flat_map f (drop k xs)) ∙ ap (λ ys. f x ++ ys) (flat-split xs k)
 
+  pub length-flat-take : (xs : List X) (k : ℕ) → length (flat_map f (take k xs)) ≤ length (flat_map f xs)
+  length-flat-take xs k =
+      let s = sym (length-append (flat_map f (take k xs)) (flat_map f (drop k xs))) ∙ ap length (flat-split xs k) in
+      omega arith
+
   pub length-flat-drop : (xs : List X) (k : ℕ) → length (flat_map f (drop k xs)) ≤ length (flat_map f xs)
   length-flat-drop xs k =
       let s = sym (length-append (flat_map f (take k xs)) (flat_map f (drop k xs))) ∙ ap length (flat-split xs k) in

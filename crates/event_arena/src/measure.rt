@@ -1,5 +1,6 @@
 //! What a table of events comes to: the room that it needs, its greatest mark, and the first id above all.
-ghost use Rattle.std.specs.Prelude.{◌≡◌, ◌≤◌, ◌<◌, ◌+◌, ◌^◌, flat_map, length, IfSome};
+ghost use Rattle.std.specs.Prelude.{◌≡◌, ◌≤◌, ◌<◌, ◌+◌, ◌^◌, flat_map, length};
+ghost use Rattle.std.specs.Option.{SomeIff};
 ghost use Rattle.event_arena.specs.Needs.{event_need, need};
 ghost use Rattle.plain_model.specs.Lookups.{
   AreIdsBelow,
@@ -39,9 +40,9 @@ fn blob_count(ops: &[FileOp]) -> usize
     count
 }
 
-// What an event needs, if it is a number of this machine.
+// What an event needs, if that is below 2^64.
 fn need_of_event(event: &PlainEvent) -> Option<usize>
-    ensures { IfSome result (λ n. n ≡ event_need event.now) }
+    ensures { SomeIff result (event_need event.now < 2 ^ 64) (event_need event.now) }
 {
     match event {
         PlainEvent::Blob { .. } => Some(2),
@@ -62,9 +63,9 @@ fn need_of_event(event: &PlainEvent) -> Option<usize>
     }
 }
 
-/// What a table needs. A need that is no number of this machine has no value: there is no memory of that size.
+/// What a table needs. `None` exactly where that is 2^64 or more: there is no memory of such a size.
 pub fn need_of(table: &EventTable) -> Option<usize>
-    ensures { IfSome result (λ n. n ≡ need table.now) }
+    ensures { SomeIff result (need table.now < 2 ^ 64) (need table.now) }
 {
     let mut total: usize = 0;
     for place in 0..table.count() {

@@ -229,10 +229,10 @@ impl Plan {
     }
 
     /// Puts the events in another order, in one pass.
-    pub fn set_order(&mut self, order: &IdList) -> Result<(), NoMemory>
-        requires { IsOrderOf order.now self.old.after }
+    pub fn set_order(&mut self, order: IdList) -> Result<(), NoMemory>
+        requires { IsOrderOf order self.old.after }
         ensures ok { OnOk result
-            (self.new ≡ record self.old { after = in_order order.now self.old.after }) }
+            (self.new ≡ record self.old { after = in_order order self.old.after }) }
         ensures err { OnErr result (self.new ≡ self.old) }
     {
         self.after.set_order(order.as_slice())

@@ -69,14 +69,12 @@ impl Model for EventTable {
 }
 
 impl EventTable {
-    /// The table without events.
-    pub fn new(alloc: Global) -> EventTable
-        ensures { result ≡ [] }
+    // The table without events, and with room for so many.
+    fn with_room(alloc: Global, count: usize) -> Result<EventTable, NoMemory>
+        ensures { IfOk result (λ table. table ≡ []) }
     {
-        EventTable {
-            alloc,
-            rows: IndexMap::new(alloc),
-        }
+        let rows = IndexMap::with_capacity(alloc, count)?;
+        Ok(EventTable { alloc, rows })
     }
 
     /// The table of a list whose ids are distinct.
@@ -84,10 +82,9 @@ impl EventTable {
         requires { AreDistinct list }
         ensures { IfOk result (λ table. table ≡ list) }
     {
-        let mut items = list.into_items();
-        items.reverse();
-        let mut table = EventTable::new(alloc);
-        while let Some(event) = items.pop() {
+        let items = list.into_items();
+        let mut table = EventTable::with_room(alloc, items.len())?;
+        for event in items {
             table.append(event)?;
         }
         Ok(table)

@@ -1,7 +1,8 @@
-ghost use Rattle.std.specs.Prelude.{◌≡◌, ◌<◌, ◌^◌, None, IfOk, IsSome, OnOk};
+ghost use Rattle.std.specs.Prelude.{◌≡◌, ◌<◌, ◌^◌, ◌∷◌, ◌++◌, [], None, IfOk, IsSome, OnOk};
 ghost use Rattle.event_arena.specs.Changes.{without};
 ghost use Rattle.event_arena.specs.Examples.{commit, example, other_order, signed, tag};
 ghost use Rattle.plain_model.specs.Lookups.{find_event};
+ghost use Rattle.plain_model.specs.Soundness.{IsSound};
 ghost use Rattle.plain_model.specs.declared.id.AnyId.TheVariants.{Blob, Commit, Reset, Tag};
 
 use crate::*;
@@ -70,10 +71,10 @@ fn tag(alloc: Global, number: u64, target: u64) -> Result<PlainEvent, Fail>
 
 // A blob; a root, two children of it and their merge; a tag of the merge and a reset to the second child.
 #[tactic(auto, unfolding(crate::specs::Examples::example))]
-fn list(alloc: Global) -> Result<EventList, Fail>
-    ensures { IfOk result (λ list. list ≡ example) }
+fn put_example(alloc: Global, list: &mut EventList) -> Result<(), Fail>
+    requires { list.old ≡ [] }
+    ensures { OnOk result (list.new ≡ example) }
 {
-    let mut list = Items::new(alloc)?;
     list.push(PlainEvent::Blob {
         id: BlobId::new(1),
         mark: mark(1)?,
@@ -89,6 +90,14 @@ fn list(alloc: Global) -> Result<EventList, Fail>
         branch: text(alloc, b"side")?,
         target: Some(CommitId::new(4)),
     })?;
+    Ok(())
+}
+
+fn list(alloc: Global) -> Result<EventList, Fail>
+    ensures { IfOk result (λ list. list ≡ example) }
+{
+    let mut list = Items::new(alloc)?;
+    put_example(alloc, &mut list)?;
     Ok(list)
 }
 
@@ -97,6 +106,22 @@ fn history(alloc: Global) -> Result<Events, Fail>
     ensures next_id { IfOk result (λ events. events.next_id ≡ 8) }
 {
     Ok(Events::from_plain(alloc, list(alloc)?)?)
+}
+
+fn begun(alloc: Global, events: &Events) -> Result<Plan, Fail>
+    ensures after { IfOk result (λ plan. plan.after ≡ events.now.list) }
+    ensures next { IfOk result (λ plan. plan.next ≡ events.now.next_id) }
+{
+    Ok(Plan::new(alloc, events)?)
+}
+
+// A plan that shares the events of the history, which is let go.
+fn plan(alloc: Global) -> Result<Plan, Fail>
+    ensures after { IfOk result (λ plan. plan.after ≡ example) }
+    ensures next { IfOk result (λ plan. plan.next ≡ 8) }
+{
+    let events = history(alloc)?;
+    begun(alloc, &events)
 }
 
 fn find(plan: &Plan, id: AnyId) -> Result<(), Fail>
@@ -269,52 +294,48 @@ fn put_place(out: &mut Text, events: &Events, id: &AnyId) -> Result<(), NoMemory
     }
 }
 
-fn seen(alloc: Global, events: &Events, id: AnyId) -> Result<Text, Fail> {
-    let mut out = Items::new(alloc)?;
-    put_all_found(&mut out, events)?;
-    put_counts(&mut out, events)?;
-    put_place(&mut out, events, &id)?;
-    Ok(out)
-}
-
-#[test]
-fn events_are_found_by_number_mark_and_id(rt: HostRuntime) -> Result<(), Fail> {
-    let events = history(rt.alloc())?;
-    let want: &[u8] = b" - b1 c2 c3 c4 c5 t6 r7 -, b1 c2 c3 c4 c5 -, :6, 7 7 8, 6*";
-    assert_eq!(rt; seen(rt.alloc(), &events, tag_id(6))?.as_slice(), want);
-    Ok(())
-}
-
-#[test]
-fn an_id_of_another_kind_is_another_id(rt: HostRuntime) -> Result<(), Fail> {
-    let events = history(rt.alloc())?;
-    let mut out: Text = Items::new(rt.alloc())?;
-    put_place(&mut out, &events, &commit_id(6))?;
-    let want: &[u8] = b", -";
-    assert_eq!(rt; out.as_slice(), want);
-    Ok(())
-}
-
 // The children of the events 2 to 6, and behind each of these the first of them.
-fn families(alloc: Global) -> Result<Text, Fail> {
-    let events = history(alloc)?;
-    let mut out: Text = Items::new(alloc)?;
+fn put_families(out: &mut Text, events: &Events) -> Result<(), NoMemory> {
     for number in 2..7 {
         for child in events.children(CommitId::new(number)) {
-            put_number(&mut out, b" ", child.number())?;
+            put_number(out, b" ", child.number())?;
         }
         match events.first_child(CommitId::new(number)) {
-            Some(child) => put_number(&mut out, b" <", child.number())?,
+            Some(child) => put_number(out, b" <", child.number())?,
             None => out.push_all(b" -")?,
         }
     }
+    Ok(())
+}
+
+// All that is found; 6 is a tag's number, and no commit's.
+fn put_seen(out: &mut Text, events: &Events) -> Result<(), Fail> {
+    put_all_found(out, events)?;
+    put_counts(out, events)?;
+    put_place(out, events, &tag_id(6))?;
+    put_place(out, events, &commit_id(6))?;
+    out.push(b',')?;
+    put_families(out, events)?;
+    out.push(b';')?;
+    Ok(())
+}
+
+fn seen(alloc: Global, events: &Events) -> Result<Text, Fail> {
+    let mut out = Items::new(alloc)?;
+    put_seen(&mut out, events)?;
     Ok(out)
 }
 
+fn history_seen(alloc: Global) -> Result<Text, Fail> {
+    let events = history(alloc)?;
+    seen(alloc, &events)
+}
+
 #[test]
-fn children_are_those_that_name_a_parent(rt: HostRuntime) -> Result<(), Fail> {
-    let want: &[u8] = b" 3 4 <3 5 <5 5 <5 - -";
-    assert_eq!(rt; families(rt.alloc())?.as_slice(), want);
+fn events_are_found_by_number_mark_id_and_parent(rt: HostRuntime) -> Result<(), Fail> {
+    let want: &[u8] =
+        b" - b1 c2 c3 c4 c5 t6 r7 -, b1 c2 c3 c4 c5 -, :6, 7 7 8, 6*, -, 3 4 <3 5 <5 5 <5 - -;";
+    assert_eq!(rt; history_seen(rt.alloc())?.as_slice(), want);
     Ok(())
 }
 
@@ -344,12 +365,15 @@ fn set_people(alloc: Global, plan: &mut Plan) -> Result<(), Fail> {
     Ok(())
 }
 
+fn fields_set(alloc: Global, plan: &mut Plan) -> Result<Text, Fail> {
+    set_fields(alloc, plan)?;
+    set_people(alloc, plan)?;
+    shown(alloc, plan)
+}
+
 fn with_fields_set(alloc: Global) -> Result<Text, Fail> {
-    let events = history(alloc)?;
-    let mut plan = Plan::new(alloc, &events)?;
-    set_fields(alloc, &mut plan)?;
-    set_people(alloc, &mut plan)?;
-    shown(alloc, &plan)
+    let mut plan = plan(alloc)?;
+    fields_set(alloc, &mut plan)
 }
 
 #[test]
@@ -399,14 +423,19 @@ fn put_plan(out: &mut Text, plan: &Plan) -> Result<(), Fail> {
     Ok(())
 }
 
-fn put_in_and_taken_away(alloc: Global) -> Result<Text, Fail> {
-    let events = history(alloc)?;
-    let mut plan = Plan::new(alloc, &events)?;
-    put_in(alloc, &mut plan)?;
-    take_away(alloc, &mut plan)?;
-    let mut out = shown(alloc, &plan)?;
-    put_plan(&mut out, &plan)?;
+fn events_moved(alloc: Global, plan: &mut Plan) -> Result<Text, Fail>
+    requires { plan.old.next < 2 ^ 62 }
+{
+    put_in(alloc, plan)?;
+    take_away(alloc, plan)?;
+    let mut out = shown(alloc, plan)?;
+    put_plan(&mut out, plan)?;
     Ok(out)
+}
+
+fn put_in_and_taken_away(alloc: Global) -> Result<Text, Fail> {
+    let mut plan = plan(alloc)?;
+    events_moved(alloc, &mut plan)
 }
 
 #[test]
@@ -434,11 +463,16 @@ fn order(alloc: Global) -> Result<IdList, Fail>
     Ok(Items::of(alloc, &ids)?)
 }
 
+fn order_set(alloc: Global, plan: &mut Plan) -> Result<Text, Fail>
+    requires { plan.old.after ≡ example }
+{
+    plan.set_order(order(alloc)?)?;
+    shown(alloc, plan)
+}
+
 fn reordered(alloc: Global) -> Result<Text, Fail> {
-    let events = history(alloc)?;
-    let mut plan = Plan::new(alloc, &events)?;
-    plan.set_order(&order(alloc)?)?;
-    shown(alloc, &plan)
+    let mut plan = plan(alloc)?;
+    order_set(alloc, &mut plan)
 }
 
 #[test]
@@ -449,45 +483,84 @@ fn events_are_put_in_another_order(rt: HostRuntime) -> Result<(), Fail> {
     Ok(())
 }
 
-// The history without its tag.
-fn untagged(alloc: Global) -> Result<Events, Fail>
-    ensures list { IfOk result (λ events. events.list ≡ without (Tag 6) example) }
-    ensures next_id { IfOk result (λ events. events.next_id ≡ 8) }
+fn carry(events: &mut Events, plan: Plan) -> Result<(), Fail>
+    requires before { plan.before ≡ events.old.list }
+    requires made_at { plan.made_at ≡ events.old.next_id }
+    requires sound { IsSound plan.after }
+    ensures list { OnOk result (events.new.list ≡ plan.after) }
+    ensures next_id { OnOk result (events.new.next_id ≡ plan.next) }
 {
-    let mut events = history(alloc)?;
-    let mut plan = Plan::new(alloc, &events)?;
-    find(&plan, AnyId::Tag(TagId::new(6)))?;
-    plan.remove(AnyId::Tag(TagId::new(6)))?;
     events.reserve_for(&plan)?;
     events.carry_out(plan);
-    Ok(events)
-}
-
-// The history with another tag in place of its own, and with one more number given.
-fn retagged(alloc: Global) -> Result<Events, Fail> {
-    let mut events = untagged(alloc)?;
-    let mut plan = Plan::new(alloc, &events)?;
-    let number = plan.unused();
-    plan.unused();
-    miss(&plan, AnyId::Tag(TagId::new(number)))?;
-    plan.append(tag(alloc, number, 5)?)?;
-    events.reserve_for(&plan)?;
-    events.carry_out(plan);
-    Ok(events)
-}
-
-#[test]
-fn a_removed_id_is_gone(rt: HostRuntime) -> Result<(), Fail> {
-    let events = untagged(rt.alloc())?;
-    let want: &[u8] = b" - b1 c2 c3 c4 c5 r7 - -, b1 c2 c3 c4 c5 -, :6, 6 6 8, -";
-    assert_eq!(rt; seen(rt.alloc(), &events, tag_id(6))?.as_slice(), want);
     Ok(())
 }
 
+fn take_tag(plan: &mut Plan) -> Result<(), Fail>
+    ensures { OnOk result
+        (plan.new ≡ record plan.old { after = without (Tag 6) plan.old.after }) }
+{
+    find(plan, tag_id(6))?;
+    plan.remove(tag_id(6))?;
+    Ok(())
+}
+
+// Takes the tag away.
+fn untag(alloc: Global, events: &mut Events) -> Result<(), Fail>
+    requires list { events.old.list ≡ example }
+    ensures list { OnOk result (events.new.list ≡ without (Tag 6) example) }
+    ensures next_id { OnOk result (events.new.next_id ≡ events.old.next_id) }
+{
+    let mut plan = Plan::new(alloc, events)?;
+    take_tag(&mut plan)?;
+    carry(events, plan)
+}
+
+// A tag under the first of two numbers.
+fn put_tag(alloc: Global, plan: &mut Plan) -> Result<(), Fail>
+    requires { plan.old.next ≡ 8 }
+    ensures { OnOk result (plan.new ≡ record plan.old {
+      after = plan.old.after ++ tag 8 5 ∷ [];
+      next = 10;
+    }) }
+{
+    let number = plan.unused();
+    plan.unused();
+    miss(plan, tag_id(number))?;
+    plan.append(tag(alloc, number, 5)?)?;
+    Ok(())
+}
+
+// Puts another tag in place of the one that is gone.
+fn retag(alloc: Global, events: &mut Events) -> Result<(), Fail>
+    requires list { events.old.list ≡ without (Tag 6) example }
+    requires next_id { events.old.next_id ≡ 8 }
+{
+    let mut plan = Plan::new(alloc, events)?;
+    put_tag(alloc, &mut plan)?;
+    carry(events, plan)
+}
+
+fn tags_changed(alloc: Global, events: &mut Events) -> Result<Text, Fail>
+    requires list { events.old.list ≡ example }
+    requires next_id { events.old.next_id ≡ 8 }
+{
+    untag(alloc, events)?;
+    let mut out = seen(alloc, events)?;
+    retag(alloc, events)?;
+    put_seen(&mut out, events)?;
+    Ok(out)
+}
+
+fn retagged(alloc: Global) -> Result<Text, Fail> {
+    let mut events = history(alloc)?;
+    tags_changed(alloc, &mut events)
+}
+
 #[test]
-fn a_removed_id_never_comes_back(rt: HostRuntime) -> Result<(), Fail> {
-    let events = retagged(rt.alloc())?;
-    let want: &[u8] = b" - b1 c2 c3 c4 c5 r7 t8 -, b1 c2 c3 c4 c5 -, :6, 7 7 10, -";
-    assert_eq!(rt; seen(rt.alloc(), &events, tag_id(6))?.as_slice(), want);
+fn a_removed_id_is_gone_and_never_comes_back(rt: HostRuntime) -> Result<(), Fail> {
+    let want: &[u8] =
+        b" - b1 c2 c3 c4 c5 r7 - -, b1 c2 c3 c4 c5 -, :6, 6 6 8, -, -, 3 4 <3 5 <5 5 <5 - -; \
+- b1 c2 c3 c4 c5 r7 t8 -, b1 c2 c3 c4 c5 -, :6, 7 7 10, -, -, 3 4 <3 5 <5 5 <5 - -;";
+    assert_eq!(rt; retagged(rt.alloc())?.as_slice(), want);
     Ok(())
 }
