@@ -1,3 +1,4 @@
 mod Completion
 mod Spelled
 mod FirstDefect
+mod Within

@@ -1,8 +1,15 @@
 //! Laws of streams. Each function's contract is one, and its body is empty.
-ghost use Rattle.std.specs.Prelude.{◌≡◌, ◌↔◌, ℕ, List, Some, is_some, not};
+ghost use Rattle.std.specs.Prelude.{◌≡◌, ◌↔◌, ◌<◌, ℕ, List, Some, Ok, Err, is_some, not};
+ghost use Rattle.plain_model.specs.declared.event.PlainEvent.{PlainEvent};
+ghost use Rattle.plain_model.specs.declared.fault.Fault.TheVariants.{BadStream, Limit, MarksSpent};
+ghost use Rattle.plain_model.specs.declared.fault.Which.{Which};
 ghost use Rattle.plain_model.specs.declared.fault.Why.{Why};
+ghost use Rattle.plain_model.specs.declared.limit.TheConstants.{MAX_MARK};
+ghost use Rattle.line_machine.specs.Limits.{PassesLimit};
 ghost use Rattle.line_machine.specs.Machine.{EndsEarly, IsCleanBefore, NoneIsClean, Stops, all, none, outcome, up_to};
 ghost use Rattle.line_machine.specs.Machine.Outcome.{Lacks, Reads, Refuses};
+ghost use Rattle.stream_grammar.specs.Known.{closed, history_of};
+ghost use Rattle.stream_grammar.specs.Limits.{last_mark, limit_number, passed, stream_of};
 ghost use Rattle.stream_grammar.specs.Lines.{AreSpelledAlike, IsFirstDefect, State, defect_in, history_in, stream};
 
 /// The first defect of a stream is its first refusal: line `n` is the first behind which no text can go on that is clean
@@ -39,4 +46,18 @@ pub fn what_is_no_history_has_a_first_defect()
         (defect_in bytes ≡ Some (n, why)) ↔ IsFirstDefect bytes n why }
     ensures either { (bytes : List ℕ) →
         is_some (history_in bytes) ≡ not (is_some (defect_in bytes)) }
+{}
+
+/// Limits refuse nothing else: what a stream gives within them is its history, and its defect is the first one; a limit is
+/// passed by a line whose fields are right; and the marks are spent only of a text that has a history.
+pub fn limits_refuse_nothing_else()
+    ensures history { (bytes : List ℕ) (history : List PlainEvent) →
+        stream_of bytes ≡ Ok history → history_in bytes ≡ Some history }
+    ensures defect { (bytes : List ℕ) (n : ℕ) (why : Why) →
+        stream_of bytes ≡ Err (BadStream n why) → IsFirstDefect bytes n why }
+    ensures limit { (bytes : List ℕ) (which : Which) (number : ℕ) →
+        stream_of bytes ≡ Err (Limit which number) →
+        (number ≡ limit_number which) × (n : ℕ) × PassesLimit stream passed bytes n which }
+    ensures spent { (bytes : List ℕ) → stream_of bytes ≡ Err MarksSpent → (s : State) ×
+        (outcome stream all bytes ≡ Reads s) × (MAX_MARK < last_mark (closed s.known)) }
 {}

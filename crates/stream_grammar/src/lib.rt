@@ -3,14 +3,16 @@
 
 mod form;
 mod laws;
+mod limits;
 mod lines;
 mod words;
 mod worked;
 
 pub use laws::{
     a_first_defect_is_the_only_one, an_early_end_is_a_lack, first_refusal_is_the_first_defect,
-    what_is_clean_is_spelled, what_is_no_history_has_a_first_defect,
+    limits_refuse_nothing_else, what_is_clean_is_spelled, what_is_no_history_has_a_first_defect,
 };
+pub use limits::limit_number;
 pub use lines::{Due, Follow, Standing, Word};
 pub use words::{is_comment, text_of};
 pub use worked::{

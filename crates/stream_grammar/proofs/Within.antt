@@ -1,0 +1,106 @@
+-- What a stream gives within the limits, against what it gives without.
+use Rattle.std.proofs.Common.{◌≡◌, ℕ, ◌<◌, Bool, true, false, cond, List, Some, Result, Ok, Err, refl, ap, sym, ◌∙◌, inl, inr, nat_lt, arith}
+use Rattle.std.proofs.lemmas.Bool.Decides.{nat_tests}
+use Rattle.plain_model.specs.declared.event.PlainEvent.{PlainEvent}
+use Rattle.plain_model.specs.declared.fault.Fault.{Fault}
+use Rattle.plain_model.specs.declared.fault.Fault.TheVariants.{BadStream, Limit, MarksSpent}
+use Rattle.plain_model.specs.declared.fault.Which.{Which}
+use Rattle.plain_model.specs.declared.fault.Why.{Why}
+use Rattle.plain_model.specs.declared.fault.Why.TheVariants.{Truncated}
+use Rattle.plain_model.specs.declared.limit.TheConstants.{MAX_MARK}
+use Rattle.plain_model.specs.Paths.{Bytes}
+use Rattle.line_machine.specs.Limits.{Cause, PassesLimit}
+use Rattle.line_machine.specs.Limits.Cause.{Defect, Passes}
+use Rattle.line_machine.specs.Machine.{Outcome, outcome, all}
+use Rattle.line_machine.specs.Machine.Outcome.{Reads, Refuses, Lacks}
+use Rattle.line_machine.proofs.LimitLaws.{limited_reads, limited_lacks, limited_defect, limited_passes}
+use Rattle.stream_grammar.specs.Known.{Known, closed, history_of}
+use Rattle.stream_grammar.specs.Limits.{passed, stream_within, last_mark, unless_spent, known_given, if_known, stream_of, limit_number}
+use Rattle.stream_grammar.specs.Lines.{State, stream, history_read, history_in, IsFirstDefect}
+use Rattle.stream_grammar.proofs.FirstDefect.{stops, ends_early}
+
+abbrev Answered : Type 0
+Answered = Outcome State (Cause Why Which)
+
+abbrev Given : Type 0
+Given = Result (List PlainEvent) Fault
+
+-- ---- what was read
+
+not_spent : (k : Known) (h : List PlainEvent) → unless_spent k ≡ Ok h → history_of k ≡ h
+not_spent k h e = go (nat_lt MAX_MARK (last_mark (closed k))) e
+  where
+    go : (b : Bool) → ◌≡◌ {A = Given} (cond b (Err MarksSpent) (Ok (history_of k))) (Ok h) → history_of k ≡ h
+    go true e = absurd cc
+    go false e = cc
+
+pub history : (bytes : Bytes) (h : List PlainEvent) → stream_of bytes ≡ Ok h → history_in bytes ≡ Some h
+history bytes h e = go (outcome stream_within all bytes) refl e
+  where
+    go : (o : Answered) → outcome stream_within all bytes ≡ o → if_known (known_given o) ≡ Ok h → history_in bytes ≡ Some h
+    go (Reads s) is e = ap history_read (limited_reads stream passed all bytes s is) ∙ ap (λ l. Some l) (not_spent s.known h e)
+    go (Refuses n cause) is e = absurd cc
+    go (Lacks n) is e = absurd cc
+
+-- ---- why there is none
+
+no_defect : (k : Known) (n : ℕ) (why : Why) → unless_spent k ≡ Err (BadStream n why) → ⊥
+no_defect k n why e = go (nat_lt MAX_MARK (last_mark (closed k))) e
+  where
+    go : (b : Bool) → ◌≡◌ {A = Given} (cond b (Err MarksSpent) (Ok (history_of k))) (Err (BadStream n why)) → ⊥
+    go true e = absurd cc
+    go false e = absurd cc
+
+no_limit : (k : Known) (which : Which) (number : ℕ) → unless_spent k ≡ Err (Limit which number) → ⊥
+no_limit k which number e = go (nat_lt MAX_MARK (last_mark (closed k))) e
+  where
+    go : (b : Bool) → ◌≡◌ {A = Given} (cond b (Err MarksSpent) (Ok (history_of k))) (Err (Limit which number)) → ⊥
+    go true e = absurd cc
+    go false e = absurd cc
+
+spent_marks : (k : Known) → unless_spent k ≡ Err MarksSpent → MAX_MARK < last_mark (closed k)
+spent_marks k e = go (nat_lt MAX_MARK (last_mark (closed k))) refl e
+  where
+    go : (b : Bool) → nat_lt MAX_MARK (last_mark (closed k)) ≡ b → ◌≡◌ {A = Given} (cond b (Err MarksSpent) (Ok (history_of k))) (Err MarksSpent)
+        → MAX_MARK < last_mark (closed k)
+    go true is e = grind (arith, nat_tests)
+    go false is e = absurd cc
+
+pub defect : (bytes : Bytes) (n : ℕ) (why : Why) → stream_of bytes ≡ Err (BadStream n why) → IsFirstDefect bytes n why
+defect bytes n why e = go (outcome stream_within all bytes) refl e
+  where
+    go : (o : Answered) → outcome stream_within all bytes ≡ o → if_known (known_given o) ≡ Err (BadStream n why) → IsFirstDefect bytes n why
+    go (Reads s) is e = absurd (no_defect s.known n why e)
+    go (Refuses m (Defect w)) is e =
+        let line : m ≡ n = cc in
+        let kind : w ≡ why = cc in
+        inl ((stops bytes n why).1 (limited_defect stream passed all bytes n why (is ∙ (λ i. Refuses (line i) (Defect (kind i))))))
+    go (Refuses m (Passes which)) is e = absurd cc
+    go (Lacks m) is e =
+        let line : m ≡ n = cc in
+        let kind : Truncated ≡ why = cc in
+        inr (sym kind, (ends_early bytes n).1 (limited_lacks stream passed all bytes n (is ∙ ap (λ l. Lacks l) line)))
+
+pub limit : (bytes : Bytes) (which : Which) (number : ℕ) → stream_of bytes ≡ Err (Limit which number)
+    → (number ≡ limit_number which) × (n : ℕ) × PassesLimit stream passed bytes n which
+limit bytes which number e = go (outcome stream_within all bytes) refl e
+  where
+    go : (o : Answered) → outcome stream_within all bytes ≡ o → if_known (known_given o) ≡ Err (Limit which number)
+        → (number ≡ limit_number which) × (n : ℕ) × PassesLimit stream passed bytes n which
+    go (Reads s) is e = absurd (no_limit s.known which number e)
+    go (Refuses m (Defect w)) is e = absurd cc
+    go (Refuses m (Passes w)) is e =
+        let same : w ≡ which = cc in
+        let told : limit_number w ≡ number = cc in
+        (sym told ∙ ap limit_number same, m, limited_passes stream passed bytes m which (is ∙ ap (λ l. Refuses m (Passes l)) same))
+    go (Lacks m) is e = absurd cc
+
+pub spent : (bytes : Bytes) → stream_of bytes ≡ Err MarksSpent → (s : State) × (outcome stream all bytes ≡ Reads s) × (MAX_MARK < last_mark (closed s.known))
+spent bytes e = go (outcome stream_within all bytes) refl e
+  where
+    go : (o : Answered) → outcome stream_within all bytes ≡ o → if_known (known_given o) ≡ Err MarksSpent
+        → (s : State) × (outcome stream all bytes ≡ Reads s) × (MAX_MARK < last_mark (closed s.known))
+    go (Reads s) is e = (s, limited_reads stream passed all bytes s is, spent_marks s.known e)
+    go (Refuses m (Defect w)) is e = absurd cc
+    go (Refuses m (Passes w)) is e = absurd cc
+    go (Lacks m) is e = absurd cc
