@@ -17,14 +17,21 @@ use Rattle.line_machine.proofs.CursorLaws as cursors
 use Rattle.stream_fields.specs.declared.fault.FieldFault.{FieldFault}
 use Rattle.stream_fields.specs.declared.fault.FieldFault.TheVariants as field
 use Rattle.stream_fields.specs.Answers.{Gives}
+use Rattle.stream_lines.specs.declared.fault.LineFault.{LineFault}
+use Rattle.stream_lines.specs.declared.fault.LineFault.TheVariants as fault_of_line
 use Rattle.stream_fields.specs.Cursors.{Position, rest}
 use Rattle.stream_grammar.specs.declared.lines.Standing.{Standing}
 use Rattle.stream_grammar.specs.declared.lines.Word.{Word}
 use Rattle.stream_grammar.specs.declared.lines.Word.TheVariants as word
-use Rattle.stream_grammar.specs.Known.{Known, with_data, history_of}
-use Rattle.stream_grammar.specs.Lines.{State, stream, is_comment, word_of, behind_word, must_go_on, judged, line_step, next_by, next_of, is_inline_due, nothing_known, defect_of, history_read}
-use Rattle.stream_lines.specs.Reading.{answer, in_line, IsFirst, GoesOn, Tells}
-use Rattle.stream_lines.proofs.Steps.{state, comment_step, form_refused, block_refused, field_refused, made, next_is_line}
+use Rattle.line_machine.specs.Limits.{Cause}
+use Rattle.line_machine.specs.Limits.Cause.{Defect, Passes}
+use Rattle.plain_model.specs.declared.fault.Fault.TheVariants as fault
+use Rattle.plain_model.specs.declared.fault.Which.{Which}
+use Rattle.stream_grammar.specs.Known.{Known, with_data}
+use Rattle.stream_grammar.specs.Limits.{stream_within, judged_within, known_given, fault_of}
+use Rattle.stream_grammar.specs.Lines.{State, is_comment, word_of, behind_word, must_go_on, next_by, next_of, is_inline_due, nothing_known}
+use Rattle.stream_lines.specs.Reading.{Answers, IsRefused, Judges, answer, in_line, line_fault, IsFirst, GoesOn, Tells}
+use Rattle.stream_lines.proofs.Steps.{state, step_within, comment_step, form_refused, block_refused, made, next_is_line}
 use Rattle.stream_lines.proofs.Extents.{extent_follows, extent_or_not, err_again}
 
 -- a rest of a text has no more lines
@@ -48,38 +55,38 @@ module _ (old : Position) (line : Bytes) (new : Position) (first : IsFirst old l
   fewer_lines = let one = line_is_one (rest old) line (rest new) (line_is (rest old) line (rest new) first.there) in omega (arith, one)
 
   pub goes_on : (t : Standing) (l : Known)
-      → ((spelled : List Bytes) → (longer : List Bytes) × (line_step true (state s spelled k) line ≡ Ok (state t longer l, More)))
+      → ((spelled : List Bytes) → (longer : List Bytes) × (step_within s k line spelled ≡ Ok (state t longer l, More)))
       → GoesOn old s k new t l
   unfolding answer
   goes_on t l step = record {
     same = λ spelled.
         let made = step spelled in (
           made.0,
-          reading.goes_on stream all old.text (rest old) line (rest new) (state s spelled k) (rest_within old) first.there (state t made.0 l) made.1
-              ∙ ap (λ (text : Bytes). outcome_at stream all text (rest new) (state t made.0 l)) (sym first.text),
+          reading.goes_on stream_within all old.text (rest old) line (rest new) (state s spelled k) (rest_within old) first.there (state t made.0 l) made.1
+              ∙ ap (λ (text : Bytes). outcome_at stream_within all text (rest new) (state t made.0 l)) (sym first.text),
         );
     text = first.text;
     fewer = fewer_lines;
   }
 
-  pub is_refused : (why : Why) → ((spelled : List Bytes) → line_step true (state s spelled k) line ≡ Err why)
-      → (spelled : List Bytes) → defect_of (answer old s k spelled) ≡ Some (new.number, why)
+  pub is_refused : (cause : Cause Why Which) → ((spelled : List Bytes) → step_within s k line spelled ≡ Err cause)
+      → IsRefused (answer old s k) (fault_of new.number cause)
   unfolding answer
-  is_refused why step spelled =
-      ap defect_of (reading.is_refused stream all old.text (rest old) line (rest new) (state s spelled k) (rest_within old) first.there why (step spelled))
-      ∙ ap (λ n. Some (n, why)) number_is
+  is_refused cause step spelled =
+      ap known_given (reading.is_refused stream_within all old.text (rest old) line (rest new) (state s spelled k) (rest_within old) first.there cause (step spelled))
+      ∙ ap (λ n. Err (fault_of n cause)) number_is
 
   pub is_over : (t : Standing)
-      → ((spelled : List Bytes) → (longer : List Bytes) × (line_step true (state s spelled k) line ≡ Ok (state t longer k, Over)))
-      → (spelled : List Bytes) → history_read (answer old s k spelled) ≡ Some (history_of k)
+      → ((spelled : List Bytes) → (longer : List Bytes) × (step_within s k line spelled ≡ Ok (state t longer k, Over)))
+      → (spelled : List Bytes) → known_given (answer old s k spelled) ≡ Ok k
   unfolding answer
   is_over t step spelled =
       let made = step spelled in
-      ap history_read (reading.is_over stream all old.text (rest old) line (rest new) (state s spelled k) (rest_within old) first.there (state t made.0 k) made.1)
+      ap known_given (reading.is_over stream_within all old.text (rest old) line (rest new) (state s spelled k) (rest_within old) first.there (state t made.0 k) made.1)
 
   -- a line that a block follows
   module _ (t : Standing) (extent : Extent) (spells : extent_in line ≡ Ok extent)
-      (step : (spelled : List Bytes) → (longer : List Bytes) × (line_step true (state s spelled k) line ≡ Ok (state t longer k, next_by extent))) where
+      (step : (spelled : List Bytes) → (longer : List Bytes) × (step_within s k line spelled ≡ Ok (state t longer k, next_by extent))) where
     pub goes_on_behind : (bytes : Bytes) (newer : Position) → newer.text ≡ new.text → block_in line (rest new) ≡ Ok (bytes, rest newer)
         → GoesOn old s k newer t (with_data (is_inline_due t.due) bytes k)
     unfolding answer
@@ -87,9 +94,9 @@ module _ (old : Position) (line : Bytes) (new : Position) (first : IsFirst old l
       same = λ spelled.
           let made = step spelled in (
             bytes ∷ made.0,
-            reading.goes_on_behind_data stream all old.text (rest old) line (rest new) (state s spelled k) (rest_within old) first.there (state t made.0 k) (next_by extent) extent made.1
+            reading.goes_on_behind_data stream_within all old.text (rest old) line (rest new) (state s spelled k) (rest_within old) first.there (state t made.0 k) (next_by extent) extent made.1
                 (extent_follows line extent spells) spells bytes (rest newer) h
-                ∙ ap (λ (text : Bytes). outcome_at stream all text (rest newer) (state t (bytes ∷ made.0) (with_data (is_inline_due t.due) bytes k))) (sym (text ∙ first.text)),
+                ∙ ap (λ (text : Bytes). outcome_at stream_within all text (rest newer) (state t (bytes ∷ made.0) (with_data (is_inline_due t.due) bytes k))) (sym (text ∙ first.text)),
           );
       text = text ∙ first.text;
       fewer =
@@ -99,40 +106,43 @@ module _ (old : Position) (line : Bytes) (new : Position) (first : IsFirst old l
           omega (arith, newer_less, fewer_lines);
     }
 
-    pub is_truncated : (why : Why) → block_in line (rest new) ≡ Err why → (spelled : List Bytes) → defect_of (answer old s k spelled) ≡ Some (new.number, why)
+    pub is_truncated : (why : Why) → block_in line (rest new) ≡ Err why → IsRefused (answer old s k) (fault.BadStream new.number why)
     unfolding answer
     is_truncated why h spelled =
         let made = step spelled in
-        let end = reading.is_truncated stream all old.text (rest old) line (rest new) (state s spelled k) (rest_within old) first.there (state t made.0 k) (next_by extent) extent made.1
+        let end = reading.is_truncated stream_within all old.text (rest old) line (rest new) (state s spelled k) (rest_within old) first.there (state t made.0 k) (next_by extent) extent made.1
         (extent_follows line extent spells) spells why h in
-        ap defect_of end.1 ∙ ap (λ n. Some (n, Truncated)) number_is ∙ ap (λ w. Some (new.number, w)) (sym end.0)
+        ap known_given end.1 ∙ ap (λ n. Err (fault.BadStream n Truncated)) number_is ∙ ap (λ w. Err (fault.BadStream new.number w)) (sym end.0)
 
 -- ---- what a line that is no comment does, where it may stand or not
 
--- a defect at a number that is the line's
-abbrev DefectAt : (List Bytes → Outcome State Why) → ℕ → Why → Type 0
-DefectAt o n why = (spelled : List Bytes) → defect_of (o spelled) ≡ Some (n, why)
+-- the fault of a block tells of the defect of its line
+pub tells_block : (o : Answers) (n : ℕ) {X Y : Type 0} (view : X → Y) (f : FieldFault) (r : Result Y Why)
+    → Gives view (Err f) r → ((why : Why) → r ≡ Err why → IsRefused o (fault.BadStream n why)) → Tells o (in_line n (line_fault f))
+tells_block o n view (field.Bad why) r gives defect = defect why gives
+tells_block o n view field.Memory r gives defect = tt
 
--- the fault of a field tells of the defect of the line
-pub tells_of : (o : List Bytes → Outcome State Why) (n : ℕ) {X Y : Type 0} (view : X → Y) (f : FieldFault) (r : Result Y Why)
-    → Gives view (Err f) r → ((why : Why) → r ≡ Err why → DefectAt o n why) → Tells o (in_line n f)
-tells_of o n view (field.Bad why) r gives defect = defect why gives
-tells_of o n view field.Memory r gives defect = tt
+-- the fault of a line that is judged tells of what its line does
+pub tells_line : (o : Answers) (n : ℕ) (new : Known) (f : LineFault) (r : Result Known (Cause Why Which))
+    → Judges new (Err f) r → ((cause : Cause Why Which) → r ≡ Err cause → IsRefused o (fault_of n cause)) → Tells o (in_line n f)
+tells_line o n new (fault_of_line.Bad why) r judges refused = refused (Defect why) judges
+tells_line o n new (fault_of_line.Limit which) r judges refused = refused (Passes which) judges
+tells_line o n new fault_of_line.Memory r judges refused = tt
 
 module _ (old : Position) (line : Bytes) (new : Position) (first : IsFirst old line new) (s : Standing) (k : Known)
     (w : Word) (plain : is_comment line ≡ false) (is : w ≡ word_of line) where
-  pub refused_by_form : (why : Why) → behind_word s w ≡ Err why → DefectAt (answer old s k) new.number why
-  refused_by_form why e = is_refused old line new first s k why (λ spelled. form_refused s k line spelled w plain is why e)
+  pub refused_by_form : (why : Why) → behind_word s w ≡ Err why → IsRefused (answer old s k) (fault.BadStream new.number why)
+  refused_by_form why e = is_refused old line new first s k (Defect why) (λ spelled. form_refused s k line spelled w plain is why e)
 
   module _ (t : Standing) (stands : behind_word s w ≡ Ok t) where
     -- a line of data
     module _ (is_data : w ≡ word.Data) where
       data_step : (extent : Extent) → extent_in line ≡ Ok extent → (spelled : List Bytes)
-          → (longer : List Bytes) × (line_step true (state s spelled k) line ≡ Ok (state t longer k, next_by extent))
+          → (longer : List Bytes) × (step_within s k line spelled ≡ Ok (state t longer k, next_by extent))
       data_step extent spells spelled = (
         line ∷ spelled,
         made s k line spelled w plain is t stands (next_by extent)
-            (ap (λ v. next_of v line) is_data ∙ ap (λ r. r >>= λ x. Ok (next_by x)) spells) k (ap (λ v. judged v line k) is_data),
+            (ap (λ v. next_of v line) is_data ∙ ap (λ r. r >>= λ x. Ok (next_by x)) spells) (Ok k) (ap (λ v. judged_within v line k) is_data),
       )
 
       pub landed : (bytes : Bytes) (newer : Position) → newer.text ≡ new.text → block_in line (rest new) ≡ Ok (bytes, rest newer)
@@ -142,27 +152,27 @@ module _ (old : Position) (line : Bytes) (new : Position) (first : IsFirst old l
         | inr extent ↦ goes_on_behind old line new first s k t extent.0 extent.1 (data_step extent.0 extent.1) bytes newer text h
       ]
 
-      pub not_landed : (why : Why) → block_in line (rest new) ≡ Err why → DefectAt (answer old s k) new.number why
+      pub not_landed : (why : Why) → block_in line (rest new) ≡ Err why → IsRefused (answer old s k) (fault.BadStream new.number why)
       not_landed why h = elim (extent_or_not line (rest new)) [
-        | inl none ↦ is_refused old line new first s k why (λ spelled. block_refused s k line spelled w plain is t stands why
+        | inl none ↦ is_refused old line new first s k (Defect why) (λ spelled. block_refused s k line spelled w plain is t stands why
             (ap (λ v. next_of v line) is_data ∙ ap (λ r. r >>= λ x. Ok (next_by x)) (none.1 ∙ err_again none.0 why (sym none.2 ∙ h))))
         | inr extent ↦ is_truncated old line new first s k t extent.0 extent.1 (data_step extent.0 extent.1) why h
       ]
 
     -- the last line that is looked at
-    pub over : w ≡ word.Done → (spelled : List Bytes) → history_read (answer old s k spelled) ≡ Some (history_of k)
+    pub over : w ≡ word.Done → (spelled : List Bytes) → known_given (answer old s k spelled) ≡ Ok k
     over done = is_over old line new first s k t (λ spelled.
-        (line ∷ spelled, made s k line spelled w plain is t stands Over (ap (λ v. next_of v line) done) k (ap (λ v. judged v line k) done)))
+        (line ∷ spelled, made s k line spelled w plain is t stands Over (ap (λ v. next_of v line) done) (Ok k) (ap (λ v. judged_within v line k) done)))
 
     -- any other line
     module _ (no_data : w ≡ word.Data → ⊥) (not_done : w ≡ word.Done → ⊥) where
-      pub judged_on : (l : Known) → judged w line k ≡ Ok l → GoesOn old s k new t l
+      pub judged_on : (l : Known) → judged_within w line k ≡ Ok l → GoesOn old s k new t l
       judged_on l e = goes_on old line new first s k t l (λ spelled.
-          (line ∷ spelled, made s k line spelled w plain is t stands More (next_is_line w line no_data not_done) l e))
+          (line ∷ spelled, made s k line spelled w plain is t stands More (next_is_line w line no_data not_done) (Ok l) e))
 
-      pub not_judged : (why : Why) → judged w line k ≡ Err why → DefectAt (answer old s k) new.number why
-      not_judged why e = is_refused old line new first s k why (λ spelled.
-          field_refused s k line spelled w plain is t stands More (next_is_line w line no_data not_done) why e)
+      pub not_judged : (cause : Cause Why Which) → judged_within w line k ≡ Err cause → IsRefused (answer old s k) (fault_of new.number cause)
+      not_judged cause e = is_refused old line new first s k cause (λ spelled.
+          made s k line spelled w plain is t stands More (next_is_line w line no_data not_done) (Err cause) e)
 
 -- a comment
 pub commented : (old : Position) (line : Bytes) (new : Position) → IsFirst old line new → (s : Standing) (k : Known) → is_comment line ≡ true → GoesOn old s k new s k
@@ -189,20 +199,20 @@ at_end [] e = refl
 at_end (b ∷ bs) e = let some = has_lines b bs in absurd (omega (arith, some, e))
 
 module _ (p : Position) (s : Standing) (k : Known) (spelled : List Bytes) (over : line_at (rest p) ≡ None) where
-  end_answers : answer p s k spelled ≡ cond {A = Outcome State Why} (must_go_on s) (Lacks (1 + line_count p.text)) (Reads (state s spelled k))
+  end_answers : answer p s k spelled ≡ cond {A = Outcome State (Cause Why Which)} (must_go_on s) (Lacks (1 + line_count p.text)) (Reads (state s spelled k))
   unfolding answer
-  end_answers = reading.ends stream all p.text (rest p) (state s spelled k) over
+  end_answers = reading.ends stream_within all p.text (rest p) (state s spelled k) over
 
-  pub lacks_line : must_go_on s ≡ true → defect_of (answer p s k spelled) ≡ Some (1 + line_count p.text, Truncated)
-  lacks_line e = ap defect_of (end_answers ∙ ap (λ t. cond {A = Outcome State Why} t (Lacks (1 + line_count p.text)) (Reads (state s spelled k))) e)
+  pub lacks_line : must_go_on s ≡ true → known_given (answer p s k spelled) ≡ Err (fault.BadStream (1 + line_count p.text) Truncated)
+  lacks_line e = ap known_given (end_answers ∙ ap (λ t. cond {A = Outcome State (Cause Why Which)} t (Lacks (1 + line_count p.text)) (Reads (state s spelled k))) e)
 
-  pub is_whole : must_go_on s ≡ false → history_read (answer p s k spelled) ≡ Some (history_of k)
-  is_whole e = ap history_read (end_answers ∙ ap (λ t. cond {A = Outcome State Why} t (Lacks (1 + line_count p.text)) (Reads (state s spelled k))) e)
+  pub is_whole : must_go_on s ≡ false → known_given (answer p s k spelled) ≡ Ok k
+  is_whole e = ap known_given (end_answers ∙ ap (λ t. cond {A = Outcome State (Cause Why Which)} t (Lacks (1 + line_count p.text)) (Reads (state s spelled k))) e)
 
 -- the beginning
-pub from_start : (text : Bytes) (s : Standing) (k : Known) → s ≡ stream.start.standing → k ≡ nothing_known
-    → outcome stream all text ≡ answer (record { text = text; at = 0; number = 0 }) s k []
+pub from_start : (text : Bytes) (s : Standing) (k : Known) → s ≡ stream_within.start.standing → k ≡ nothing_known
+    → outcome stream_within all text ≡ answer (record { text = text; at = 0; number = 0 }) s k []
 unfolding answer
 from_start text s k e f =
-    reading.begins stream all text
-    ∙ ap (λ (x : State). outcome_at stream all text text x) (λ i. state (sym e i) [] (sym f i))
+    reading.begins stream_within all text
+    ∙ ap (λ (x : State). outcome_at stream_within all text text x) (λ i. state (sym e i) [] (sym f i))

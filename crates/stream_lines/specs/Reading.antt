@@ -1,5 +1,8 @@
 -- What the reader of a stream answers, against the grammar.
 use Rattle.std.specs.Prelude.{◌≡◌, ℕ, ◌<◌, List, Result, Ok, Err, Some, None}
+use Rattle.plain_model.specs.declared.fault.Fault.{Fault}
+use Rattle.plain_model.specs.declared.fault.Fault.TheVariants as plain
+use Rattle.plain_model.specs.declared.fault.Which.{Which}
 use Rattle.plain_model.specs.declared.fault.Why.{Why}
 use Rattle.plain_model.specs.Parts.{line_at}
 use Rattle.plain_model.specs.Paths.{Bytes}
@@ -9,22 +12,40 @@ use Rattle.stream_fields.specs.declared.fault.FieldFault.{FieldFault}
 use Rattle.stream_fields.specs.declared.fault.FieldFault.TheVariants as field
 use Rattle.stream_fields.specs.Cursors.{Position, rest, number_at}
 use Rattle.stream_grammar.specs.declared.lines.Standing.{Standing}
-use Rattle.stream_grammar.specs.Known.{Known, history_of}
-use Rattle.stream_grammar.specs.Lines.{State, stream, history_read, defect_of, defect_in}
+use Rattle.line_machine.specs.Limits.{Cause}
+use Rattle.line_machine.specs.Limits.Cause.{Defect, Passes}
+use Rattle.stream_grammar.specs.Known.{Known}
+use Rattle.stream_grammar.specs.Limits.{stream_within, limit_number, known_given, known_in}
+use Rattle.stream_grammar.specs.Lines.{State}
+use Rattle.stream_lines.specs.declared.fault.LineFault.{LineFault}
+use Rattle.stream_lines.specs.declared.fault.LineFault.TheVariants as line
 use Rattle.stream_lines.specs.declared.fault.ReadFault.{ReadFault}
 use Rattle.stream_lines.specs.declared.fault.ReadFault.TheVariants as fault
 use Rattle.stream_lines.specs.declared.reading.Reached.{Reached}
 use Rattle.stream_lines.specs.declared.reading.Reached.TheVariants as reached
 
--- the fault of a field in the line of this number
-abbrev pub in_line : ℕ → FieldFault → ReadFault
-in_line n (field.Bad why) = fault.Defect n why
-in_line n field.Memory = fault.Memory
+-- the fault of a field as that of its line
+abbrev pub line_fault : FieldFault → LineFault
+line_fault (field.Bad why) = line.Bad why
+line_fault field.Memory = line.Memory
+
+-- the fault of a line by its number
+abbrev pub in_line : ℕ → LineFault → ReadFault
+in_line n (line.Bad why) = fault.BadStream n why
+in_line n (line.Limit which) = fault.Limit which (limit_number which)
+in_line n line.Memory = fault.Memory
+
+-- what is known is what is due, or the fault is the one that is due; want of memory may be told in place of either
+abbrev pub Judges : Known → Result (Unit {0}) LineFault → Result Known (Cause Why Which) → Type 0
+Judges new (Ok tt) due = due ≡ Ok new
+Judges new (Err (line.Bad why)) due = due ≡ Err (Defect why)
+Judges new (Err (line.Limit which)) due = due ≡ Err (Passes which)
+Judges new (Err line.Memory) due = Unit {0}
 
 -- what a stream answers from a place on, from which it is read with this standing and this knowledge, behind these lines
-unfoldable pub answer : Position → Standing → Known → List Bytes → Outcome State Why
+unfoldable pub answer : Position → Standing → Known → List Bytes → Outcome State (Cause Why Which)
 answer p standing known spelled =
-    outcome_at stream all p.text (rest p) (record { standing = standing; spelled = spelled; known = known })
+    outcome_at stream_within all p.text (rest p) (record { standing = standing; spelled = spelled; known = known })
 
 -- the place where the first line ends that stands at another place
 pub record IsFirst (old : Position) (line : Bytes) (new : Position) : Type 0 where
@@ -38,19 +59,31 @@ pub record GoesOn (old : Position) (s : Standing) (k : Known) (new : Position) (
   pub text : new.text ≡ old.text
   pub fewer : line_count (rest new) < line_count (rest old)
 
--- the defect that a fault tells of is the one that a stream answers, whatever the lines before were
-abbrev pub Tells : (List Bytes → Outcome State Why) → ReadFault → Type 0
-Tells o (fault.Defect n why) = (spelled : List Bytes) → defect_of (o spelled) ≡ Some (n, why)
+-- what a stream gives, whatever the lines before were
+abbrev pub Answers : Type 0
+Answers = List Bytes → Outcome State (Cause Why Which)
+
+-- it gives no history, for this fault
+abbrev pub IsRefused : Answers → Fault → Type 0
+IsRefused o f = (spelled : List Bytes) → known_given (o spelled) ≡ Err f
+
+-- the fault is the one that a stream gives
+abbrev pub Tells : Answers → ReadFault → Type 0
+Tells o (fault.BadStream n why) = IsRefused o (plain.BadStream n why)
+Tells o (fault.Limit which number) = IsRefused o (plain.Limit which number)
+Tells o fault.MarksSpent = ⊥
 Tells o fault.Memory = Unit {0}
 
 -- one line was read
 abbrev pub Turns : Position → Standing → Known → Position → Known → Result Reached ReadFault → Type 0
 Turns old s k new l (Ok (reached.Line t)) = GoesOn old s k new t l
-Turns old s k new l (Ok reached.Over) = (spelled : List Bytes) → history_read (answer old s k spelled) ≡ Some (history_of l)
+Turns old s k new l (Ok reached.Over) = (spelled : List Bytes) → known_given (answer old s k spelled) ≡ Ok l
 Turns old s k new l (Ok reached.End) = (line_at (rest old) ≡ None) × (l ≡ k) × (new ≡ old)
 Turns old s k new l (Err f) = Tells (answer old s k) f
 
--- the defect that a fault tells of is the first one of the text
-abbrev pub IsDefectIn : Bytes → ReadFault → Type 0
-IsDefectIn text (fault.Defect n why) = defect_in text ≡ Some (n, why)
-IsDefectIn text fault.Memory = Unit {0}
+-- the fault is the one that the text gives; what its lines give isn't refused for spent marks
+abbrev pub IsFaultIn : Bytes → ReadFault → Type 0
+IsFaultIn text (fault.BadStream n why) = known_in text ≡ Err (plain.BadStream n why)
+IsFaultIn text (fault.Limit which number) = known_in text ≡ Err (plain.Limit which number)
+IsFaultIn text fault.MarksSpent = ⊥
+IsFaultIn text fault.Memory = Unit {0}

@@ -1,21 +1,68 @@
 //! Why a stream is not read.
 ghost use Rattle.std.specs.Prelude.{◌≡◌};
-ghost use Rattle.stream_lines.specs.declared.fault.ReadFault.TheVariants.{Memory};
+ghost use Rattle.stream_fields.specs.declared.fault.FieldFault.TheVariants as field;
+ghost use Rattle.stream_lines.specs.Reading.{line_fault};
+ghost use Rattle.stream_lines.specs.declared.fault.LineFault.TheVariants as line;
+ghost use Rattle.stream_lines.specs.declared.fault.ReadFault.TheVariants as read;
 
-use plain_model::{NoMemory, Why};
+use plain_model::{NoMemory, Which, Why};
+use stream_fields::FieldFault;
 use thiserror::Error;
 
-/// Why a stream is not read: its first defect, with the number of its line, from 1; or want of memory.
+/// Why a line is not taken: its defect, or the limit that it passes; or want of memory.
+#[derive(Clone, Copy, Debug, PartialEq, Eq, Error)]
+pub enum LineFault {
+    #[error("the line has the defect {0:?}")]
+    Bad(Why),
+    #[error("the line passes the limit {0:?}")]
+    Limit(Which),
+    #[error("out of memory")]
+    Memory,
+}
+
+impl From<Why> for LineFault {
+    ghost from_gives = { λ why fault. fault ≡ line.Bad why };
+
+    fn from(why: Why) -> LineFault {
+        LineFault::Bad(why)
+    }
+}
+
+impl From<NoMemory> for LineFault {
+    ghost from_gives = { λ _ fault. fault ≡ line.Memory };
+
+    fn from(_error: NoMemory) -> LineFault {
+        LineFault::Memory
+    }
+}
+
+impl From<FieldFault> for LineFault {
+    ghost from_gives = { λ error fault. fault ≡ line_fault error };
+
+    fn from(error: FieldFault) -> LineFault {
+        match error {
+            FieldFault::Bad(why) => LineFault::Bad(why),
+            FieldFault::Memory => LineFault::Memory,
+        }
+    }
+}
+
+/// Why a stream is not read: its first line that has a defect, numbered from 1, or that passes a limit; or that no marks
+/// are left for the blobs and commits without one; or want of memory.
 #[derive(Clone, Copy, Debug, PartialEq, Eq, Error)]
 pub enum ReadFault {
     #[error("line {line} of the stream has the defect {why:?}")]
-    Defect { line: u64, why: Why },
+    BadStream { line: u64, why: Why },
+    #[error("the stream passes the limit {which:?} of {number}")]
+    Limit { which: Which, number: u64 },
+    #[error("no marks are left")]
+    MarksSpent,
     #[error("out of memory")]
     Memory,
 }
 
 impl From<NoMemory> for ReadFault {
-    ghost from_gives = { λ _ fault. fault ≡ Memory };
+    ghost from_gives = { λ _ fault. fault ≡ read.Memory };
 
     fn from(_error: NoMemory) -> ReadFault {
         ReadFault::Memory

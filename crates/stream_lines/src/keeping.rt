@@ -1,21 +1,21 @@
 //! Who keeps the events of a stream.
 ghost use Rattle.std.specs.Prelude.{◌≡◌, OnOk};
-ghost use Rattle.stream_fields.specs.Answers.{Gives};
 ghost use Rattle.stream_grammar.specs.Known.{Known, with_data};
-ghost use Rattle.stream_grammar.specs.Lines.{judged};
+ghost use Rattle.stream_grammar.specs.Limits.{judged_within};
+ghost use Rattle.stream_lines.specs.Reading.{Judges};
 
+use crate::fault::LineFault;
 use plain_model::{NoMemory, Text};
 use std::alloc::Global;
-use stream_fields::FieldFault;
 use stream_grammar::Word;
 
 /// Keeps what is known of a stream's events while its lines are read.
 pub trait KeepsEvents {
     ghost known: { Self → Known };
 
-    /// Takes a line that may stand where it does. Its fields are judged from left to right.
-    fn judge(&mut self, alloc: Global, word: Word, line: &[u8]) -> Result<(), FieldFault>
-        ensures { Gives (λ _. known self.new) result (judged word line.now (known self.old)) };
+    /// Takes a line that may stand where it does. Its fields are judged from left to right, and then the limits.
+    fn judge(&mut self, alloc: Global, word: Word, line: &[u8]) -> Result<(), LineFault>
+        ensures { Judges (known self.new) result (judged_within word line.now (known self.old)) };
 
     /// Takes the block behind a line of data, which is an operation's content where `inline` says so.
     fn land(&mut self, inline: bool, bytes: Text) -> Result<(), NoMemory>

@@ -5,7 +5,7 @@ mod fault;
 mod keeping;
 mod reading;
 
-pub use fault::ReadFault;
+pub use fault::{LineFault, ReadFault};
 pub use keeping::KeepsEvents;
 pub use reading::read_lines;
 

@@ -1,18 +1,18 @@
 //! A whole stream is read line by line.
-ghost use Rattle.std.specs.Prelude.{◌≡◌, ◌-◌, ◌<◌, ◌^◌, OnOk, IfErr, Some, count_by, false, get_or, length, not};
+ghost use Rattle.std.specs.Prelude.{◌≡◌, ◌-◌, ◌<◌, ◌^◌, OnOk, IfErr, Ok, false, get_or, length, not};
 ghost use Rattle.plain_model.specs.Parts.{is_lf};
 ghost use Rattle.line_machine.specs.Lines.{line_count};
 ghost use Rattle.stream_fields.specs.Cursors.{Position};
-ghost use Rattle.stream_grammar.specs.Known.{history_of};
-ghost use Rattle.stream_grammar.specs.Lines.{history_in, is_comment, nothing_known};
-ghost use Rattle.stream_lines.specs.Reading.{IsDefectIn, IsFirst, Turns, in_line};
+ghost use Rattle.stream_grammar.specs.Limits.{known_in};
+ghost use Rattle.stream_grammar.specs.Lines.{is_comment, nothing_known};
+ghost use Rattle.stream_lines.specs.Reading.{IsFaultIn, IsFirst, Turns, in_line};
 
-use crate::fault::ReadFault;
+use crate::fault::{LineFault, ReadFault};
 use crate::keeping::KeepsEvents;
 use plain_model::Why;
 use std::alloc::Global;
-use stream_fields::{Cursor, FieldFault};
-use stream_grammar::{Due, Standing, Word, is_comment};
+use stream_fields::{Cursor, count_line_ends};
+use stream_grammar::{Due, Standing, Word, is_comment, limit_number};
 
 /// What was reached behind a line.
 #[derive(Clone, Copy, Debug)]
@@ -25,20 +25,18 @@ enum Reached {
     End,
 }
 
-// The fault of a field in its line.
-fn in_line(line: u64, fault: FieldFault) -> ReadFault
+// The fault of a line by its number.
+fn in_line(line: u64, fault: LineFault) -> ReadFault
     ensures { result ≡ in_line line fault }
 {
     match fault {
-        FieldFault::Bad(why) => ReadFault::Defect { line, why },
-        FieldFault::Memory => ReadFault::Memory,
+        LineFault::Bad(why) => ReadFault::BadStream { line, why },
+        LineFault::Limit(which) => ReadFault::Limit {
+            which,
+            number: limit_number(which),
+        },
+        LineFault::Memory => ReadFault::Memory,
     }
-}
-
-fn count_line_ends(text: &[u8]) -> usize
-    ensures { result ≡ count_by is_lf text.now }
-{
-    text.iter().filter(|b| **b == b'\n').count()
 }
 
 // Whether the last line lacks its LF.
@@ -75,7 +73,7 @@ fn take<K: KeepsEvents>(
     let word = Word::of(line);
     let behind = match standing.behind(word) {
         Ok(behind) => behind,
-        Err(why) => return Err(ReadFault::Defect { line: number, why }),
+        Err(why) => return Err(ReadFault::BadStream { line: number, why }),
     };
     match word {
         Word::Data => match cursor.block(alloc, line) {
@@ -83,7 +81,7 @@ fn take<K: KeepsEvents>(
                 keeper.land(behind.is_inline(), bytes)?;
                 Ok(Reached::Line(behind))
             }
-            Err(fault) => Err(in_line(number, fault)),
+            Err(fault) => Err(in_line(number, LineFault::from(fault))),
         },
         Word::Done => Ok(Reached::Over),
         _ => match keeper.judge(alloc, word, line) {
@@ -111,16 +109,16 @@ fn read_line<K: KeepsEvents>(
     take(alloc, keeper, cursor, standing, line)
 }
 
-/// Reads a whole stream with someone who knows of no event yet: the history of what is known then is that of the stream,
-/// or its first defect is told.
+/// Reads a whole stream with someone who knows of no event yet: what is known then is what the stream's lines give; or the
+/// first line is told that has a defect or passes a limit.
 pub fn read_lines<K: KeepsEvents>(
     alloc: Global,
     keeper: &mut K,
     text: &[u8],
 ) -> Result<(), ReadFault>
     requires { K.known keeper.old ≡ nothing_known }
-    ensures history { OnOk result (history_in text.now ≡ Some (history_of (K.known keeper.new))) }
-    ensures defect { IfErr result (IsDefectIn text.now) }
+    ensures known { OnOk result (known_in text.now ≡ Ok (K.known keeper.new)) }
+    ensures fault { IfErr result (IsFaultIn text.now) }
 {
     let lines = count_lines(text);
     let mut cursor = Cursor::new(text);
@@ -136,7 +134,7 @@ pub fn read_lines<K: KeepsEvents>(
         }
     }
     if standing.must_go_on() {
-        Err(ReadFault::Defect {
+        Err(ReadFault::BadStream {
             line: 1 + lines,
             why: Why::Truncated,
         })

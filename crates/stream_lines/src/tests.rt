@@ -2,11 +2,10 @@
 ghost use Rattle.std.specs.Prelude.{◌≡◌, OnOk};
 ghost use Rattle.stream_grammar.specs.Lines.{nothing_known};
 
-use crate::{KeepsEvents, ReadFault, read_lines};
+use crate::{KeepsEvents, LineFault, ReadFault, read_lines};
 use plain_model::{NoMemory, Text, Why};
 use std::alloc::Global;
 use std::test::*;
-use stream_fields::FieldFault;
 use stream_grammar::Word;
 
 // Has no room for any event.
@@ -16,10 +15,10 @@ struct Nothing;
 impl KeepsEvents for Nothing {
     ghost known = { λ _. nothing_known };
 
-    fn judge(&mut self, _alloc: Global, word: Word, _line: &[u8]) -> Result<(), FieldFault> {
+    fn judge(&mut self, _alloc: Global, word: Word, _line: &[u8]) -> Result<(), LineFault> {
         match word {
             Word::Empty => Ok(()),
-            _ => Err(FieldFault::Memory),
+            _ => Err(LineFault::Memory),
         }
     }
 
@@ -33,7 +32,7 @@ fn answer(alloc: Global, text: &[u8]) -> Result<(), ReadFault> {
 }
 
 fn defect(line: u64, why: Why) -> Result<(), ReadFault> {
-    Err(ReadFault::Defect { line, why })
+    Err(ReadFault::BadStream { line, why })
 }
 
 #[test]

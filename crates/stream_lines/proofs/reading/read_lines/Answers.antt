@@ -1,10 +1,10 @@
-use Rattle.std.proofs.Common.{◌≡◌, ◌+◌, None, Some, Ok, [], refl, sym, ◌∙◌, ap, subst, arith}
+use Rattle.std.proofs.Common.{◌≡◌, ◌+◌, None, Ok, Err, [], refl, sym, ◌∙◌, ap, subst, arith}
 use Rattle.plain_model.specs.declared.fault.Why.TheVariants.{Truncated}
 use Rattle.plain_model.specs.Parts.{line_at}
 use Rattle.line_machine.specs.Lines.{line_count}
 use Rattle.stream_fields.specs.Cursors.{rest}
-use Rattle.stream_grammar.specs.Known.{history_of}
-use Rattle.stream_grammar.specs.Lines.{defect_of, history_read}
+use Rattle.stream_grammar.specs.Limits.{known_given}
+use Rattle.plain_model.specs.declared.fault.Fault.TheVariants as fault
 use Rattle.stream_lines.specs.declared.reading.Reached.{Reached}
 use Rattle.stream_lines.specs.Reading.{GoesOn, Turns}
 use Rattle.stream_lines.proofs.Turns.{from_start, lacks_line, is_whole, at_end}
@@ -35,18 +35,18 @@ loop-preserved g c =
       left = omega (arith, goes.fewer, c.loop.invariant.left);
     }
 
-pub returns-then-must_go_on-clause-defect : goal.returns-then-must_go_on-clause-defect
-returns-then-must_go_on-clause-defect g c =
+pub returns-then-must_go_on-clause-fault : goal.returns-then-must_go_on-clause-fault
+returns-then-must_go_on-clause-fault g c =
     let over : line_at (rest c.loop.cursor) ≡ None = elim c.loop-test.branch [
       | else-loop-test w ↦ at_end (rest c.loop.cursor) (omega (arith, w.loop-test.false, c.loop.invariant.left, c.count_lines-lines.ensures.value))
       | then-loop-test+in_ok-behind+in-End w ↦ (subst (λ (r : Reached). Turns c.loop.cursor c.loop.standing (g.K.KeepsEvents.known c.loop.keeper) w.read_line.new.cursor (g.K.KeepsEvents.known w.read_line.new.keeper) (Ok r)) w.in-End.is w.in_ok-behind.ensures).0
     ] in
-    ap defect_of c.loop.invariant.same.1
+    ap known_given c.loop.invariant.same.1
     ∙ lacks_line c.loop.cursor c.loop.standing (g.K.KeepsEvents.known c.loop.keeper) c.loop.invariant.same.0 over (sym c.must_go_on.ensures ∙ c.if-must_go_on.true)
-    ∙ ap (λ n. Some (1 + n, Truncated)) (ap line_count c.loop.invariant.whole ∙ sym c.count_lines-lines.ensures.value)
+    ∙ ap (λ n. Err (fault.BadStream (1 + n) Truncated)) (ap line_count c.loop.invariant.whole ∙ sym c.count_lines-lines.ensures.value)
 
-pub returns-else-must_go_on-clause-history : goal.returns-else-must_go_on-clause-history
-returns-else-must_go_on-clause-history g c =
+pub returns-else-must_go_on-clause-known : goal.returns-else-must_go_on-clause-known
+returns-else-must_go_on-clause-known g c =
     let known = g.K.KeepsEvents.known in
     let over : line_at (rest c.loop.cursor) ≡ None = elim c.loop-test.branch [
       | else-loop-test w ↦ at_end (rest c.loop.cursor) (omega (arith, w.loop-test.false, c.loop.invariant.left, c.count_lines-lines.ensures.value))
@@ -56,6 +56,6 @@ returns-else-must_go_on-clause-history g c =
       | else-loop-test w ↦ ap known (sym w.keeper-is)
       | then-loop-test+in_ok-behind+in-End w ↦ sym (subst (λ (r : Reached). Turns c.loop.cursor c.loop.standing (g.K.KeepsEvents.known c.loop.keeper) w.read_line.new.cursor (g.K.KeepsEvents.known w.read_line.new.keeper) (Ok r)) w.in-End.is w.in_ok-behind.ensures).1 ∙ ap known (sym w.keeper-is)
     ] in
-    ap history_read c.loop.invariant.same.1
+    ap known_given c.loop.invariant.same.1
     ∙ is_whole c.loop.cursor c.loop.standing (known c.loop.keeper) c.loop.invariant.same.0 over (sym c.must_go_on.ensures ∙ c.if-must_go_on.false)
-    ∙ ap (λ k. Some (history_of k)) kept
+    ∙ ap (λ k. Ok k) kept

@@ -5,13 +5,13 @@ use Rattle.line_machine.specs.Lines.{line_count}
 use Rattle.stream_fields.specs.Cursors.{Position, rest}
 use Rattle.stream_grammar.specs.declared.lines.Standing.{Standing}
 use Rattle.stream_grammar.specs.Known.{Known}
-use Rattle.stream_grammar.specs.Lines.{stream}
+use Rattle.stream_grammar.specs.Limits.{stream_within}
 use Rattle.stream_lines.specs.Reading.{answer}
 use Rattle.stream_lines.proofs.reading.read_lines.Given as goal
 
 -- the text answers what it answers from the cursor on
 pub record IsReadTo (text : Bytes) (counter : ℕ) (cursor : Position) (standing : Standing) (known : Known) : Type 0 where
-  pub same : (spelled : List Bytes) × (outcome stream all text ≡ answer cursor standing known spelled)
+  pub same : (spelled : List Bytes) × (outcome stream_within all text ≡ answer cursor standing known spelled)
   pub whole : cursor.text ≡ text
   pub left : line_count (rest cursor) + counter ≤ line_count text
 

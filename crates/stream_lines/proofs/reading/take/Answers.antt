@@ -1,18 +1,19 @@
-use Rattle.std.proofs.Common.{Some, sym, ◌∙◌, ap, subst}
+use Rattle.std.proofs.Common.{Err, sym, ◌∙◌, ap, subst}
 use Rattle.plain_model.specs.Fields.{block_in}
 use Rattle.plain_model.specs.Paths.{Bytes}
 use Rattle.stream_fields.specs.Cursors.{rest}
 use Rattle.stream_grammar.specs.Known.{with_data}
-use Rattle.stream_grammar.specs.Lines.{judged}
-use Rattle.stream_lines.specs.Reading.{answer, GoesOn, Tells}
-use Rattle.stream_lines.proofs.Turns.{tells_of, refused_by_form, landed, not_landed, over, judged_on, not_judged}
+use Rattle.stream_grammar.specs.Limits.{judged_within, fault_of}
+use Rattle.plain_model.specs.declared.fault.Fault.TheVariants as fault
+use Rattle.stream_lines.specs.Reading.{answer, in_line, GoesOn, Tells}
+use Rattle.stream_lines.proofs.Turns.{tells_block, tells_line, refused_by_form, landed, not_landed, over, judged_on, not_judged}
 use Rattle.stream_lines.proofs.reading.take.Goals as goal
 
 pub returns-in-Err : goal.returns-in-Err
 returns-in-Err g c = λ old first spelled.
     refused_by_form old c.args.line.now c.args.cursor.now first c.args.standing (g.K.KeepsEvents.known c.args.keeper.now)
     c.of-word.result c.requires c.of-word.ensures c.in-Err.why (sym c.behind.ensures ∙ c.in-Err.is) spelled
-    ∙ ap (λ n. Some (n, c.in-Err.why)) (sym c.number-number.ensures)
+    ∙ ap (λ n. Err (fault.BadStream n c.in-Err.why)) (sym c.number-number.ensures)
 
 pub returns-in_ok-land-in-Ok-block : goal.returns-in_ok-land-in-Ok-block
 returns-in_ok-land-in-Ok-block g c = λ old first.
@@ -24,13 +25,14 @@ returns-in_ok-land-in-Ok-block g c = λ old first.
 
 pub returns-in-Err-block : goal.returns-in-Err-block
 returns-in-Err-block g c = λ old first.
-    subst (Tells (answer old c.args.standing (g.K.KeepsEvents.known c.args.keeper.now))) (sym c.in_line.ensures)
-    (tells_of (answer old c.args.standing (g.K.KeepsEvents.known c.args.keeper.now)) c.number-number.result {X = Bytes} (λ bytes. (bytes, rest c.block.new.self)) c.in-Err-block.fault
+    let o = answer old c.args.standing (g.K.KeepsEvents.known c.args.keeper.now) in
+    subst (Tells o) (sym (c.in_line.ensures ∙ ap (in_line c.number-number.result) c.from.ensures))
+    (tells_block o c.number-number.result {X = Bytes} (λ bytes. (bytes, rest c.block.new.self)) c.in-Err-block.fault
     (block_in c.args.line.now (rest c.args.cursor.now)) c.in-Err-block.ensures.value
     (λ why e spelled.
     not_landed old c.args.line.now c.args.cursor.now first c.args.standing (g.K.KeepsEvents.known c.args.keeper.now)
     c.of-word.result c.requires c.of-word.ensures c.in-Ok.behind (sym c.behind.ensures ∙ c.in-Ok.is) c.in-Data.is why e spelled
-    ∙ ap (λ n. Some (n, why)) (sym c.number-number.ensures)))
+    ∙ ap (λ n. Err (fault.BadStream n why)) (sym c.number-number.ensures)))
 
 pub returns-in-Done : goal.returns-in-Done
 returns-in-Done g c = λ old first.
@@ -45,10 +47,11 @@ returns-in-Ok-judge g c = λ old first.
 
 pub returns-in-Err-judge : goal.returns-in-Err-judge
 returns-in-Err-judge g c = λ old first.
-    subst (Tells (answer old c.args.standing (g.K.KeepsEvents.known c.args.keeper.now))) (sym c.in_line-in-Err-judge.ensures)
-    (tells_of (answer old c.args.standing (g.K.KeepsEvents.known c.args.keeper.now)) c.number-number.result {X = Unit {0}} (λ _. g.K.KeepsEvents.known c.judge.new.self) c.in-Err-judge.fault
-    (judged c.of-word.result c.args.line.now (g.K.KeepsEvents.known c.args.keeper.now)) c.in-Err-judge.ensures
-    (λ why e spelled.
+    let o = answer old c.args.standing (g.K.KeepsEvents.known c.args.keeper.now) in
+    subst (Tells o) (sym c.in_line-in-Err-judge.ensures)
+    (tells_line o c.number-number.result (g.K.KeepsEvents.known c.judge.new.self) c.in-Err-judge.fault
+    (judged_within c.of-word.result c.args.line.now (g.K.KeepsEvents.known c.args.keeper.now)) c.in-Err-judge.ensures
+    (λ cause e spelled.
     not_judged old c.args.line.now c.args.cursor.now first c.args.standing (g.K.KeepsEvents.known c.args.keeper.now)
-    c.of-word.result c.requires c.of-word.ensures c.in-Ok.behind (sym c.behind.ensures ∙ c.in-Ok.is) c.in_default.not-Data c.in_default.not-Done why e spelled
-    ∙ ap (λ n. Some (n, why)) (sym c.number-number.ensures)))
+    c.of-word.result c.requires c.of-word.ensures c.in-Ok.behind (sym c.behind.ensures ∙ c.in-Ok.is) c.in_default.not-Data c.in_default.not-Done cause e spelled
+    ∙ ap (λ n. Err (fault_of n cause)) (sym c.number-number.ensures)))
