@@ -1,19 +1,14 @@
 -- What is found in a list of events, after one more event.
-use Rattle.std.proofs.Common.{◌≡◌, ℕ, Bool, true, false, cond, not, max, List, [], ◌∷◌, ◌++◌, refl, sym, ◌∙◌, ap, bytes_eq, Option, Some, None, is_some}
+use Rattle.std.proofs.Common.{◌≡◌, ℕ, Bool, true, false, cond, max, List, [], ◌∷◌, ◌++◌, refl, sym, ◌∙◌, ap, Option, Some, None, is_some}
 use Rattle.std.specs.Prelude.{◌==◌, ◌||◌}
-use Rattle.std.specs.Ordering.{nat_cmp}
-use Rattle.std.specs.Cmp.Lexicographic.{slice_cmp, nat_list_cmp_total, nat_list_eq_equiv, texts_ties}
-use Rattle.std.specs.FinMap.{slice_cmp-IsAntisymmetric, nat_cmp-IsAntisymmetric}
-use Rattle.std.specs.FinMap.Entries as entries
 use Rattle.std.proofs.lemmas.List.Sums.{fold-append}
 use Rattle.plain_model.specs.declared.event.PlainEvent.{PlainEvent}
 use Rattle.plain_model.specs.declared.event.PlainEvent.TheVariants.{Blob, Commit, Tag, Reset, Pass}
 use Rattle.plain_model.specs.Lookups.{greatest_mark, mark_number}
-use Rattle.plain_model.specs.Paths.{Bytes}
-use Rattle.plain_model.specs.Trees.{TreeOf, at, put, where_path}
+use Rattle.plain_model.specs.Trees.{TreeOf, put}
 use Rattle.plain_model.specs.Snapshots.{refs, refs_after}
 use Rattle.plain_model.specs.Streams.{is_marked, blob_marked, commit_marked}
-use Rattle.stream_drafts.specs.Indexed.{first_of, tip_behind}
+use Rattle.stream_drafts.specs.Indexed.{first_of}
 
 -- ---- marks
 
@@ -75,28 +70,5 @@ refs_after-append t (Reset id branch None ∷ es) e = refs_after-append _ es e
 refs_after-append t (Reset id branch (Some c) ∷ es) e = refs_after-append (put branch c t) es e
 refs_after-append t (Pass id line ∷ es) e = refs_after-append t es e
 
--- what stands at a branch after another was set
-at-put : (p q : Bytes) (x : ℕ) (t : TreeOf ℕ) → at (put p x t) q ≡ cond (bytes_eq q p) (Some x) (at t q)
-at-put p q x t = entries.find-put (slice_cmp nat_cmp) nat_list_cmp_total q p x t ∙ ap (λ b. cond b (Some x) (at t q)) (sym (texts_ties q p))
-
-if_not : (b : Bool) (o : Option ℕ) → cond (not b) o None ≡ cond b None o
-if_not true o = refl
-if_not false o = refl
-
--- what stands at a branch after another was removed
-at-where_path : (p q : Bytes) (t : TreeOf ℕ) → at (where_path (λ b. not (bytes_eq p b)) t) q ≡ cond (bytes_eq q p) None (at t q)
-at-where_path p q t =
-    entries.find-where_key (slice_cmp nat_cmp) (λ b. not (bytes_eq p b)) q (λ x e. ap (λ b. not (bytes_eq p b)) (sym (slice_cmp-IsAntisymmetric nat_cmp-IsAntisymmetric q x e))) t
-    ∙ if_not (bytes_eq p q) (at t q)
-    ∙ ap (λ b. cond b None (at t q)) (nat_list_eq_equiv.symm p q)
-
-at-one_behind : (t : TreeOf ℕ) (e : PlainEvent) (b : Bytes) → at (refs_after t (e ∷ [])) b ≡ tip_behind e b (at t b)
-at-one_behind t (Blob id mark bytes) b = refl
-at-one_behind t (Commit id mark branch author committer encoding comment parents ops) b = at-put branch b id t
-at-one_behind t (Tag id name target tagger comment) b = refl
-at-one_behind t (Reset id branch None) b = at-where_path branch b t
-at-one_behind t (Reset id branch (Some c)) b = at-put branch b c t
-at-one_behind t (Pass id line) b = refl
-
-pub at-refs-append : (es : List PlainEvent) (e : PlainEvent) (b : Bytes) → at (refs (es ++ e ∷ [])) b ≡ tip_behind e b (at (refs es) b)
-at-refs-append es e b = ap (λ (t : TreeOf ℕ). at t b) (refs_after-append [] es e) ∙ at-one_behind (refs es) e b
+pub refs-append : (es : List PlainEvent) (e : PlainEvent) → refs (es ++ e ∷ []) ≡ refs_after (refs es) (e ∷ [])
+refs-append es e = refs_after-append [] es e

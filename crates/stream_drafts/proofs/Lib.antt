@@ -1,3 +1,3 @@
 pub mod Behind
 pub mod Indexes
-pub mod TipMaps
+pub mod Places

@@ -1,7 +1,9 @@
 -- The events that drafts stand for: a blob or a commit without a mark has 0 in its place.
-use Rattle.std.specs.Prelude.{ℕ, ◌+◌, ◌==◌, List, [], ◌∷◌, map, Option, unwrap_or, if◌then◌else◌}
+use Rattle.std.specs.Prelude.{ℕ, ◌+◌, ◌==◌, List, map, Option, Some, None, unwrap_or, if◌then◌else◌}
 use Rattle.plain_model.specs.declared.event.PlainEvent.{PlainEvent}
 use Rattle.plain_model.specs.declared.event.PlainEvent.TheVariants as plain
+use Rattle.plain_model.specs.declared.operation.FileOp.{FileOp}
+use Rattle.plain_model.specs.Histories.{Node}
 use Rattle.plain_model.specs.Marks.{IsMark}
 use Rattle.stream_drafts.specs.declared.draft.CommitFields.{CommitFields}
 use Rattle.stream_drafts.specs.declared.draft.Draft.{Draft}
@@ -33,23 +35,22 @@ IsMarked (plain.Tag id name target tagger comment) = Unit {0}
 IsMarked (plain.Reset id branch target) = Unit {0}
 IsMarked (plain.Pass id line) = Unit {0}
 
--- 1 where there is no mark, else 0
-abbrev pub want_of : ℕ → ℕ
-want_of mark = if mark == 0 then 1 else 0
-
 -- the mark, or the one above n where there is none
 abbrev pub mark_behind : ℕ → ℕ → ℕ
 mark_behind n mark = if mark == 0 then n + 1 else mark
 
--- 1 for a blob or a commit without a mark, else 0
-abbrev pub own_want : PlainEvent → ℕ
-own_want (plain.Blob id mark bytes) = want_of mark
-own_want (plain.Commit id mark branch author committer encoding comment parents ops) = want_of mark
-own_want (plain.Tag id name target tagger comment) = 0
-own_want (plain.Reset id branch target) = 0
-own_want (plain.Pass id line) = 0
+-- what the tree of a commit with this id hangs on
+abbrev pub node_of : ℕ → CommitFields → Node
+node_of id c = record { id = id; parents = c.parents; ops = c.ops }
 
--- how many blobs and commits have no mark
-abbrev pub unmarked_count : List PlainEvent → ℕ
-unmarked_count [] = 0
-unmarked_count (e ∷ events) = own_want e + unmarked_count events
+-- the commit that an event is, if it is one
+abbrev pub own_node : PlainEvent → Option Node
+own_node (plain.Commit id mark branch author committer encoding comment parents ops) = Some (record { id = id; parents = parents; ops = ops })
+own_node (plain.Blob id mark bytes) = None
+own_node (plain.Tag id name target tagger comment) = None
+own_node (plain.Reset id branch target) = None
+own_node (plain.Pass id line) = None
+
+-- a commit's parents and operations
+abbrev pub links_of : Node → List ℕ × List FileOp
+links_of n = (n.parents, n.ops)

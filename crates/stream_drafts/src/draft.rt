@@ -1,5 +1,5 @@
 //! Events whose mark may not be there yet.
-ghost use Rattle.std.specs.Prelude.{◌≡◌, ◌≤◌};
+ghost use Rattle.std.specs.Prelude.{◌≡◌, ◌≤◌, ℕ, option_map};
 ghost use Rattle.plain_model.specs.Lookups.{mark_number};
 ghost use Rattle.stream_drafts.specs.Events.{number_or_0};
 
@@ -61,7 +61,18 @@ fn number_or_0(mark: Option<Mark>) -> u64
 }
 
 impl Draft {
-    ghost use Rattle.stream_drafts.specs.Events.{event_of};
+    ghost use Rattle.stream_drafts.specs.Events.{event_of, links_of, node_of, own_node};
+
+    /// What a commit has.
+    pub fn commit_fields(&self) -> Option<&CommitFields>
+        ensures { (id : ℕ) → option_map (λ fields. links_of (node_of id fields.now)) result
+            ≡ option_map links_of (own_node (event_of self.now)) }
+    {
+        match self {
+            Draft::Commit { fields, .. } => Some(fields),
+            _ => None,
+        }
+    }
 
     /// The mark of a blob or a commit, or 0.
     pub fn number(&self) -> u64

@@ -1,22 +1,27 @@
 //! The events so far, with what is found in them.
-ghost use Rattle.std.specs.Prelude.{◌≡◌, [], ◌+◌, ◌≤◌, ◌<◌, All, Err, IfOk, OnOk, OnErr};
+ghost use Rattle.std.specs.Prelude.{◌≡◌, ◌∷◌, [], length, option_map, ◌+◌, ◌≤◌, ◌<◌, All, Err, IfOk, OnOk, OnErr};
 ghost use Rattle.plain_model.specs.declared.event.PlainEvent.TheVariants as plain;
+ghost use Rattle.plain_model.specs.Histories.{node_at, past};
 ghost use Rattle.plain_model.specs.Lookups.{greatest_mark};
 ghost use Rattle.plain_model.specs.Snapshots.{refs};
 ghost use Rattle.plain_model.specs.Streams.{is_marked, blob_marked, commit_marked};
 ghost use Rattle.plain_model.specs.Trees.{at};
 ghost use Rattle.stream_grammar.specs.Known.{next_id, with_event, with_marks};
+ghost use Rattle.stream_grammar.specs.Limits.{last_mark};
+ghost use Rattle.stream_drafts.specs.Placed.{ArePlaced};
 ghost use Rattle.stream_drafts.specs.Events.{
   IsMarked,
   commit_of,
   event_of,
+  links_of,
+  node_of,
   number_or_0,
-  unmarked_count,
 };
 
 use crate::draft::{CommitFields, Draft};
 use crate::finish::{FinishFault, marked_events};
 use crate::index::{make_blob_room, make_commit_room, note_blob, note_commit, note_tip};
+use branch_tips::Tips;
 use plain_model::{
     BlobId, CommitId, EventList, MAX_MARK, Mark, NoMemory, PassId, ResetId, Signed, TagId, Text,
 };
@@ -32,7 +37,7 @@ pub struct Drafts {
     drafts: Vec<Draft>,
     blobs: HashMap<u64, BlobId>,
     commits: HashMap<u64, CommitId>,
-    tips: HashMap<Vec<u8>, CommitId>,
+    tips: Tips,
     greatest: u64,
 }
 
@@ -41,14 +46,14 @@ impl Model for Drafts {
     ghost use Rattle.std.specs.HashMap.{get};
     ghost use Rattle.plain_model.specs.declared.event.PlainEvent.{PlainEvent};
     ghost use Rattle.stream_drafts.specs.Events.{events_of};
-    ghost use Rattle.stream_drafts.specs.Indexed.{IsIndexed, tip_in};
+    ghost use Rattle.stream_drafts.specs.Indexed.{IsIndexed};
 
     ghost Value = { List PlainEvent };
 
     ghost view = { λ d. events_of d.drafts.items };
 
     ghost invariant = { λ d. IsIndexed (events_of d.drafts.items) (get nat_eq d.blobs)
-        (get nat_eq d.commits) (tip_in d.tips) d.greatest };
+        (get nat_eq d.commits) d.tips d.greatest };
 }
 
 impl Drafts {
@@ -61,7 +66,7 @@ impl Drafts {
             drafts: Vec::new(alloc),
             blobs: HashMap::new(alloc),
             commits: HashMap::new(alloc),
-            tips: HashMap::new(alloc),
+            tips: Tips::new(alloc),
             greatest: 0,
         }
     }
@@ -98,18 +103,30 @@ impl Drafts {
     pub fn tip(&self, branch: &[u8]) -> Option<CommitId>
         ensures { result ≡ at (refs self.now) branch.now }
     {
-        self.tips.get(branch).copied()
+        self.tips.tip(branch)
     }
 
-    // Puts a draft at the end. What can want memory comes first.
+    /// What the commit with the id has, if there is one. Ids are places.
+    pub fn commit(&self, id: CommitId) -> Option<&CommitFields>
+        ensures placed { ArePlaced 1 self.now }
+        ensures found { option_map (λ fields. links_of (node_of id fields.now)) result
+            ≡ option_map links_of (node_at (past self.now) id) }
+    {
+        let drafts = self.drafts.as_slice();
+        let place = id.number().checked_sub(1)?;
+        drafts.get(place as usize)?.commit_fields()
+    }
+
+    // Puts a draft at the end, whose id is its place. What can want memory comes first.
     fn push(&mut self, draft: Draft) -> Result<(), NoMemory>
+        requires { ArePlaced (next_id self.old) (event_of draft ∷ []) }
         ensures ok { OnOk result (self.new ≡ with_event self.old (event_of draft)) }
         ensures err { OnErr result (self.new ≡ self.old) }
     {
         self.drafts.reserve(1)?;
         make_blob_room(&mut self.blobs)?;
         make_commit_room(&mut self.commits)?;
-        note_tip(self.alloc, &mut self.tips, &draft)?;
+        note_tip(&mut self.tips, &draft)?;
         note_blob(&mut self.blobs, &draft);
         note_commit(&mut self.commits, &draft);
         self.greatest = self.greatest.max(draft.number());
@@ -204,9 +221,9 @@ impl Drafts {
         ensures marked { IfOk result (All IsMarked) }
 
         // The marks are spent only where fewer are left than there are blobs and commits without one.
-        ensures fits { OnOk result (greatest_mark self + unmarked_count self ≤ MAX_MARK) }
+        ensures fits { OnOk result (last_mark self ≤ MAX_MARK) }
         ensures spent { result ≡ Err FinishFault.MarksSpent →
-            MAX_MARK < greatest_mark self + unmarked_count self }
+            MAX_MARK < last_mark self }
     {
         let Drafts {
             alloc,

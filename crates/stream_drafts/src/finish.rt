@@ -23,10 +23,8 @@ ghost use Rattle.stream_drafts.specs.Events.{
   events_of,
   mark_behind,
   number_or_0,
-  own_want,
-  unmarked_count,
-  want_of,
 };
+ghost use Rattle.stream_grammar.specs.Limits.{own_want, unmarked_count, want_of};
 
 use crate::draft::Draft;
 use plain_model::{EventList, Items, MAX_MARK, Mark, NoMemory, PlainEvent};

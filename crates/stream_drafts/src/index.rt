@@ -6,7 +6,6 @@ ghost use Rattle.std.specs.Prelude.{
   ◌∷◌,
   [],
   ℕ,
-  List,
   Some,
   None,
   nat_eq,
@@ -14,16 +13,16 @@ ghost use Rattle.std.specs.Prelude.{
   OnErr,
   if◌then◌else◌,
   ◌==◌,
-  bytes_eq,
 };
 ghost use Rattle.std.specs.HashMap.{get, spare};
+ghost use Rattle.plain_model.specs.Snapshots.{refs_after};
 ghost use Rattle.plain_model.specs.Streams.{blob_marked, commit_marked};
 ghost use Rattle.stream_drafts.specs.Events.{event_of};
-ghost use Rattle.stream_drafts.specs.Indexed.{first_of, tip_behind, tip_in};
+ghost use Rattle.stream_drafts.specs.Indexed.{first_of};
 
 use crate::draft::Draft;
+use branch_tips::Tips;
 use plain_model::{BlobId, CommitId, Mark, NoMemory};
-use std::alloc::Global;
 use std::collections::HashMap;
 
 /// Makes room for one mark more.
@@ -98,44 +97,17 @@ pub fn note_commit(commits: &mut HashMap<u64, CommitId>, draft: &Draft)
     }
 }
 
-fn set_tip(
-    alloc: Global,
-    tips: &mut HashMap<Vec<u8>, CommitId>,
-    branch: &[u8],
-    tip: CommitId,
-) -> Result<(), NoMemory>
-    ensures ok { OnOk result ((b : List ℕ) →
-        tip_in tips.new b ≡ (if bytes_eq b branch.now then Some tip else tip_in tips.old b)) }
-    ensures err { OnErr result ((b : List ℕ) → tip_in tips.new b ≡ tip_in tips.old b) }
-{
-    let branch = Vec::from_slice(alloc, branch)?;
-    tips.insert(branch, tip)?;
-    Ok(())
-}
-
-fn remove_tip(tips: &mut HashMap<Vec<u8>, CommitId>, branch: &[u8])
-    ensures { (b : List ℕ) →
-        tip_in tips.new b ≡ (if bytes_eq b branch.now then None else tip_in tips.old b) }
-{
-    tips.remove(branch);
-}
-
 /// Sets or removes the tip of the branch that the event changes, if it changes one.
-pub fn note_tip(
-    alloc: Global,
-    tips: &mut HashMap<Vec<u8>, CommitId>,
-    draft: &Draft,
-) -> Result<(), NoMemory>
-    ensures ok { OnOk result ((b : List ℕ) →
-        tip_in tips.new b ≡ tip_behind (event_of draft.now) b (tip_in tips.old b)) }
-    ensures err { OnErr result ((b : List ℕ) → tip_in tips.new b ≡ tip_in tips.old b) }
+pub fn note_tip(tips: &mut Tips, draft: &Draft) -> Result<(), NoMemory>
+    ensures ok { OnOk result (tips.new ≡ refs_after tips.old (event_of draft.now ∷ [])) }
+    ensures err { OnErr result (tips.new ≡ tips.old) }
 {
     match draft {
-        Draft::Commit { id, fields, .. } => set_tip(alloc, tips, fields.branch.as_slice(), *id),
+        Draft::Commit { id, fields, .. } => tips.set(fields.branch.as_slice(), *id),
         Draft::Reset { branch, target, .. } => match target {
-            Some(commit) => set_tip(alloc, tips, branch.as_slice(), *commit),
+            Some(commit) => tips.set(branch.as_slice(), *commit),
             None => {
-                remove_tip(tips, branch.as_slice());
+                tips.remove(branch.as_slice());
                 Ok(())
             }
         },

@@ -209,6 +209,25 @@ fn branches_stand_where_the_last_event_set_them(rt: HostRuntime) -> Result<(), F
 }
 
 #[test]
+fn commits_are_found_by_their_ids(rt: HostRuntime) -> Result<(), Fail> {
+    let drafts = seven_drafts(rt.alloc())?;
+    let rows: [(&str, u64, Option<&[u8]>); 5] = [
+        ("the first", 3, Some(b"main")),
+        ("the second", 4, Some(b"side")),
+        ("a blob's id", 2, None),
+        ("none before the first event", 0, None),
+        ("none behind the last", 8, None),
+    ];
+    for (what, number, want) in rows {
+        let found = drafts
+            .commit(CommitId::new(number))
+            .map(|commit| commit.branch.as_slice());
+        assert_eq!(rt; found, want, "{what}");
+    }
+    Ok(())
+}
+
+#[test]
 fn marks_go_up_to_4294967295(rt: HostRuntime) -> Result<(), Fail> {
     let alloc = rt.alloc();
     let rows: [(&str, u64, Option<&[u8]>); 2] = [

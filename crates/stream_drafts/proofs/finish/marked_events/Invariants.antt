@@ -3,7 +3,8 @@ use Rattle.std.specs.Prelude.{All}
 use Rattle.std.specs.Vec.Iter.{into_iter_items}
 use Rattle.plain_model.specs.declared.limit.TheConstants.{MAX_MARK}
 use Rattle.stream_grammar.specs.Known.{with_marks}
-use Rattle.stream_drafts.specs.Events.{IsMarked, events_of, unmarked_count}
+use Rattle.stream_drafts.specs.Events.{IsMarked, events_of}
+use Rattle.stream_grammar.specs.Limits.{unmarked_count}
 use Rattle.stream_drafts.proofs.finish.marked_events.Given as goal
 
 abbrev pub invariant-loop-draft : goal.invariant-loop-draft
