@@ -1,0 +1,6 @@
+use Rattle.std.proofs.Common.{◌≡◌, ◌-◌, length, take}
+use Rattle.draft_trees.specs.Lines.{along}
+use Rattle.draft_trees.proofs.trees.folded_along.Given as goal
+
+abbrev pub invariant-loop-behind : goal.invariant-loop-behind
+invariant-loop-behind l = along l.drafts l.line l.fn.base ≡ along l.drafts (take (length l.line - l.behind) l.line) l.made
