@@ -1,0 +1,114 @@
+-- What is known of the trees behind one more event, and at the beginning of a commit.
+use Rattle.std.proofs.Common.{◌≡◌, ℕ, ◌+◌, ◌<◌, Bool, true, false, cond, List, [], ◌∷◌, ◌++◌, length, Option, Some, None, refl, sym, ap, slice_index_or, subst, ◌∙◌, arith, ne_eqb, eq-eqb}
+use Rattle.std.specs.Prelude.{◌==◌}
+use Rattle.plain_model.specs.declared.event.PlainEvent.{PlainEvent}
+use Rattle.plain_model.specs.declared.operation.FileOp.{FileOp}
+use Rattle.plain_model.specs.declared.operation.FileOp.TheVariants.{DeleteAll}
+use Rattle.plain_model.specs.Histories.{nodes, begun, folded, tree}
+use Rattle.plain_model.specs.Trees.{Tree}
+use Rattle.stream_grammar.specs.Known.{next_id, with_event}
+use Rattle.draft_trees.specs.declared.trees.KnownTree.{KnownTree}
+use Rattle.stream_builder.specs.declared.known.OpenTree.{OpenTree}
+use Rattle.stream_builder.specs.declared.known.OpenTree.TheVariants.{NotFolded}
+use Rattle.stream_builder.specs.declared.known.Trees.{Trees}
+use Rattle.stream_builder.specs.Minding.{AreEarlier, HasAtMost, IsEarlier, IsOpened, Minds, open_tree}
+use Rattle.stream_builder.proofs.TreesBehind.{tree_beside, tree_behind}
+
+-- what a commit begins with has no more paths than any tree
+pub begun_within : (most : ℕ) (events : List PlainEvent) → ((c : ℕ) → HasAtMost most (tree events c)) → (parents : List ℕ) → HasAtMost most (open_tree events parents [])
+begun_within most events all [] = omega arith
+begun_within most events all (p ∷ ps) = same (tree events p) (all p)
+  where
+    same : (o : Option Tree) → HasAtMost most o → HasAtMost most (folded [] o)
+    same None h = tt
+    same (Some t) h = h
+
+-- a parent that isn't the first changes no tree
+pub one_parent_more : (t : Trees) (events : List PlainEvent) (q : ℕ) (qs : List ℕ) (p : ℕ) (ops : List FileOp) → Minds t events (q ∷ qs) ops → Minds t events ((q ∷ qs) ++ p ∷ []) ops
+one_parent_more t events q qs p ops m = record { earlier = m.earlier; is_opened = m.is_opened; all = m.all; own = m.own }
+
+next_more : (events : List PlainEvent) (e : PlainEvent) → next_id (with_event events e) ≡ next_id events + 1
+next_more events e = go events
+  where
+    go : (es : List PlainEvent) → length (es ++ e ∷ []) + 1 ≡ length es + 1 + 1
+    go [] = refl
+    go (x ∷ es) = let more = go es in omega (arith, more)
+
+module _ (t : Trees) (events : List PlainEvent) (e : PlainEvent) where
+  earlier_beside : ((c : ℕ) → c < next_id events → tree (with_event events e) c ≡ tree events c) → (kept : List KnownTree) → AreEarlier events kept → AreEarlier (with_event events e) kept
+  earlier_beside same kept h = λ i d less. go (slice_index_or kept i d) (h i d less)
+    where
+      go : (k : KnownTree) → IsEarlier events k → IsEarlier (with_event events e) k
+      go k h = (h.0 ∙ sym (same k.commit h.1), let before = h.1 in let more = next_more events e in omega (arith, before, more))
+
+  -- an event that is no commit stands behind the others
+  pub one_beside : nodes (e ∷ []) ≡ [] → (parents : List ℕ) (ops : List FileOp) → Minds t events parents ops → Minds t (with_event events e) parents ops
+  one_beside none parents ops m =
+      let same = tree_beside events e none in
+      let begins_same : begun (tree (with_event events e)) parents ≡ begun (tree events) parents = go parents same in
+      record {
+        earlier = earlier_beside (λ c before. same c) t.kept.items m.earlier;
+        is_opened = subst (λ (o : Option Tree). IsOpened t.opened (folded ops o)) (sym begins_same) m.is_opened;
+        all = λ c. subst (HasAtMost t.most) (sym (same c)) (m.all c);
+        own = subst (λ (o : Option Tree). HasAtMost t.most (folded ops o)) (sym begins_same) m.own;
+      }
+    where
+      go : (ps : List ℕ) → ((c : ℕ) → tree (with_event events e) c ≡ tree events c) → begun (tree (with_event events e)) ps ≡ begun (tree events) ps
+      go [] same = refl
+      go (p ∷ ps) same = same p
+
+  -- a commit stands behind the others
+  module _ (commit : ℕ) (parents : List ℕ) (ops : List FileOp) (m : Minds t events [] []) (within : HasAtMost t.most (open_tree events parents ops))
+      (one : nodes (e ∷ []) ≡ record { id = commit; parents = parents; ops = ops } ∷ []) (is : commit ≡ next_id events) where
+    there : (c : ℕ) → tree (with_event events e) c ≡ cond (commit == c) (open_tree events parents ops) (tree events c)
+    there c = tree_behind events e (record { id = commit; parents = parents; ops = ops }) one c
+
+    before : (c : ℕ) → c < next_id events → tree (with_event events e) c ≡ tree events c
+    before c less = there c ∙ ap (λ b. cond b (open_tree events parents ops) (tree events c)) (ne_eqb commit c (λ same. omega (arith, same, is, less)))
+
+    all_behind : (c : ℕ) → HasAtMost t.most (tree (with_event events e) c)
+    all_behind c = subst (HasAtMost t.most) (sym (there c)) (go (commit == c))
+      where
+        go : (b : Bool) → HasAtMost t.most (cond b (open_tree events parents ops) (tree events c))
+        go true = within
+        go false = m.all c
+
+    pub one_behind : Minds t (with_event events e) [] []
+    one_behind = record {
+      earlier = earlier_beside before t.kept.items m.earlier;
+      is_opened = m.is_opened;
+      all = all_behind;
+      own = m.own;
+    }
+
+    pub earlier_behind : AreEarlier (with_event events e) t.kept.items
+    earlier_behind = earlier_beside before t.kept.items m.earlier
+
+    -- its own tree is known
+    pub own_earlier : (made : Option Tree) → made ≡ open_tree events parents ops → IsEarlier (with_event events e) (record { commit = commit; tree = made })
+    own_earlier made same = (
+      same ∙ sym (there commit ∙ ap (λ b. cond b (open_tree events parents ops) (tree events commit)) (eq-eqb commit commit refl)),
+      let more = next_more events e in omega (arith, is, more),
+    )
+
+    -- other trees are kept
+    pub own_behind : (new : Trees) → AreEarlier (with_event events e) new.kept.items → new.opened ≡ t.opened → new.most ≡ t.most → Minds new (with_event events e) [] []
+    own_behind new earlier opened most = record {
+      earlier = earlier;
+      is_opened = subst (λ (o : OpenTree). IsOpened o (open_tree events [] [])) (sym opened) m.is_opened;
+      all = λ c. subst (λ n. HasAtMost n (tree (with_event events e) c)) (sym most) (all_behind c);
+      own = subst (λ n. HasAtMost n (open_tree events [] [])) (sym most) m.own;
+    }
+
+-- all files of a commit go
+pub emptied : (t : Trees) (events : List PlainEvent) (parents : List ℕ) → Minds t events parents [] → t.opened ≡ NotFolded → Minds t events parents (DeleteAll ∷ [])
+emptied t events parents m none = record {
+  earlier = m.earlier;
+  is_opened = subst (λ (o : OpenTree). IsOpened o (open_tree events parents (DeleteAll ∷ []))) (sym none) tt;
+  all = m.all;
+  own = go (begun (tree events) parents);
+}
+  where
+    go : (o : Option Tree) → HasAtMost t.most (folded (DeleteAll ∷ []) o)
+    go None = tt
+    go (Some u) = omega arith

@@ -1,0 +1,77 @@
+-- What is known of a stream by what was built of it.
+use Rattle.std.specs.Prelude.{◌≡◌, ℕ, ◌≤◌, List, [], ◌∷◌, ◌++◌, Bool, true, false, Result, Ok, Err}
+use Rattle.plain_model.specs.declared.event.PlainEvent.{PlainEvent}
+use Rattle.plain_model.specs.declared.limit.TheConstants.{MAX_OPERATIONS}
+use Rattle.plain_model.specs.declared.operation.FileOp.{FileOp}
+use Rattle.stream_grammar.specs.Known.{Known, OpenCommit as KnownCommit, Open as KnownOpen}
+use Rattle.stream_grammar.specs.Known.Open.{Nothing as NoEvent, ABlob, ACommit, ATag, AReset}
+use Rattle.plain_model.specs.declared.fault.Which.{Which}
+use Rattle.plain_model.specs.declared.fault.Why.{Why}
+use Rattle.line_machine.specs.Limits.{Cause}
+use Rattle.line_machine.specs.Limits.Cause.{Defect}
+use Rattle.stream_grammar.specs.Limits.{op_count, op_limit, within_limit}
+use Rattle.stream_drafts.specs.Events.{number_or_0}
+use Rattle.stream_builder.specs.declared.known.Trees.{Trees}
+use Rattle.stream_builder.specs.declared.open.Open.{Open}
+use Rattle.stream_builder.specs.declared.open.Open.TheVariants.{Nothing, Blob, Commit, Tag, Reset}
+use Rattle.stream_builder.specs.declared.open.OpenCommit.{OpenCommit}
+use Rattle.stream_builder.specs.Minding.{Minds}
+
+abbrev pub commit_of : OpenCommit → KnownCommit
+commit_of c = record {
+  branch = c.branch;
+  mark = number_or_0 c.mark;
+  author = c.author;
+  committer = c.committer;
+  encoding = c.encoding;
+  comment = c.comment;
+  parents = c.parents;
+  ops = c.ops;
+}
+
+abbrev pub open_of : Open → KnownOpen
+open_of Nothing = NoEvent
+open_of (Blob mark) = ABlob (number_or_0 mark)
+open_of (Commit c) = ACommit (commit_of c)
+open_of (Tag name target tagger) = ATag name target tagger
+open_of (Reset branch target) = AReset branch target
+
+-- the parents and the operations of the commit that is being read, if one is
+abbrev pub parents_in : Open → List ℕ
+parents_in (Commit c) = c.parents
+parents_in Nothing = []
+parents_in (Blob mark) = []
+parents_in (Tag name target tagger) = []
+parents_in (Reset branch target) = []
+
+abbrev pub ops_in : Open → List FileOp
+ops_in (Commit c) = c.ops
+ops_in Nothing = []
+ops_in (Blob mark) = []
+ops_in (Tag name target tagger) = []
+ops_in (Reset branch target) = []
+
+abbrev pub known_of : List PlainEvent → Open → Known
+known_of events current = record { events = events; current = open_of current }
+
+-- what is kept beside the events: the trees, and how many operations there are
+pub record IsBuilt (events : List PlainEvent) (current : Open) (trees : Trees) (ops : ℕ) : Type 0 where
+  pub minds : Minds trees events (parents_in current) (ops_in current)
+  pub counted : ops ≡ op_count (known_of events current)
+  pub within : ops ≤ MAX_OPERATIONS
+
+-- what is known once one more operation stands behind those of the commit that is being read
+abbrev pub with_op : List PlainEvent → KnownCommit → FileOp → Known
+with_op events c op = record { events = events; current = ACommit (record c { ops = c.ops ++ op ∷ [] }) }
+
+abbrev pub is_commit : KnownOpen → Bool
+is_commit (ACommit c) = true
+is_commit NoEvent = false
+is_commit (ABlob mark) = false
+is_commit (ATag name target tagger) = false
+is_commit (AReset branch target) = false
+
+-- what is known behind an operation with so many events that it brings along, unless it passes a limit
+abbrev pub behind_operation : ℕ → Result Known Why → Result Known (Cause Why Which)
+behind_operation more (Err why) = Err (Defect why)
+behind_operation more (Ok k) = within_limit (op_limit more k) k

@@ -1,0 +1,4 @@
+pub mod Building
+pub mod Minding
+pub mod Pushing
+pub mod Operating

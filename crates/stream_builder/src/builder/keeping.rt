@@ -1,0 +1,76 @@
+//! Who keeps the events while the lines of a stream are read.
+ghost use Rattle.std.specs.Prelude.{◌≡◌, OnOk};
+ghost use Rattle.stream_grammar.specs.Known.{with_data};
+
+use crate::builder::Builder;
+use crate::open::Open;
+use plain_model::{NoMemory, Text};
+use std::alloc::Global;
+use std::mem;
+use stream_grammar::Word;
+use stream_lines::{KeepsEvents, LineFault};
+
+impl Builder {
+    // The block behind a line of data: a blob's bytes, a comment, or an operation's content.
+    fn take_block(&mut self, inline: bool, bytes: Text) -> Result<(), NoMemory>
+        ensures { OnOk result (self.new ≡ with_data inline bytes self.old) }
+    {
+        match &mut self.current {
+            Open::Blob { mark } => {
+                let mark = *mark;
+                self.drafts.push_blob(mark, bytes)?;
+                self.current = Open::Nothing;
+            }
+            Open::Commit(commit) => {
+                if inline {
+                    self.drafts.push_blob(None, bytes)?;
+                } else {
+                    commit.comment = bytes;
+                }
+            }
+            Open::Tag { .. } => {
+                if let Open::Tag {
+                    name,
+                    target,
+                    tagger,
+                } = mem::replace(&mut self.current, Open::Nothing)
+                {
+                    self.drafts.push_tag(name, target, tagger, bytes)?;
+                }
+            }
+            _ => {}
+        }
+        Ok(())
+    }
+}
+
+impl KeepsEvents for Builder {
+    ghost known = { λ k. k };
+
+    fn judge(&mut self, alloc: Global, word: Word, line: &[u8]) -> Result<(), LineFault> {
+        match word {
+            Word::Blob => self.judge_blob(alloc, line),
+            Word::Commit => self.judge_commit(alloc, line),
+            Word::Tag => self.judge_tag(alloc, line),
+            Word::Reset => self.judge_reset(alloc, line),
+            Word::Mark => self.judge_mark(line),
+            Word::Author => self.judge_author(alloc, line),
+            Word::Committer => self.judge_committer(alloc, line),
+            Word::Encoding => self.judge_encoding(alloc, line),
+            Word::Tagger => self.judge_tagger(alloc, line),
+            Word::From => self.judge_from(alloc, line),
+            Word::Merge => self.judge_merge(alloc, line),
+            Word::Operation => self.judge_operation(alloc, line),
+            Word::InlineOperation => self.judge_inline_operation(alloc, line),
+            Word::Pass => self.judge_pass(alloc, line),
+            Word::FeatureDone => self.judge_feature_done(alloc, line),
+            Word::Empty | Word::Oid | Word::Data | Word::Done | Word::LeftOut | Word::Other => Ok(
+                (),
+            ),
+        }
+    }
+
+    fn land(&mut self, inline: bool, bytes: Text) -> Result<(), NoMemory> {
+        self.take_block(inline, bytes)
+    }
+}

@@ -1,0 +1,20 @@
+//! The trees that are known while a stream is read.
+use draft_trees::KnownTree;
+use path_tree::PathTree;
+
+/// The tree of the commit that is being read, where it was folded; none where an operation was refused.
+#[derive(Drop)]
+pub enum OpenTree {
+    NotFolded,
+    Folded(Option<PathTree>),
+}
+
+/// The tree of the commit that is being read, trees of the latest commits whose trees were folded, in the order of the commits,
+/// and a bound on the paths of every tree. No tree is folded before one is asked for, so a stream that asks for none costs
+/// none; and of several branches each goes on from a tree of its own.
+#[derive(Drop)]
+pub struct Trees {
+    pub kept: Vec<KnownTree>,
+    pub opened: OpenTree,
+    pub most: u64,
+}

@@ -1,0 +1,12 @@
+//! The events of a stream are built while its lines are read.
+#![tactic(auto)]
+
+mod builder;
+mod closing;
+mod known;
+mod open;
+mod operations;
+mod references;
+mod trees;
+
+pub use builder::Builder;

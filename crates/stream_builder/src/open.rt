@@ -1,0 +1,34 @@
+//! The event that is being read.
+use plain_model::{CommitId, Mark, OpList, ParentList, Signed, Text};
+
+/// A commit, as far as its lines were read.
+#[derive(Drop)]
+pub struct OpenCommit {
+    pub branch: Text,
+    pub mark: Option<Mark>,
+    pub author: Option<Signed>,
+    pub committer: Option<Signed>,
+    pub encoding: Option<Text>,
+    pub comment: Text,
+    pub parents: ParentList,
+    pub ops: OpList,
+}
+
+/// The event that is being read, if there is one. A tag's target is no commit before its line was read.
+#[derive(Drop)]
+pub enum Open {
+    Nothing,
+    Blob {
+        mark: Option<Mark>,
+    },
+    Commit(OpenCommit),
+    Tag {
+        name: Text,
+        target: CommitId,
+        tagger: Option<Signed>,
+    },
+    Reset {
+        branch: Text,
+        target: Option<CommitId>,
+    },
+}

@@ -1,0 +1,279 @@
+//! The trees are folded where an operation needs them.
+ghost use Rattle.std.specs.Prelude.{◌≡◌, ◌∷◌, ◌++◌, ℕ, List, [], IfOk, IfSome, OnErr, OnOk, Option, true};
+ghost use Rattle.plain_model.specs.declared.event.PlainEvent.{PlainEvent};
+ghost use Rattle.plain_model.specs.declared.operation.FileOp.{FileOp};
+ghost use Rattle.stream_grammar.specs.Known.{has_source, next_id, with_event};
+ghost use Rattle.plain_model.specs.Histories.{begun, nodes, tree};
+ghost use Rattle.plain_model.specs.Trees.{Tree};
+ghost use Rattle.stream_builder.specs.declared.known.OpenTree.TheVariants.{NotFolded};
+ghost use Rattle.stream_builder.specs.Minding.{
+  AreEarlier,
+  HasAtMost,
+  IsEarlier,
+  IsOpened,
+  Minds,
+  open_tree,
+};
+ghost use Rattle.stream_builder.specs.Pushing.{
+  Applies,
+  CanApply,
+  Pushes,
+  is_folded,
+  may_be_refused,
+  most_behind,
+};
+
+use crate::known::{OpenTree, Trees};
+use draft_trees::{KnownTree, folded, nearest, tree_of};
+use path_tree::{ApplyFault, PathTree};
+use plain_model::{CommitId, FileOp, MAX_KEPT_TREES, MAX_PATHS, NoMemory, Path, Steps};
+use std::alloc::Global;
+use std::mem;
+use stream_drafts::Drafts;
+use stream_lines::LineFault;
+
+// Marks the steps of the operations that are read.
+struct Reading;
+
+fn paths_of(tree: &Option<PathTree>) -> u64
+    ensures { HasAtMost result tree.now }
+{
+    match tree {
+        Some(tree) => tree.len() as u64,
+        None => 0,
+    }
+}
+
+fn may_be_refused(most: u64, op: &FileOp) -> bool
+    ensures { result ≡ may_be_refused most op.now }
+{
+    match op {
+        FileOp::Modify { .. } => most >= MAX_PATHS,
+        FileOp::Copy { .. } => true,
+        FileOp::Rename { .. } => true,
+        _ => false,
+    }
+}
+
+fn most_behind(most: u64, op: &FileOp) -> u64
+    ensures { result ≡ most_behind most op.now }
+{
+    match op {
+        FileOp::Modify { .. } => most.saturating_add(1),
+        _ => most,
+    }
+}
+
+// Applies an operation to a tree, if it is there, and tells how many paths there are then. What is refused for its source is
+// not told: then there is no tree.
+fn apply_to(tree: &mut Option<PathTree>, op: &FileOp) -> Result<u64, LineFault>
+    ensures { Applies op.now tree.old result tree.new }
+{
+    let mut steps: Steps<Reading> = Steps::new();
+    let Some(found) = tree else {
+        return Ok(0);
+    };
+    match found.apply(op, &mut steps) {
+        Ok(()) => Ok(found.len() as u64),
+        Err(ApplyFault::Memory) => Err(LineFault::Memory),
+        Err(ApplyFault::Limit { which, .. }) => Err(LineFault::Limit(which)),
+        Err(ApplyFault::MissingSource) => {
+            *tree = None;
+            Ok(0)
+        }
+    }
+}
+
+impl Trees {
+    /// Before the first event.
+    pub fn new(alloc: Global) -> Trees
+        ensures { Minds result [] [] [] }
+    {
+        Trees {
+            kept: Vec::new(alloc),
+            opened: OpenTree::NotFolded,
+            most: 0,
+        }
+    }
+
+    fn is_folded(&self) -> bool
+        ensures { result ≡ is_folded self.now.opened }
+    {
+        matches!(self.opened, OpenTree::Folded(_))
+    }
+
+    // Takes out the tree that stands nearest to a commit, so that it needn't be copied.
+    fn take_nearest(&mut self, drafts: &Drafts, commit: CommitId) -> Option<KnownTree>
+        requires { AreEarlier drafts.now self.old.kept.items }
+        ensures known { IfSome result (λ k. k.tree ≡ tree drafts.now k.commit) }
+        ensures earlier { AreEarlier drafts.now self.new.kept.items }
+        ensures same { (self.new.opened ≡ self.old.opened) × (self.new.most ≡ self.old.most) }
+    {
+        match nearest(drafts, self.kept.as_slice(), commit) {
+            Some(place) => Some(self.kept.remove(place)),
+            None => None,
+        }
+    }
+
+    // The tree on which a commit with these parents begins.
+    fn begun(
+        &mut self,
+        alloc: Global,
+        drafts: &Drafts,
+        parents: &[CommitId],
+    ) -> Result<Option<PathTree>, NoMemory>
+        requires { AreEarlier drafts.now self.old.kept.items }
+        ensures begun { IfOk result (λ made. made ≡ begun (tree drafts.now) parents.now) }
+        ensures earlier { AreEarlier drafts.now self.new.kept.items }
+        ensures same { (self.new.opened ≡ self.old.opened) × (self.new.most ≡ self.old.most) }
+    {
+        match parents {
+            [] => Ok(Some(PathTree::new(alloc)?)),
+            [first, ..] => {
+                let known = self.take_nearest(drafts, *first);
+                tree_of(alloc, drafts, known, *first)
+            }
+        }
+    }
+
+    /// Folds the tree of a commit with these parents and operations, if it isn't folded yet.
+    pub fn fold(
+        &mut self,
+        alloc: Global,
+        drafts: &Drafts,
+        parents: &[CommitId],
+        ops: &[FileOp],
+    ) -> Result<(), NoMemory>
+        requires { Minds self.old drafts.now parents.now ops.now }
+        ensures kept { Minds self.new drafts.now parents.now ops.now }
+        ensures folded { OnOk result (is_folded self.new.opened ≡ true) }
+    {
+        if self.is_folded() {
+            return Ok(());
+        }
+        let base = self.begun(alloc, drafts, parents)?;
+        let made = folded(ops, base)?;
+        self.most = self.most.max(paths_of(&made));
+        self.opened = OpenTree::Folded(made);
+        Ok(())
+    }
+
+    /// The commit has these parents and operations from now on.
+    pub fn turn_to(
+        &mut self,
+        alloc: Global,
+        drafts: &Drafts,
+        parents: &[CommitId],
+        ops: &[FileOp],
+    ) -> Result<(), NoMemory>
+        requires { AreEarlier drafts.now self.old.kept.items }
+        ensures ok { OnOk result ((p : List ℕ) → (o : List FileOp) → Minds self.old drafts.now p o →
+            Minds self.new drafts.now parents.now ops.now) }
+        ensures err { OnErr result ((p : List ℕ) → (o : List FileOp) → Minds self.old drafts.now p o →
+            Minds self.new drafts.now p o) }
+    {
+        if ops.is_empty() {
+            self.opened = OpenTree::NotFolded;
+            return Ok(());
+        }
+        let base = self.begun(alloc, drafts, parents)?;
+        let made = folded(ops, base)?;
+        self.most = self.most.max(paths_of(&made));
+        self.opened = OpenTree::Folded(made);
+        Ok(())
+    }
+
+    /// A commit begins, or another event.
+    pub fn forget(&mut self)
+        ensures gone { self.new.opened ≡ NotFolded }
+        ensures kept { (events : List PlainEvent) → (parents : List ℕ) → (ops : List FileOp) →
+            (others : List ℕ) → Minds self.old events parents ops → Minds self.new events others [] }
+    {
+        self.opened = OpenTree::NotFolded;
+    }
+
+    /// The tree of the commit that was read, which is over.
+    pub fn take(&mut self) -> OpenTree
+        ensures { (events : List PlainEvent) → (parents : List ℕ) → (ops : List FileOp) →
+            Minds self.old events parents ops →
+            Minds self.new events [] [] × IsOpened result (open_tree events parents ops)
+            × HasAtMost self.new.most (open_tree events parents ops) }
+    {
+        mem::replace(&mut self.opened, OpenTree::NotFolded)
+    }
+
+    // Keeps a tree behind the others; where there are too many, that of the oldest commit goes. Where memory is wanting, the
+    // tree isn't kept.
+    fn put(&mut self, known: KnownTree)
+        ensures earlier { (events : List PlainEvent) → AreEarlier events self.old.kept.items →
+            IsEarlier events known → AreEarlier events self.new.kept.items }
+        ensures same { (self.new.opened ≡ self.old.opened) × (self.new.most ≡ self.old.most) }
+    {
+        if self.kept.len() as u64 >= MAX_KEPT_TREES {
+            self.kept.remove(0);
+        }
+        let _ = self.kept.push(known);
+    }
+
+    /// A commit stands behind the other events, with its tree, if it was folded.
+    pub fn keep(&mut self, commit: CommitId, tree: OpenTree)
+        ensures { (events : List PlainEvent) → (e : PlainEvent) → (parents : List ℕ) →
+            (ops : List FileOp) → Minds self.old events [] [] →
+            IsOpened tree (open_tree events parents ops) →
+            HasAtMost self.old.most (open_tree events parents ops) →
+            nodes (e ∷ []) ≡ record { id = commit; parents = parents; ops = ops } ∷ [] →
+            commit ≡ next_id events → Minds self.new (with_event events e) [] [] }
+    {
+        if let OpenTree::Folded(tree) = tree {
+            self.put(KnownTree { commit, tree });
+        }
+    }
+
+    /// Whether the tree that was folded has something at or below the path.
+    pub fn has(&self, path: &Path) -> Result<bool, NoMemory>
+        requires { is_folded self.now.opened ≡ true }
+        ensures { IfOk result (λ there. (due : Option Tree) → IsOpened self.now.opened due →
+            there ≡ has_source path.now due) }
+    {
+        match &self.opened {
+            OpenTree::Folded(Some(tree)) => { Ok(!tree.entries_below(path)?.as_slice().is_empty()) }
+            _ => Ok(false),
+        }
+    }
+
+    // Applies an operation that can't be refused, or to the tree that was folded.
+    fn apply(&mut self, op: &FileOp) -> Result<(), LineFault>
+        ensures { (events : List PlainEvent) → (parents : List ℕ) → (ops : List FileOp) →
+            Minds self.old events parents ops → CanApply self.old op.now →
+            Pushes events parents ops op.now result self.new }
+    {
+        match &mut self.opened {
+            OpenTree::Folded(tree) => {
+                let paths = apply_to(tree, op)?;
+                self.most = self.most.max(paths);
+            }
+            OpenTree::NotFolded => {
+                self.most = most_behind(self.most, op);
+            }
+        }
+        Ok(())
+    }
+
+    /// Puts one more operation behind those of a commit with these parents, unless it passes a limit of trees.
+    pub fn push(
+        &mut self,
+        alloc: Global,
+        drafts: &Drafts,
+        parents: &[CommitId],
+        ops: &[FileOp],
+        op: &FileOp,
+    ) -> Result<(), LineFault>
+        requires { Minds self.old drafts.now parents.now ops.now }
+        ensures { Pushes drafts.now parents.now ops.now op.now result self.new }
+    {
+        if may_be_refused(self.most, op) {
+            self.fold(alloc, drafts, parents, ops)?;
+        }
+        self.apply(op)
+    }
+}
