@@ -1,0 +1,11 @@
+mod InStep
+mod TreeMapping
+mod Placed
+mod SoFar
+mod Operations
+mod Standings
+mod References
+mod Twins
+mod Steps
+mod Marks
+mod Replays
