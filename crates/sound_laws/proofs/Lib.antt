@@ -1,0 +1,13 @@
+mod Ids
+mod SoFar
+mod Marking
+mod Finished
+mod Carried
+mod FieldsRead
+mod OpsRead
+mod WordsRead
+mod Kept
+mod Changes
+mod LinesKept
+mod StreamKept
+mod Positions

@@ -1,0 +1,6 @@
+use Rattle.written_laws.proofs.Again.{again}
+use Rattle.sound_laws.proofs.StreamKept.{read_is_sound}
+use Rattle.sound_laws.proofs.laws.what_is_read_is_read_again.Goals as goal
+
+pub returns : goal.returns
+returns c = λ bytes events few is. again events (read_is_sound bytes events few is)
