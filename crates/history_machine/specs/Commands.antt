@@ -7,7 +7,8 @@ use Rattle.plain_model.specs.declared.event.PlainEvent.{PlainEvent}
 use Rattle.plain_model.specs.declared.limit.TheConstants.{MAX_STREAM_BYTES}
 use Rattle.plain_model.specs.declared.fault.Fault.{Fault}
 use Rattle.plain_model.specs.declared.fault.Fault.TheVariants as fault
-use Rattle.history_machine.specs.Loading.{file_within, stream_of, ◌>>=◌}
+use Rattle.stream_grammar.specs.Limits.{stream_of}
+use Rattle.history_machine.specs.Loading.{file_within, ◌>>=◌}
 use Rattle.history_machine.specs.Machine.{Turn}
 use Rattle.history_machine.specs.Scripts.{name_behind, word_of}
 use Rattle.history_machine.specs.declared.command.Command.{Command}
@@ -45,7 +46,7 @@ command_due s line = or_unknown line (command_in s line)
 
 -- ---- what each command does
 
--- the history of a file
+-- The history of a file: that of the stream that its bytes are, or the fault of that stream with its line or its limit.
 unfoldable pub loaded : Files → Bytes → Result (List PlainEvent) Fault
 loaded files name = file_within files name MAX_STREAM_BYTES >>= λ bytes. stream_of bytes
 

@@ -1,13 +1,10 @@
--- What a file gives that is read whole: its bytes, and the history that they spell.
-use Rattle.std.specs.Prelude.{ℕ, List, length, nat_lt, Option, Some, None, Result, Ok, Err, if◌then◌else◌}
+-- What a file gives that is read whole: its bytes, within a limit. (own)
+use Rattle.std.specs.Prelude.{ℕ, length, nat_lt, Option, Some, None, Result, Ok, Err, if◌then◌else◌}
 use Rattle.std.specs.FinMap.{get}
 use Rattle.plain_model.specs.Files.{Files}
 use Rattle.plain_model.specs.Paths.{Bytes}
-use Rattle.plain_model.specs.Reading.{read_of}
-use Rattle.plain_model.specs.declared.event.PlainEvent.{PlainEvent}
 use Rattle.plain_model.specs.declared.fault.Fault.{Fault}
 use Rattle.plain_model.specs.declared.fault.Fault.TheVariants as fault
-use Rattle.plain_model.specs.declared.fault.Why.TheVariants as defect
 
 -- a step behind one that may be refused
 infixl 10 ◌>>=◌
@@ -23,12 +20,3 @@ within name limit (Some bytes) = if nat_lt limit (length bytes) then Err (fault.
 -- the bytes of a file, which is there and within a limit
 abbrev pub file_within : Files → Bytes → ℕ → Result Bytes Fault
 file_within files name limit = within name limit (get files name)
-
--- a text that spells no history is refused at line 0, as left out
-abbrev pub or_bad_stream : Option (List PlainEvent) → Result (List PlainEvent) Fault
-or_bad_stream None = Err (fault.BadStream 0 defect.LeftOut)
-or_bad_stream (Some history) = Ok history
-
--- the history that a text spells
-unfoldable pub stream_of : Bytes → Result (List PlainEvent) Fault
-stream_of bytes = or_bad_stream (read_of bytes)

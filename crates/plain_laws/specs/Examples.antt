@@ -1,19 +1,14 @@
--- Small streams and histories, and what they show, written out.
+-- Small histories, their trees, and what is written of them, written out.
 use Rattle.std.specs.Prelude.{ℕ, false, List, [], ◌∷◌, flat_map, codes, Option, Some, None}
 use Rattle.plain_model.specs.declared.operation.Mode.TheVariants.{Plain}
 use Rattle.plain_model.specs.declared.operation.Content.TheVariants.{Blob as OfBlob}
 use Rattle.plain_model.specs.declared.operation.FileOp.{FileOp}
-use Rattle.plain_model.specs.declared.operation.FileOp.TheVariants.{Modify, Delete, Copy, Rename}
+use Rattle.plain_model.specs.declared.operation.FileOp.TheVariants.{Modify, Copy, Rename}
 use Rattle.plain_model.specs.declared.person.Signed.{Signed}
 use Rattle.plain_model.specs.declared.event.PlainEvent.{PlainEvent}
 use Rattle.plain_model.specs.declared.event.PlainEvent.TheVariants.{Blob, Commit, Reset}
-use Rattle.plain_model.specs.declared.raw.CutOp.TheVariants as rawop
-use Rattle.plain_model.specs.declared.raw.RawEvent.{RawEvent}
-use Rattle.plain_model.specs.declared.raw.RawEvent.TheVariants as raw
 use Rattle.plain_model.specs.Paths.{Bytes}
 use Rattle.plain_model.specs.Trees.{Tree}
-use Rattle.plain_model.specs.Snapshots.{Snapshot}
-use Rattle.plain_model.specs.Snapshots.ShownContent.{ShownBytes}
 use Rattle.plain_model.specs.Text.{line}
 
 -- ---- words
@@ -66,105 +61,6 @@ only path = Some ((path, record { mode = Plain; content = OfBlob 1 }) ∷ [])
 -- the three trees: of what stood in the way nothing is left
 abbrev pub file_folder_file : List (Option Tree)
 file_folder_file = only (codes "a") ∷ only (codes "a/b") ∷ only (codes "a") ∷ []
-
--- ---- a stream of a file that comes and goes
-
-abbrev pub stream_read : Bytes
-stream_read = lines (
-    codes "blob"
-    ∷ codes "mark :1"
-    ∷ codes "data 3"
-    ∷ codes "one"
-    ∷ codes "commit refs/heads/master"
-    ∷ codes "mark :2"
-    ∷ codes "committer A <a@x> 100 +0000"
-    ∷ codes "data 2"
-    ∷ codes "c1"
-    ∷ codes "M 100644 :1 f"
-    ∷ []
-    ∷ codes "commit refs/heads/master"
-    ∷ codes "mark :3"
-    ∷ codes "committer A <a@x> 200 +0000"
-    ∷ codes "data 2"
-    ∷ codes "c2"
-    ∷ codes "from :2"
-    ∷ codes "D f"
-    ∷ [])
-
--- the same as it is written: with authors, and an empty line behind each commit
-abbrev pub stream_written : Bytes
-stream_written = lines (
-    codes "blob"
-    ∷ codes "mark :1"
-    ∷ codes "data 3"
-    ∷ codes "one"
-    ∷ codes "commit refs/heads/master"
-    ∷ codes "mark :2"
-    ∷ codes "author A <a@x> 100 +0000"
-    ∷ codes "committer A <a@x> 100 +0000"
-    ∷ codes "data 2"
-    ∷ codes "c1"
-    ∷ codes "M 100644 :1 f"
-    ∷ []
-    ∷ codes "commit refs/heads/master"
-    ∷ codes "mark :3"
-    ∷ codes "author A <a@x> 200 +0000"
-    ∷ codes "committer A <a@x> 200 +0000"
-    ∷ codes "data 2"
-    ∷ codes "c2"
-    ∷ codes "from :2"
-    ∷ codes "D f"
-    ∷ []
-    ∷ [])
-
--- its events as they are spelled
-abbrev pub stream_spelled : List RawEvent
-stream_spelled =
-    raw.Blob 1 (codes "one")
-    ∷ raw.Commit master 2 None (someone_at 100) (codes "c1") None (rawop.Modify 1 (codes "f") ∷ [])
-    ∷ raw.Commit master 3 None (someone_at 200) (codes "c2") (Some 2) (rawop.Delete (codes "f") ∷ [])
-    ∷ []
-
--- its history
-abbrev pub stream_history : List PlainEvent
-stream_history =
-    Blob 1 1 (codes "one")
-    ∷ commit 2 2 100 (codes "c1") [] (put 1 (codes "f") ∷ [])
-    ∷ commit 3 3 200 (codes "c2") (2 ∷ []) (Delete (codes "f") ∷ [])
-    ∷ []
-
--- what it shows: the file in the first commit, nothing in the second, and master on the second
-abbrev pub stream_shown : Snapshot
-stream_shown = record {
-  commits =
-      record {
-        mark = 2;
-        branch = master;
-        author = someone_at 100;
-        committer = someone_at 100;
-        encoding = None;
-        comment = codes "c1";
-        parents = [];
-        tree = Some ((codes "f", record { mode = Plain; content = ShownBytes (codes "one") }) ∷ []);
-      }
-      ∷ record {
-        mark = 3;
-        branch = master;
-        author = someone_at 200;
-        committer = someone_at 200;
-        encoding = None;
-        comment = codes "c2";
-        parents = 2 ∷ [];
-        tree = Some [];
-      }
-      ∷ [];
-  tags = [];
-  refs = (master, 3) ∷ [];
-}
-
--- a blob whose data end too early
-abbrev pub stream_cut_off : Bytes
-stream_cut_off = lines (codes "blob" ∷ codes "mark :1" ∷ codes "data 9" ∷ codes "abc" ∷ [])
 
 -- ---- a second root on a branch
 

@@ -1,21 +1,11 @@
 //! Small examples of what the definitions say, computed by the checker.
-ghost use Rattle.std.specs.Prelude.{◌≡◌, [], ◌∷◌, map, Some, None};
+ghost use Rattle.std.specs.Prelude.{◌≡◌, [], ◌∷◌, map};
 ghost use Rattle.plain_model.specs.Histories.{tree};
-ghost use Rattle.plain_model.specs.Reading.{read_of};
-ghost use Rattle.plain_model.specs.Replay.{replay};
-ghost use Rattle.plain_model.specs.Snapshots.{snapshot};
-ghost use Rattle.plain_model.specs.Streams.{history};
 ghost use Rattle.plain_model.specs.Text.{text};
 ghost use Rattle.plain_laws.specs.Examples.{
   put_in_turn,
   moved_in_turn,
   file_folder_file,
-  stream_read,
-  stream_written,
-  stream_spelled,
-  stream_history,
-  stream_shown,
-  stream_cut_off,
   reset_before_root,
   root_on_a_tip,
   second_root_written,
@@ -26,19 +16,6 @@ ghost use Rattle.plain_laws.specs.Examples.{
 pub fn files_and_folders_give_way()
     ensures puts { map (tree put_in_turn) (2 ∷ 3 ∷ 4 ∷ []) ≡ file_folder_file }
     ensures moves { map (tree moved_in_turn) (2 ∷ 3 ∷ 4 ∷ []) ≡ file_folder_file }
-{}
-
-/// An example of a stream, from its bytes to the bytes that are written: read, looked up, written, replayed
-/// and shown.
-pub fn a_stream_goes_through()
-    ensures read { read_of stream_read ≡ Some stream_history }
-    ensures looked_up { history stream_spelled ≡ Some stream_history }
-    ensures written { text stream_history ≡ stream_written }
-    ensures replayed { replay stream_spelled ≡ stream_shown }
-    ensures shown { snapshot stream_history ≡ stream_shown }
-
-    // A stream whose last data are cut off has no history.
-    ensures cut_off { read_of stream_cut_off ≡ None }
 {}
 
 /// In an example a `reset` is written before a root on a branch that has a tip, and where the history has that

@@ -1,8 +1,6 @@
-//! Laws of trees and of the replay. A caller has a law by a call of its function.
-ghost use Rattle.std.specs.Prelude.{◌≡◌, ℕ, List, [], Some, IfOk, IsTrue};
-ghost use Rattle.plain_model.specs.declared.event.PlainEvent.{PlainEvent};
+//! Laws of trees. A caller has a law by a call of its function.
+ghost use Rattle.std.specs.Prelude.{◌≡◌, ℕ, [], Some, IfOk, IsTrue};
 ghost use Rattle.plain_model.specs.declared.operation.FileOp.{FileOp};
-ghost use Rattle.plain_model.specs.declared.raw.RawEvent.{RawEvent};
 ghost use Rattle.plain_model.specs.Histories.{
   Past,
   IsLinkedPast,
@@ -11,9 +9,6 @@ ghost use Rattle.plain_model.specs.Histories.{
   knows,
   tree_in,
 };
-ghost use Rattle.plain_model.specs.Replay.{replay};
-ghost use Rattle.plain_model.specs.Snapshots.{snapshot};
-ghost use Rattle.plain_model.specs.Streams.{history};
 ghost use Rattle.plain_model.specs.Trees.{Tree, IsTree, apply};
 ghost use Rattle.plain_laws.specs.FirstParents.{first_line, ops_along};
 
@@ -31,11 +26,4 @@ pub fn trees_come_from_first_parents()
 
     // A past in which each commit has a tree is such a past.
     ensures sound { (past : Past) → IsSoundPast past → IsLinkedPast past }
-{}
-
-/// A replay of a stream by plain path maps, which knows no ids and no histories, gives what the stream's
-/// history shows.
-pub fn replay_gives_the_snapshot()
-    ensures { (raws : List RawEvent) (events : List PlainEvent) → history raws ≡ Some events →
-        replay raws ≡ snapshot events }
 {}

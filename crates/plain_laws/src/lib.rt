@@ -4,5 +4,5 @@
 mod examples;
 mod laws;
 
-pub use examples::{a_root_is_reset_once, a_stream_goes_through, files_and_folders_give_way};
-pub use laws::{operations_keep_trees, replay_gives_the_snapshot, trees_come_from_first_parents};
+pub use examples::{a_root_is_reset_once, files_and_folders_give_way};
+pub use laws::{operations_keep_trees, trees_come_from_first_parents};

@@ -1,16 +1,10 @@
-//! Streams of the first cut are read into histories.
+//! A whole stream is read to its history, or to the fault of its first line that is refused.
 #![tactic(auto)]
 
-mod events;
-mod fault;
-mod fields;
-mod index;
-mod known;
-mod places;
 mod reader;
 
-pub use fault::ReadFault;
 pub use reader::read_stream;
+pub use stream_lines::ReadFault;
 
 #[cfg(test)]
 mod tests;

@@ -1,16 +1,16 @@
 -- Runs that only print, and runs that haven't begun.
-use Rattle.std.proofs.Common.{◌≡◌, ◌⊎◌, ◌≢◌, inl, inr, ℕ, zero, suc, List, [], ◌∷◌, ◌++◌, Option, Some, None, Result, Ok, Err, take, refl, sym, ap, subst, ◌∙◌, append-nil, ◌≤◌, arith}
+use Rattle.std.proofs.Common.{◌≡◌, inl, ℕ, zero, List, [], ◌∷◌, ◌++◌, Option, Some, None, Result, Err, refl, sym, subst, append-nil, arith}
 use Rattle.std.specs.Prelude.{IfSome, IsSome}
 use Rattle.plain_model.specs.Files.{Files}
-use Rattle.history_machine.specs.Machine.{World, Turn, Run, sent, after, PartSent, Stands, Breaks, BreaksAfter}
+use Rattle.history_machine.specs.Machine.{World, Turn, Run, sent, PartSent, Stands, BreaksAfter}
 use Rattle.history_machine.specs.Whole.{only_prints, run_read, unread, unread_status}
 use Rattle.plain_model.specs.declared.fault.Fault.{Fault}
 use Rattle.plain_model.specs.declared.fault.Fault.TheVariants as fault
 use Rattle.plain_model.specs.declared.status.Status.{Status}
 use Rattle.plain_model.specs.declared.status.Status.TheVariants as status
 use Rattle.history_machine.proofs.Runs.{IsBreak, stands_broken}
-use Rattle.surgeon_store.specs.Outside.{StoreState, SinkState, Rose, Reads}
-use Rattle.file_calls.specs.Calls.{world, world_of, Later, CausedEnd}
+use Rattle.surgeon_store.specs.Outside.{StoreState, SinkState, Reads}
+use Rattle.file_calls.specs.Calls.{world, world_of, Later}
 use Rattle.surgeon_store.specs.Outside.{Puts, PutsSome}
 use Rattle.file_calls.proofs.Rounds.{mapped, printed_world, some_printed_world}
 

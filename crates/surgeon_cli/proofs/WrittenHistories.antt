@@ -1,43 +1,42 @@
--- What a run writes into a file is the text of a history, and is read again as it.
-use Rattle.std.proofs.Common.{◌≡◌, ℕ, ◌<◌, ◌≤◌, ◌^◌, Bool, true, false, cond, List, [], ◌∷◌, ◌++◌, length, Option, Some, None, Result, Ok, Err, refl, sym, subst, ap, ◌∙◌, arith, nat_lt}
-use Rattle.std.specs.Prelude.{IfSome, if◌then◌else◌, codes}
+-- What a run writes into a file is the text of a history: it is read again as it, and its replay shows the same.
+use Rattle.std.proofs.Common.{◌≡◌, ℕ, ◌<◌, ◌≤◌, ◌^◌, Bool, true, false, cond, List, [], ◌∷◌, length, Option, Some, None, Result, Ok, Err, refl, subst, arith, nat_lt}
+use Rattle.std.specs.Prelude.{if◌then◌else◌}
 use Rattle.std.specs.List.{AllByRecursion}
 use Rattle.std.specs.FinMap.{get}
-use Rattle.std.proofs.lemmas.Bool.{cases_Bool}
 use Rattle.std.proofs.lemmas.Bool.Decides.{nat_tests}
 use Rattle.plain_model.specs.declared.event.PlainEvent.{PlainEvent}
 use Rattle.plain_model.specs.declared.fault.Fault.{Fault}
 use Rattle.plain_model.specs.declared.fault.Fault.TheVariants as fault
 use Rattle.plain_model.specs.declared.limit.TheConstants.{MAX_STREAM_BYTES, MAX_SCRIPT_BYTES}
-use Rattle.plain_model.specs.declared.raw.RawEvent.{RawEvent}
 use Rattle.plain_model.specs.declared.status.Status.{Status}
 use Rattle.plain_model.specs.declared.status.Status.TheVariants as status
 use Rattle.plain_model.specs.Files.{Files}
 use Rattle.plain_model.specs.Paths.{Bytes}
-use Rattle.plain_model.specs.Reading.{read_of}
-use Rattle.plain_model.specs.Replay.{replay, Shows}
 use Rattle.plain_model.specs.Snapshots.{snapshot}
-use Rattle.plain_model.specs.Spelling.{Reads}
-use Rattle.plain_model.specs.Streams.{history}
 use Rattle.plain_model.specs.Text.{text}
+use Rattle.stream_grammar.specs.Limits.{stream_of}
+use Rattle.stream_grammar.specs.Lines.{history_in}
+use Rattle.stream_replay.specs.Replay.{replay_in}
+use Rattle.stream_replay.specs.Shows.{Shows}
+use Rattle.written_laws.specs.AsRead.{IsAsRead}
 use Rattle.history_machine.specs.Commands.{Session, command_due, line_step, loaded, read_done, step, write_done}
-use Rattle.history_machine.specs.Loading.{◌>>=◌, file_within, or_bad_stream, stream_of, within}
+use Rattle.history_machine.specs.Loading.{◌>>=◌, file_within, within}
 use Rattle.history_machine.specs.Machine.{Run, Turn, goes_on, run_on, status_after, turn_of, files_after}
 use Rattle.history_machine.specs.Scripts.{script_of}
-use Rattle.history_machine.specs.Whole.{run, run_named, run_read, script_run}
+use Rattle.history_machine.specs.Whole.{run, run_named, run_read}
 use Rattle.history_machine.specs.declared.command.Command.{Command}
 use Rattle.history_machine.specs.declared.command.Command.TheVariants as command
 use Rattle.history_machine.specs.declared.script.ScriptItem.{ScriptItem}
 use Rattle.surgeon_cli.specs.Headline.{WritesHistory, WritesHistories}
 
--- the history that is held was read from a stream
-abbrev WasRead : Session → Type 0
-WasRead None = Unit {0}
-WasRead (Some events) = (t : Bytes) × (length t < 10 ^ 64) × Reads t events
+-- the history that is held, if there is one, is such as reading gives it
+abbrev HoldsAsRead : Session → Type 0
+HoldsAsRead None = Unit {0}
+HoldsAsRead (Some events) = IsAsRead events
 
--- a command that is done writes a history or no file, and holds what was read
+-- a command that is done writes a history or no file, and holds a history such as reading gives it
 abbrev GoesWell : Result (Turn Session) Fault → Type 0
-GoesWell (Ok t) = WritesHistory t × WasRead t.session
+GoesWell (Ok t) = WritesHistory t × HoldsAsRead t.session
 GoesWell (Err fault) = Unit {0}
 
 -- what a step gives behind one that may be refused
@@ -60,44 +59,38 @@ within_limit : (name : Bytes) (limit : ℕ) (found : Option Bytes) (bytes : Byte
 within_limit name limit None bytes h = absurd cc
 within_limit name limit (Some held) bytes h = kept_within limit held bytes (fault.TooLong name limit) (nat_lt limit (length held)) refl h
 
-spelled : (o : Option (List PlainEvent)) (events : List PlainEvent) → or_bad_stream o ≡ Ok events → o ≡ Some events
-spelled None events h = absurd cc
-spelled (Some held) events h = cc
-
--- a text that is in the way of a step
+-- what is done behind a step that may be refused had its value
 done_first : {A B : Type 0} (r : Result A Fault) (f : A → Result B Fault) (y : B) → (r >>= f) ≡ Ok y → (x : A) × (r ≡ Ok x) × (f x ≡ Ok y)
 done_first (Ok x) f y h = (x, refl, h)
 done_first (Err why) f y h = absurd cc
 
 module _
-    (found : (t : List ℕ) (events : List PlainEvent) → read_of t ≡ Some events → Reads t events)
-    (again : (t : List ℕ) (events : List PlainEvent) → length t < 10 ^ 64 → Reads t events → Reads (text events) events)
-    (replayed : (raws : List RawEvent) (events : List PlainEvent) → history raws ≡ Some events → replay raws ≡ snapshot events)
+    (sound : (bytes : List ℕ) (events : List PlainEvent) → length bytes < 10 ^ 64 → stream_of bytes ≡ Ok events → IsAsRead events)
+    (again : (events : List PlainEvent) → IsAsRead events → history_in (text events) ≡ Some events)
+    (replayed : (bytes : List ℕ) (events : List PlainEvent) → history_in bytes ≡ Some events → replay_in bytes ≡ Some (snapshot events))
   where
-    shown : (events : List PlainEvent) → WasRead (Some events) → Shows (text events) events
-    shown events r =
-        let reads = again r.0 events r.1 r.2 in
-        (reads.0, reads.1, reads.2, replayed reads.0 events reads.2)
+    shown : (events : List PlainEvent) → IsAsRead events → Shows (text events) events
+    shown events as_read = (again events as_read, replayed (text events) events (again events as_read))
 
-    was_read : (files : Files) (name : Bytes) (events : List PlainEvent) → loaded files name ≡ Ok events → WasRead (Some events)
-    unfolding loaded stream_of
-    was_read files name events h =
+    loaded_as_read : (files : Files) (name : Bytes) (events : List PlainEvent) → loaded files name ≡ Ok events → IsAsRead events
+    unfolding loaded
+    loaded_as_read files name events h =
         let first = done_first (file_within files name MAX_STREAM_BYTES) stream_of events h in
         let bytes = first.0 in
-        (bytes, small (length bytes) (within_limit name MAX_STREAM_BYTES (get files name) bytes first.1), found bytes events (spelled (read_of bytes) events first.2))
+        sound bytes events (small (length bytes) (within_limit name MAX_STREAM_BYTES (get files name) bytes first.1)) first.2
 
-    step_goes_well : (s : Session) (files : Files) (c : Command) → WasRead s → GoesWell (step s files c)
+    step_goes_well : (s : Session) (files : Files) (c : Command) → HoldsAsRead s → GoesWell (step s files c)
     unfolding step read_done write_done
-    step_goes_well s files (command.Read name) r = goes_well_behind (loaded files name) _ (λ events h. (tt, was_read files name events h))
+    step_goes_well s files (command.Read name) r = goes_well_behind (loaded files name) _ (λ events h. (tt, loaded_as_read files name events h))
     step_goes_well None files (command.Write name) r = tt
     step_goes_well (Some events) files (command.Write name) r = ((events, refl, shown events r), r)
 
-    line_goes_well : (s : Session) (files : Files) (line : Bytes) → WasRead s → GoesWell (line_step s files line)
+    line_goes_well : (s : Session) (files : Files) (line : Bytes) → HoldsAsRead s → GoesWell (line_step s files line)
     unfolding line_step
     line_goes_well s files line r = goes_well_behind (command_due s line) (step s files) (λ c h. step_goes_well s files c r)
 
     -- the turn of a line that goes well, or of its refusal
-    turn_goes_well : (s : Session) (line : ℕ) (due : Result (Turn Session) Fault) → WasRead s → GoesWell due → WritesHistory (turn_of s line due) × WasRead (turn_of s line due).session
+    turn_goes_well : (s : Session) (line : ℕ) (due : Result (Turn Session) Fault) → HoldsAsRead s → GoesWell due → WritesHistory (turn_of s line due) × HoldsAsRead (turn_of s line due).session
     turn_goes_well s line (Ok t) r well = well
     turn_goes_well s line (Err fault) r well = (tt, r)
 
@@ -105,7 +98,7 @@ module _
     cut_or_not true more less m l = m
     cut_or_not false more less m l = l
 
-    lines_go_well : (keep : Bool) (so_far : Status) (s : Session) (files : Files) (items : List ScriptItem) → WasRead s → AllByRecursion WritesHistory (run_on line_step keep so_far s files items).turns
+    lines_go_well : (keep : Bool) (so_far : Status) (s : Session) (files : Files) (items : List ScriptItem) → HoldsAsRead s → AllByRecursion WritesHistory (run_on line_step keep so_far s files items).turns
     lines_go_well keep so_far s files [] r = tt
     lines_go_well keep so_far s files (item ∷ items) r =
         let due = line_step s files item.text in

@@ -1,16 +1,16 @@
 -- What the top call promises, over a store that tells its files and a sink that tells what was written.
-use Rattle.std.specs.Prelude.{◌≡◌, ◌≢◌, List, map, Option, Some, None, IfSome}
+use Rattle.std.specs.Prelude.{◌≡◌, ◌≢◌, List, None, IfSome}
 use Rattle.std.specs.List.{AllByRecursion}
 use Rattle.plain_model.specs.declared.event.PlainEvent.{PlainEvent}
 use Rattle.plain_model.specs.declared.status.Status.{Status}
 use Rattle.plain_model.specs.declared.status.Status.TheVariants as status
 use Rattle.plain_model.specs.Paths.{Bytes}
 use Rattle.plain_model.specs.Files.{Files}
-use Rattle.plain_model.specs.Replay.{Shows}
 use Rattle.plain_model.specs.Text.{text}
+use Rattle.stream_replay.specs.Shows.{Shows}
 use Rattle.surgeon_store.specs.Outside.{StoreState, SinkState}
 use Rattle.history_machine.specs.Commands.{Session}
-use Rattle.history_machine.specs.Machine.{World, Turn, Completes, Stands}
+use Rattle.history_machine.specs.Machine.{Turn, Completes, Stands}
 use Rattle.history_machine.specs.Scripts.{script_of}
 use Rattle.history_machine.specs.Whole.{run}
 use Rattle.file_calls.specs.Calls.{NoFaults, world}
@@ -25,7 +25,8 @@ abbrev pub Succeeds : List Bytes → StoreState → SinkState → Status → Sto
 Succeeds words s k answer s' k' =
     NoFaults s k s' k' → answer ≢ status.Memory → IfSome (world s k) (λ w. IfSome (world s' k') (λ now. Completes (run words w.files) answer w now))
 
--- what a command writes into a file is the text of a history, and a replay of it by plain path maps shows that history
+-- what a command writes into a file is the text of a history: it is read again as it, and a replay of it by plain maps
+-- shows what that history shows
 abbrev pub WritesHistory : Turn Session → Type 0
 WritesHistory t = IfSome t.to (λ name. (history : List PlainEvent) × (t.bytes ≡ text history) × Shows t.bytes history)
 

@@ -1,7 +1,7 @@
 //! One command.
 ghost use Rattle.std.specs.Prelude.{◌≡◌, IfSome, Some};
 ghost use Rattle.surgeon_store.specs.Outside.{Reads};
-ghost use Rattle.history_machine.specs.Loading.{stream_of};
+ghost use Rattle.stream_grammar.specs.Limits.{stream_of};
 ghost use Rattle.history_machine.specs.Machine.{World};
 ghost use Rattle.history_machine.specs.Commands.{loaded, read_done, write_done, step, line_step};
 ghost use Rattle.file_calls.specs.Calls.{
@@ -19,12 +19,12 @@ use file_calls::{Halted, read_file, write_text};
 use history_machine::{Command, FileName};
 use plain_model::{EventList, Fault, MAX_STREAM_BYTES, PlainEvent};
 use std::alloc::Global;
-use stream_reader::{ReadFault, read_stream};
+use stream_lines::ReadFault;
+use stream_reader::read_stream;
 use stream_writer::text_of;
 use surgeon_store::{Sink, Store};
 
-// The history that a text spells.
-#[tactic(auto, unfolding(history_machine::specs::Loading::stream_of))]
+// The history of a stream.
 fn history_of(alloc: Global, text: &[u8]) -> Result<EventList, Halted>
     ensures { GivesAlone (λ history. history) result (stream_of text.now) }
 {
@@ -33,6 +33,10 @@ fn history_of(alloc: Global, text: &[u8]) -> Result<EventList, Halted>
         Err(ReadFault::BadStream { line, why }) => {
             Err(Halted::Refused(Fault::BadStream { line, why }))
         }
+        Err(ReadFault::Limit { which, number }) => {
+            Err(Halted::Refused(Fault::Limit { which, number }))
+        }
+        Err(ReadFault::MarksSpent) => Err(Halted::Refused(Fault::MarksSpent)),
         Err(ReadFault::Memory) => Err(Halted::Memory),
     }
 }

@@ -11,8 +11,125 @@ const STREAM: &[u8] =
 const WRITTEN: &[u8] =
     b"blob\nmark :1\ndata 3\none\ncommit refs/heads/master\nmark :2\nauthor A <a@x> 100 +0000\ncommitter A <a@x> 100 +0000\ndata 2\nc1\nM 100644 :1 f\n\ncommit refs/heads/master\nmark :3\nauthor A <a@x> 200 +0000\ncommitter A <a@x> 200 +0000\ndata 2\nc2\nfrom :2\nD f\n\n";
 
-const SHORT_MODE: &[u8] =
-    b"blob\nmark :1\ndata 1\nx\ncommit refs/heads/master\nmark :2\ncommitter A <a@x> 1 +0000\ndata 0\nM 644 :1 f\n";
+// Each kind of event and of operation, with marks, people and paths in forms that are written otherwise.
+const WHOLE: &[u8] = b"feature done
+# by hand
+blob
+mark :1
+original-oid 1
+data <<END
+one
+END
+commit refs/heads/main
+mark :2
+committer Ann <a@x> 0100 +0000
+data 2
+c1
+M 644 :1 d/f
+M 755 inline \"a\\040b\"
+data 3
+two
+reset refs/heads/side
+from :2
+
+commit refs/heads/side
+mark :04
+author Bob <> 200 -0330
+committer Ann <a@x> 200 +0000
+encoding latin1
+data 3
+c2
+R d e
+C e/f \"g\\\"h\"
+commit refs/heads/main
+committer Ann <a@x> 300 +0000
+data 2
+c3
+merge refs/heads/side
+R \"a b\" \"\\\"q\"
+tag v1
+from refs/heads/main
+tagger Ann <a@x> 301 +0000
+data 4
+one
+
+progress half  way
+reset refs/heads/side
+commit refs/heads/side
+mark :9
+committer Ann <a@x> 400 +0000
+data 2
+c4
+M 120000 :1 l
+deleteall
+M 160000 0123456789abcdef0123456789abcdef01234567 sub
+done
+this is not read";
+
+// The blob behind an operation and the merge have no marks, so theirs follow the greatest mark, which is 9.
+const WHOLE_WRITTEN: &[u8] = b"feature done
+blob
+mark :1
+data 4
+one
+
+blob
+mark :10
+data 3
+two
+commit refs/heads/main
+mark :2
+author Ann <a@x> 100 +0000
+committer Ann <a@x> 100 +0000
+data 2
+c1
+M 100644 :1 d/f
+M 100755 :10 a b
+
+reset refs/heads/side
+from :2
+commit refs/heads/side
+mark :4
+author Bob <> 200 -0330
+committer Ann <a@x> 200 +0000
+encoding latin1
+data 3
+c2
+
+from :2
+R d e
+C e/f g\"h
+
+commit refs/heads/main
+mark :11
+author Ann <a@x> 300 +0000
+committer Ann <a@x> 300 +0000
+data 2
+c3
+from :2
+merge :4
+R \"a b\" \"\\\"q\"
+
+tag v1
+from :11
+tagger Ann <a@x> 301 +0000
+data 4
+one
+
+progress half  way
+reset refs/heads/side
+commit refs/heads/side
+mark :9
+author Ann <a@x> 400 +0000
+committer Ann <a@x> 400 +0000
+data 2
+c4
+M 120000 :1 l
+deleteall
+M 160000 0123456789abcdef0123456789abcdef01234567 sub
+
+done
+";
 
 fn entry(alloc: Global, name: &str, bytes: &[u8]) -> Result<FileEntry, Fail> {
     Ok(FileEntry {
@@ -25,7 +142,6 @@ fn files(alloc: Global, script: &[u8]) -> Result<FileList, Fail> {
     let mut files = Items::new(alloc)?;
     files.push(entry(alloc, "s", script)?)?;
     files.push(entry(alloc, "a.fi", STREAM)?)?;
-    files.push(entry(alloc, "m.fi", SHORT_MODE)?)?;
     files.push(entry(alloc, "e.fi", b"")?)?;
     Ok(files)
 }
@@ -52,23 +168,200 @@ fn is_as_wanted(text: Option<&Text>, want: Option<&[u8]>) -> bool {
     }
 }
 
+fn copy_of(alloc: Global, text: Option<&Text>) -> Result<Option<Text>, Fail> {
+    match text {
+        Some(text) => Ok(Some(Items::of(alloc, text.as_slice())?)),
+        None => Ok(None),
+    }
+}
+
+// How a run ends, what it prints, and what stands in the file `b.fi` then.
+#[derive(Drop)]
+struct Ending {
+    status: Status,
+    printed: Text,
+    written: Option<Text>,
+}
+
+// A run of these words over these files.
+fn run_over(alloc: Global, files: FileList, words: &[String]) -> Result<Ending, Fail> {
+    let mut store = SureStore::new(alloc, files)?;
+    let mut out = SureSink::new(alloc)?;
+    let status = surgeon(alloc, words, &mut store, &mut out);
+    Ok(Ending {
+        status,
+        printed: Items::of(alloc, out.written().as_slice())?,
+        written: copy_of(alloc, store.file("b.fi"))?,
+    })
+}
+
+fn run_script(alloc: Global, script: &[u8], given: &[&str]) -> Result<Ending, Fail> {
+    let words = words(alloc, given)?;
+    run_over(alloc, files(alloc, script)?, &words)
+}
+
+// `read` and `write` of a stream.
+fn read_and_written(alloc: Global, stream: &[u8]) -> Result<Ending, Fail> {
+    let words = words(alloc, &["s"])?;
+    let mut files = Items::new(alloc)?;
+    files.push(entry(alloc, "s", b"read <x.fi\nwrite >b.fi\n")?)?;
+    files.push(entry(alloc, "x.fi", stream)?)?;
+    run_over(alloc, files, &words)
+}
+
+// A run of which these calls of the store, or these of the sink, fail.
+fn run_failing(
+    alloc: Global,
+    script: &[u8],
+    given: &[&str],
+    of_store: &[u64],
+    of_sink: &[u64],
+) -> Result<Ending, Fail> {
+    let words = words(alloc, given)?;
+    let mut store = MemoryStore::new(alloc, files(alloc, script)?, numbers(alloc, of_store)?)?;
+    let mut out = MemorySink::new(alloc, numbers(alloc, of_sink)?)?;
+    let status = surgeon(alloc, &words, &mut store, &mut out);
+    Ok(Ending {
+        status,
+        printed: Items::of(alloc, out.written().as_slice())?,
+        written: copy_of(alloc, store.file("b.fi"))?,
+    })
+}
+
 #[test]
 fn a_stream_is_read_and_written_in_the_form_of_the_project(rt: HostRuntime) -> Result<(), Fail> {
     let alloc = rt.alloc();
-    let mut store = SureStore::new(alloc, files(alloc, b"read <a.fi\nwrite >b.fi\n")?)?;
-    let mut out = SureSink::new(alloc)?;
-    let words = words(alloc, &["s"])?;
-    assert_eq!(rt; surgeon(alloc, &words, &mut store, &mut out), Status::Done);
-    assert!(rt; is_as_wanted(store.file("b.fi"), Some(WRITTEN)));
-    assert!(rt; is_as_wanted(store.file("a.fi"), Some(STREAM)));
-    assert!(rt; out.written().as_slice().is_empty());
+    let rows: [(&str, &[u8], &[u8]); 5] = [
+        ("two commits", STREAM, WRITTEN),
+        ("what was written of them", WRITTEN, WRITTEN),
+        ("all kinds of events and operations", WHOLE, WHOLE_WRITTEN),
+        ("what was written of these", WHOLE_WRITTEN, WHOLE_WRITTEN),
+        ("an empty stream", b"", b""),
+    ];
+    for (what, stream, written) in rows {
+        let ending = read_and_written(alloc, stream)?;
+        assert_eq!(rt; ending.status, Status::Done, "{what}");
+        assert!(rt; ending.printed.as_slice().is_empty(), "{what}");
+        assert!(rt;
+            is_as_wanted(ending.written.as_ref(), Some(written)),
+            "{what}"
+        );
+    }
+    Ok(())
+}
+
+#[test]
+fn a_stream_that_is_not_read_is_refused_with_its_first_line(rt: HostRuntime) -> Result<(), Fail> {
+    let alloc = rt.alloc();
+    let rows: [(&str, &[u8], &[u8]); 8] = [
+        (
+            "no event",
+            b"hello\n",
+            b"surgeon: line 1: refused 10 BadStream line=1 why=UnknownLine\n",
+        ),
+        (
+            "a mode that git has not",
+            b"blob\nmark :1\ndata 1\nx\ncommit m\ncommitter A <a@x> 1 +0000\ndata 0\nM 100664 :1 f\n",
+            b"surgeon: line 1: refused 10 BadStream line=8 why=BadMode\n",
+        ),
+        (
+            "comments, empty lines and lines of data count",
+            b"# c\n\nblob\ndata 4\na\nb\n\nmerge :1\n",
+            b"surgeon: line 1: refused 10 BadStream line=8 why=UnknownLine\n",
+        ),
+        (
+            "a merge of a commit that isn't there",
+            b"commit m\ncommitter A <a@x> 1 +0000\ndata 0\nmerge :7\nD f\n",
+            b"surgeon: line 1: refused 10 BadStream line=4 why=UnknownMark\n",
+        ),
+        (
+            "a rename of a file that isn't there",
+            b"commit m\ncommitter A <a@x> 1 +0000\ndata 0\nR f g\n",
+            b"surgeon: line 1: refused 10 BadStream line=4 why=MissingSource\n",
+        ),
+        (
+            "the end comes too early",
+            b"commit m\n",
+            b"surgeon: line 1: refused 10 BadStream line=2 why=Truncated\n",
+        ),
+        (
+            "a form of git's that isn't read",
+            b"reset m\nfrom m~1\n",
+            b"surgeon: line 1: refused 10 BadStream line=2 why=LeftOut\n",
+        ),
+        (
+            "no mark is left",
+            b"blob\nmark :4294967295\ndata 0\nblob\ndata 0\n",
+            b"surgeon: line 1: refused 61 MarksSpent\n",
+        ),
+    ];
+    for (what, stream, printed) in rows {
+        let ending = read_and_written(alloc, stream)?;
+        assert_eq!(rt; ending.status, Status::Refused, "{what}");
+        assert!(rt; ending.printed.as_slice() == printed, "{what}");
+        assert!(rt; ending.written.is_none(), "{what}");
+    }
+    Ok(())
+}
+
+// So many commits in a row, of four lines each, and a commit of three lines, with a line `merge` for each of the
+// others behind them.
+fn merge_of(alloc: Global, commits: u64) -> Result<Text, Fail> {
+    let mut stream: Text = Items::new(alloc)?;
+    for before in 0..commits {
+        stream.push_all(b"commit b\nmark :")?;
+        stream.push_number(before + 1)?;
+        stream.push_all(b"\ncommitter A <a@x> 1 +0000\ndata 0\n")?;
+    }
+    stream.push_all(b"commit m\ncommitter A <a@x> 2 +0000\ndata 0\n")?;
+    for before in 0..commits {
+        stream.push_all(b"merge :")?;
+        stream.push_number(before + 1)?;
+        stream.push(b'\n')?;
+    }
+    Ok(stream)
+}
+
+// `merge_of` so many commits, with more behind it.
+fn merge_read(alloc: Global, commits: u64, more: &[u8]) -> Result<Ending, Fail> {
+    let mut stream = merge_of(alloc, commits)?;
+    stream.push_all(more)?;
+    read_and_written(alloc, stream.as_slice())
+}
+
+#[test]
+fn a_commit_has_64_parents_at_most(rt: HostRuntime) -> Result<(), Fail> {
+    let alloc = rt.alloc();
+    let rows: [(&str, u64, &[u8], Status, &[u8]); 4] = [
+        ("64 parents", 64, b"", Status::Done, b""),
+        ("a parent twice", 64, b"merge :64\n", Status::Done, b""),
+        (
+            "65 parents",
+            65,
+            b"",
+            Status::Refused,
+            b"surgeon: line 1: refused 60 Limit which=Parents number=64\n",
+        ),
+        (
+            "a defect in the line that is one too many",
+            64,
+            b"merge :65\n",
+            Status::Refused,
+            b"surgeon: line 1: refused 10 BadStream line=324 why=UnknownMark\n",
+        ),
+    ];
+    for (what, commits, more, status, printed) in rows {
+        let ending = merge_read(alloc, commits, more)?;
+        assert_eq!(rt; ending.status, status, "{what}");
+        assert!(rt; ending.printed.as_slice() == printed, "{what}");
+    }
     Ok(())
 }
 
 #[test]
 fn a_script_ends_with_its_status_and_its_line(rt: HostRuntime) -> Result<(), Fail> {
     let alloc = rt.alloc();
-    let rows: [(&str, &[u8], Status, &[u8]); 12] = [
+    let rows: [(&str, &[u8], Status, &[u8]); 11] = [
         ("no line", b"", Status::Done, b""),
         ("a line that no LF ends", b"read <a.fi", Status::Done, b""),
         (
@@ -125,23 +418,11 @@ fn a_script_ends_with_its_status_and_its_line(rt: HostRuntime) -> Result<(), Fai
             Status::Refused,
             b"surgeon: line 1: refused 11 Absent name=none\n",
         ),
-        (
-            "a mode of three digits",
-            b"read <m.fi\nwrite >b\n",
-            Status::Refused,
-            b"surgeon: line 1: refused 10 BadStream line=0 why=LeftOut\n",
-        ),
     ];
     for (what, script, status, printed) in rows {
-        let mut store = SureStore::new(alloc, files(alloc, script)?)?;
-        let mut out = SureSink::new(alloc)?;
-        let words = words(alloc, &["s"])?;
-        assert_eq!(rt;
-            surgeon(alloc, &words, &mut store, &mut out),
-            status,
-            "{what}"
-        );
-        assert!(rt; out.written().as_slice() == printed, "{what}");
+        let ending = run_script(alloc, script, &["s"])?;
+        assert_eq!(rt; ending.status, status, "{what}");
+        assert!(rt; ending.printed.as_slice() == printed, "{what}");
     }
     Ok(())
 }
@@ -174,31 +455,19 @@ fn a_command_line_ends_with_its_status_and_its_line(rt: HostRuntime) -> Result<(
         ),
     ];
     for (what, given, status, printed) in rows {
-        let mut store = SureStore::new(alloc, files(alloc, b"read <a.fi\nwrite >b.fi\n")?)?;
-        let mut out = SureSink::new(alloc)?;
-        let words = words(alloc, given)?;
-        assert_eq!(rt;
-            surgeon(alloc, &words, &mut store, &mut out),
-            status,
-            "{what}"
-        );
-        assert!(rt; out.written().as_slice() == printed, "{what}");
-        assert!(rt; store.file("b.fi").is_none(), "{what}");
+        let ending = run_script(alloc, b"read <a.fi\nwrite >b.fi\n", given)?;
+        assert_eq!(rt; ending.status, status, "{what}");
+        assert!(rt; ending.printed.as_slice() == printed, "{what}");
+        assert!(rt; ending.written.is_none(), "{what}");
     }
-    let mut nothing: Vec<String> = Vec::new(alloc);
-    nothing.clear();
-    let mut store = SureStore::new(alloc, files(alloc, b"")?)?;
-    let mut out = SureSink::new(alloc)?;
-    assert_eq!(rt;
-        surgeon(alloc, &nothing, &mut store, &mut out),
-        Status::Usage
-    );
+    let ending = run_over(alloc, files(alloc, b"")?, &[])?;
+    assert_eq!(rt; ending.status, Status::Usage, "not even the program's name");
+    assert!(rt; ending.printed.as_slice() == usage);
     Ok(())
 }
 
-#[test]
-fn a_script_past_its_limit_is_refused_whole(rt: HostRuntime) -> Result<(), Fail> {
-    let alloc = rt.alloc();
+// A script of one byte more than a script may have.
+fn long_script(alloc: Global) -> Result<Text, Fail> {
     let mut script: Text = Items::new(alloc)?;
     for _ in 0..1_048_577 / 11 {
         script.push_all(b"read <a.fi\n")?;
@@ -206,15 +475,17 @@ fn a_script_past_its_limit_is_refused_whole(rt: HostRuntime) -> Result<(), Fail>
     for _ in 0..1_048_577 % 11 {
         script.push(b'\n')?;
     }
-    let mut store = SureStore::new(alloc, files(alloc, script.as_slice())?)?;
-    let mut out = SureSink::new(alloc)?;
-    let words = words(alloc, &["s"])?;
-    assert_eq!(rt;
-        surgeon(alloc, &words, &mut store, &mut out),
-        Status::BadScript
-    );
+    Ok(script)
+}
+
+#[test]
+fn a_script_past_its_limit_is_refused_whole(rt: HostRuntime) -> Result<(), Fail> {
+    let alloc = rt.alloc();
+    let script = long_script(alloc)?;
+    let ending = run_script(alloc, script.as_slice(), &["s"])?;
     let printed: &[u8] = b"surgeon: script refused 12 TooLong name=s limit=1048576\n";
-    assert!(rt; out.written().as_slice() == printed);
+    assert_eq!(rt; ending.status, Status::BadScript);
+    assert!(rt; ending.printed.as_slice() == printed);
     Ok(())
 }
 
@@ -241,17 +512,10 @@ fn each_call_that_fails_ends_the_run(rt: HostRuntime) -> Result<(), Fail> {
         ("no call fails", 10, Status::Done, Some(WRITTEN)),
     ];
     for (what, failing, status, written) in rows {
-        let given = files(alloc, b"read <a.fi\nwrite >b.fi\n")?;
-        let mut store = MemoryStore::new(alloc, given, numbers(alloc, &[failing])?)?;
-        let mut out = MemorySink::new(alloc, numbers(alloc, &[])?)?;
-        let words = words(alloc, &["s"])?;
-        assert_eq!(rt;
-            surgeon(alloc, &words, &mut store, &mut out),
-            status,
-            "{what}"
-        );
-        assert!(rt; is_as_wanted(store.file("b.fi"), written), "{what}");
-        assert!(rt; out.written().as_slice().is_empty(), "{what}");
+        let ending = run_failing(alloc, b"read <a.fi\nwrite >b.fi\n", &["s"], &[failing], &[])?;
+        assert_eq!(rt; ending.status, status, "{what}");
+        assert!(rt; is_as_wanted(ending.written.as_ref(), written), "{what}");
+        assert!(rt; ending.printed.as_slice().is_empty(), "{what}");
     }
     Ok(())
 }
@@ -265,15 +529,9 @@ fn a_line_that_is_not_printed_is_a_fault_of_the_sink(rt: HostRuntime) -> Result<
         ("a script that isn't there", &["t"]),
     ];
     for (what, given) in rows {
-        let mut store = SureStore::new(alloc, files(alloc, b"frob\n")?)?;
-        let mut out = MemorySink::new(alloc, numbers(alloc, &[1])?)?;
-        let words = words(alloc, given)?;
-        assert_eq!(rt;
-            surgeon(alloc, &words, &mut store, &mut out),
-            Status::SinkFault,
-            "{what}"
-        );
-        assert!(rt; out.written().as_slice().is_empty(), "{what}");
+        let ending = run_failing(alloc, b"frob\n", given, &[], &[1])?;
+        assert_eq!(rt; ending.status, Status::SinkFault, "{what}");
+        assert!(rt; ending.printed.as_slice().is_empty(), "{what}");
     }
     Ok(())
 }

@@ -42,11 +42,12 @@ use crate::lines::items_in;
 use crate::run::run_items;
 use crate::words::script_in;
 use file_calls::{Halted, read_file};
-use plain_laws::replay_gives_the_snapshot;
 use plain_model::{Fault, Items, MAX_SCRIPT_BYTES, NoMemory, Status, Text};
+use sound_laws::what_is_read_is_sound;
 use std::alloc::Global;
-use stream_laws::{what_is_read_is_spelled, what_is_written_is_read_again};
+use stream_replay::replay_shows_the_history;
 use surgeon_store::{Sink, Store, WriteEnd, write_all};
+use written_laws::what_is_written_is_read_again;
 
 fn status_of(why: &Fault) -> Status
     ensures { result ≡ unread_status why.now }
@@ -226,11 +227,12 @@ pub fn surgeon<S: Store, T: Sink>(
     // want of memory may come in its place.
     ensures words { AnswersWords (map string_bytes words.now) result }
 
-    // Each file that the run writes is the text of a history, and replayed by plain path maps it shows that history.
+    // Each file that the run writes is the text of a history: it is read again as it, and replayed by plain maps it
+    // shows what that history shows.
     ensures replayed { (files : Files) → WritesHistories (map string_bytes words.now) files }
 {
-    what_is_read_is_spelled();
+    what_is_read_is_sound();
     what_is_written_is_read_again();
-    replay_gives_the_snapshot();
+    replay_shows_the_history();
     run_words(alloc, words, store, out)
 }

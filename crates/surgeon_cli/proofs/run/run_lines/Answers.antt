@@ -1,5 +1,5 @@
-use Rattle.std.proofs.Common.{◌≡◌, List, ◌+◌, drop, false, refl, sym, subst, arith}
-use Rattle.history_machine.specs.Machine.{World, Stands, run_on}
+use Rattle.std.proofs.Common.{List, ◌+◌, drop, false, refl, sym, subst, arith}
+use Rattle.history_machine.specs.Machine.{Stands, run_on}
 use Rattle.history_machine.specs.Commands.{line_step}
 use Rattle.history_machine.specs.declared.script.ScriptItem.{ScriptItem}
 use Rattle.plain_model.specs.declared.status.Status.TheVariants as status

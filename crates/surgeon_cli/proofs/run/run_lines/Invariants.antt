@@ -1,4 +1,4 @@
-use Rattle.std.proofs.Common.{◌≡◌, drop, false}
+use Rattle.std.proofs.Common.{drop, false}
 use Rattle.std.specs.Prelude.{IfSome}
 use Rattle.history_machine.specs.Machine.{World, Stands, run_on}
 use Rattle.history_machine.specs.Commands.{line_step}

@@ -1,4 +1,3 @@
-use Rattle.std.proofs.Common.{false, None}
 use Rattle.history_machine.specs.Loading.{file_within}
 use Rattle.history_machine.specs.Whole.{run_read}
 use Rattle.plain_model.specs.declared.limit.TheConstants.{MAX_SCRIPT_BYTES}

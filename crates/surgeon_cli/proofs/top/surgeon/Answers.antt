@@ -10,4 +10,4 @@ returns-clause-complete g c = λ quiet enough.
 
 pub returns-clause-replayed : goal.returns-clause-replayed
 returns-clause-replayed g c = λ files.
-    histories_written c.what_is_read_is_spelled.ensures c.what_is_written_is_read_again.ensures c.replay_gives_the_snapshot.ensures (map string_bytes c.args.words.now) files
+    histories_written c.what_is_read_is_sound.ensures c.what_is_written_is_read_again.ensures c.replay_shows_the_history.ensures (map string_bytes c.args.words.now) files
