@@ -1,0 +1,3 @@
+pub mod Calendars
+pub mod Dates
+pub mod Examples
