@@ -3,7 +3,7 @@
 
 mod tips;
 
-pub use tips::Tips;
+pub use tips::{TipList, Tips};
 
 #[cfg(test)]
 mod tests;

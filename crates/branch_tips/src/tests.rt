@@ -1,5 +1,5 @@
-use crate::Tips;
-use plain_model::{CommitId, Items, PlainEvent, ResetId, Text};
+use crate::{TipList, Tips};
+use plain_model::{CommitId, Items, NoMemory, PlainEvent, ResetId, Text};
 use std::alloc::Global;
 use std::test::*;
 
@@ -53,5 +53,34 @@ fn a_branch_is_set_and_removed_by_itself(rt: HostRuntime) -> Result<(), Fail> {
     let tips = after_changes(rt.alloc()).ok_or("memory")?;
     assert!(rt; !tips.has(b"main"));
     assert_eq!(rt; tips.tip(b"side").map(|tip| tip.number()), Some(4));
+    Ok(())
+}
+
+fn unordered(alloc: Global) -> Option<Tips> {
+    let mut tips = Tips::new(alloc);
+    tips.set(b"b", CommitId::new(1)).ok()?;
+    tips.set(b"aa", CommitId::new(2)).ok()?;
+    tips.set(b"B", CommitId::new(4)).ok()?;
+    Some(tips)
+}
+
+// Each branch, a space, the number of its commit, and a semicolon.
+fn shown(alloc: Global, tips: &TipList) -> Result<Text, NoMemory> {
+    let mut out = Items::new(alloc)?;
+    for (branch, tip) in tips.as_slice() {
+        out.push_all(branch.as_slice())?;
+        out.push(b' ')?;
+        out.push_number(tip.number())?;
+        out.push(b';')?;
+    }
+    Ok(out)
+}
+
+#[test]
+fn branches_are_listed_in_byte_order(rt: HostRuntime) -> Result<(), Fail> {
+    let tips = unordered(rt.alloc()).ok_or("memory")?;
+    let list = tips.entries()?;
+    let shown = shown(rt.alloc(), &list)?;
+    assert_eq!(rt; shown.as_slice(), b"B 4;aa 2;b 1;".as_slice());
     Ok(())
 }

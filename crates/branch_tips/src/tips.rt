@@ -1,9 +1,9 @@
 //! The tips of branches.
-ghost use Rattle.std.specs.Prelude.{◌≡◌, ◌∷◌, [], not, bytes_eq, OnOk, OnErr};
+ghost use Rattle.std.specs.Prelude.{◌≡◌, ◌∷◌, [], not, bytes_eq, IfOk, OnOk, OnErr};
 ghost use Rattle.plain_model.specs.Snapshots.{refs_after};
 ghost use Rattle.plain_model.specs.Trees.{at, has, put, where_path};
 
-use plain_model::{CommitId, NoMemory, PlainEvent};
+use plain_model::{CommitId, Items, NoMemory, PlainEvent, Text};
 use std::alloc::Global;
 use std::collections::BTreeMap;
 use std::marker::Model;
@@ -15,6 +15,9 @@ pub struct Tips {
     alloc: Global,
     by_branch: BTreeMap<Vec<u8>, CommitId>,
 }
+
+/// Branches with commits.
+pub type TipList = Items<(Text, CommitId)>;
 
 impl Model for Tips {
     ghost use Rattle.std.specs.Prelude.{List, ℕ};
@@ -50,6 +53,17 @@ impl Tips {
         ensures { result ≡ has self.now branch.now }
     {
         self.tip(branch).is_some()
+    }
+
+    /// Each branch that has a tip, with the commit on which it stands, in byte order of the branches.
+    pub fn entries(&self) -> Result<TipList, NoMemory>
+        ensures { IfOk result (λ list. list ≡ self.now) }
+    {
+        let mut list = Items::new(self.alloc)?;
+        for (branch, tip) in &self.by_branch {
+            list.push((Items::of(self.alloc, branch.as_slice())?, *tip))?;
+        }
+        Ok(list)
     }
 
     /// The branch stands on the commit from now on.
