@@ -1,8 +1,10 @@
 //! Times of the event graph: `arena_bench COMMITS ..` makes a line of so many commits, a blob and an operation each, and
-//! prints for each call on it the least time of five rounds. Without words it does nothing.
+//! prints for each call on it the least time of five rounds. `arena_bench --calls=N COMMITS` makes the line and then
+//! only the first N of the calls, once, and prints nothing, so that their instructions can be counted. Without words
+//! it does nothing.
 #![tactic(auto)]
 
-ghost use Rattle.std.specs.Prelude.{◌<◌, ◌^◌};
+ghost use Rattle.std.specs.Prelude.{◌<◌, ◌^◌, IfSome};
 
 mod history;
 mod plans;
@@ -146,15 +148,79 @@ fn measure(rt: &HostRuntime, commits: u64) -> Option<()>
     Some(())
 }
 
+// Makes a plan that changes nothing and carries it out.
+fn carry_out_unchanged(rt: &HostRuntime, events: &mut Events, calls: u32) -> Option<()> {
+    let plan = Plan::new(rt.alloc(), events).ok()?;
+    if calls < 6 {
+        return Some(());
+    }
+    let _count = events.count();
+    events.reserve_for(&plan).ok()?;
+    events.carry_out(plan);
+    Some(())
+}
+
+// The calls on a history, in the order in which they are timed; a plan that changes nothing comes before it is
+// carried out.
+fn make_calls(rt: &HostRuntime, events: &mut Events, commits: u64, calls: u32) -> Option<()> {
+    if calls < 2 {
+        return Some(());
+    }
+    let cut = plans::cut(rt.alloc(), events, commits)?;
+    if calls < 3 {
+        return Some(());
+    }
+    events.reserve_for(&cut).ok()?;
+    if calls < 4 {
+        return Some(());
+    }
+    let _halved = plans::halved(rt.alloc(), events, commits)?;
+    if calls < 5 {
+        return Some(());
+    }
+    carry_out_unchanged(rt, events, calls)
+}
+
+// A line of so many commits, and so many calls on it.
+fn make_line(rt: &HostRuntime, commits: u64, calls: u32) -> Option<()>
+    requires { commits < 2 ^ 30 }
+{
+    let list = history::line(rt.alloc(), commits)?;
+    if calls < 1 {
+        return Some(());
+    }
+    let mut events = Events::from_plain(rt.alloc(), list).ok()?;
+    make_calls(rt, &mut events, commits, calls)
+}
+
+// A number of commits, as a word has it.
+fn commits_of(word: &str) -> Option<u64>
+    ensures { IfSome result (λ commits. commits < 2 ^ 30) }
+{
+    match word.parse::<u32>() {
+        Ok(commits) if commits < 1 << 30 => Some(u64::from(commits)),
+        _ => None,
+    }
+}
+
 fn main(rt: HostRuntime) -> ExitCode {
     let Ok(words) = env::args(&rt) else {
         return ExitCode::FAILURE;
     };
+    let mut calls = None;
     for word in words.skip(1) {
-        let Ok(commits) = word.parse::<u32>() else {
+        if let Some(number) = word.strip_prefix("--calls=") {
+            calls = number.parse::<u32>().ok();
+            continue;
+        }
+        let Some(commits) = commits_of(&word) else {
             return ExitCode::FAILURE;
         };
-        if commits >= 1 << 30 || measure(&rt, u64::from(commits)).is_none() {
+        let done = match calls {
+            Some(calls) => make_line(&rt, commits, calls),
+            None => measure(&rt, commits),
+        };
+        if done.is_none() {
             return ExitCode::FAILURE;
         }
     }
