@@ -10,4 +10,5 @@ mod Kept
 mod Changes
 mod LinesKept
 mod StreamKept
+mod Counted
 mod Positions

@@ -208,7 +208,7 @@ module _ (bound : ℕ) (some_bytes : 0 < bound) (line : Bytes) (plain : has_no_l
 -- ---- a step within the limits
 
 -- a step that is made within the limits passes none
-made_within : (line : Bytes) (r : Result (State × Next) Why) (new : State) (next : Next) → limited_step stream passed line r ≡ Ok (new, next) → (r ≡ Ok (new, next)) × (passed line new ≡ None)
+pub made_within : (line : Bytes) (r : Result (State × Next) Why) (new : State) (next : Next) → limited_step stream passed line r ≡ Ok (new, next) → (r ≡ Ok (new, next)) × (passed line new ≡ None)
 made_within line (Err why) new next e = absurd cc
 made_within line (Ok made) new next e = go (passed line made.0) refl e
   where
@@ -273,7 +273,7 @@ module _ (bound : ℕ) (some_bytes : 0 < bound) where
 
 -- ---- what a stream gives
 
-not_spent : (k : Known) (events : List PlainEvent) → unless_spent k ≡ Ok events → (last_mark (closed k) ≤ MAX_MARK) × (history_of k ≡ events)
+pub not_spent : (k : Known) (events : List PlainEvent) → unless_spent k ≡ Ok events → (last_mark (closed k) ≤ MAX_MARK) × (history_of k ≡ events)
 not_spent k events e = go (nat_lt MAX_MARK (last_mark (closed k))) refl e
   where
     go : (b : Bool) → nat_lt MAX_MARK (last_mark (closed k)) ≡ b → ◌≡◌ {A = Result (List PlainEvent) Fault} (cond b (Err MarksSpent) (Ok (history_of k))) (Ok events) → (last_mark (closed k) ≤ MAX_MARK) × (history_of k ≡ events)

@@ -2,6 +2,7 @@
 ghost use Rattle.std.specs.Prelude.{
   ◌≡◌,
   ◌<◌,
+  ◌≤◌,
   ◌+◌,
   ◌^◌,
   ◌++◌,
@@ -19,6 +20,7 @@ ghost use Rattle.std.specs.Prelude.{
 ghost use Rattle.plain_model.specs.declared.event.PlainEvent.{PlainEvent};
 ghost use Rattle.plain_model.specs.declared.event.PlainEvent.TheVariants.{Blob, Commit, Tag};
 ghost use Rattle.plain_model.specs.declared.id.AnyId.TheVariants as any;
+ghost use Rattle.plain_model.specs.declared.limit.TheConstants.{MAX_EVENTS, MAX_OPERATIONS};
 ghost use Rattle.plain_model.specs.declared.operation.FileOp.{FileOp};
 ghost use Rattle.plain_model.specs.declared.operation.FileOp.TheVariants.{Delete};
 ghost use Rattle.plain_model.specs.declared.path.PathFault.{PathFault};
@@ -30,7 +32,7 @@ ghost use Rattle.plain_model.specs.Soundness.{has_id};
 ghost use Rattle.plain_model.specs.Streams.{is_marked};
 ghost use Rattle.plain_model.specs.Text.{text};
 ghost use Rattle.plain_model.specs.Trees.{at};
-ghost use Rattle.stream_grammar.specs.Limits.{stream_of};
+ghost use Rattle.stream_grammar.specs.Limits.{ops_in, stream_of};
 ghost use Rattle.stream_grammar.specs.Lines.{history_in};
 ghost use Rattle.written_laws.specs.AsRead.{IsAsRead};
 
@@ -45,6 +47,12 @@ pub fn what_is_read_is_read_again()
     ensures { (bytes : List ℕ) (events : List PlainEvent) →
         length bytes < 10 ^ 64 → stream_of bytes ≡ Ok events →
         history_in (text events) ≡ Some events }
+{}
+
+/// What a stream gives passes neither the limit of events nor that of operations.
+pub fn what_is_read_passes_no_limit()
+    ensures { (bytes : List ℕ) (events : List PlainEvent) → stream_of bytes ≡ Ok events →
+        (length events ≤ MAX_EVENTS) × (ops_in events ≤ MAX_OPERATIONS) }
 {}
 
 /// The id of each event is its place, from 1.

@@ -6,5 +6,6 @@ mod laws;
 
 pub use examples::a_stream_is_read;
 pub use laws::{
-    ids_are_places, what_is_read_is_read_again, what_is_read_is_sound, what_reading_never_gives,
+    ids_are_places, what_is_read_is_read_again, what_is_read_is_sound,
+    what_is_read_passes_no_limit, what_reading_never_gives,
 };
