@@ -1,0 +1,15 @@
+//! Lists of a history as text: its commits and tags, its events of every kind, its names.
+#![tactic(auto)]
+
+mod events;
+mod fields;
+mod finding;
+mod lists;
+mod worked;
+
+pub use finding::all;
+pub use lists::{index, list, names};
+pub use worked::worked_lists;
+
+#[cfg(test)]
+mod tests;
