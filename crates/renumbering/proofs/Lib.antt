@@ -1,0 +1,5 @@
+mod Kept
+mod Few
+mod Sound
+mod Steps
+mod Histories

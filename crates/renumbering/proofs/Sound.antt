@@ -1,0 +1,232 @@
+-- A sound history stays sound while marks are given, and one such as reading gives it stays one.
+use Rattle.std.proofs.Common.{◌≡◌, ℕ, suc, ◌+◌, ◌<◌, ◌≤◌, Bool, true, false, List, [], ◌∷◌, ◌++◌, length, Option, Some, None, refl, sym, ap, subst, ◌∙◌, inl, inr, ◌⊎◌, arith, eqb-true}
+use Rattle.std.specs.Prelude.{◌==◌, ◌||◌, IsSome}
+use Rattle.std.specs.List.{AllByRecursion}
+use Rattle.std.proofs.lemmas.Bool.{or_cases, false_from_ne_true}
+use Rattle.plain_model.specs.declared.limit.TheConstants.{MAX_MARK}
+use Rattle.plain_model.specs.declared.id.AnyId.{AnyId}
+use Rattle.plain_model.specs.declared.id.AnyId.TheVariants as any
+use Rattle.plain_model.specs.declared.operation.Mode.TheVariants.{Plain, Executable, Link, Gitlink}
+use Rattle.plain_model.specs.declared.operation.Content.TheVariants.{Blob as OfBlob, Object}
+use Rattle.plain_model.specs.declared.operation.FileOp.{FileOp}
+use Rattle.plain_model.specs.declared.operation.FileOp.TheVariants.{Modify, Delete, Copy, Rename, DeleteAll}
+use Rattle.plain_model.specs.declared.event.PlainEvent.{PlainEvent}
+use Rattle.plain_model.specs.declared.event.PlainEvent.TheVariants.{Blob, Commit, Tag, Reset, Pass}
+use Rattle.plain_model.specs.declared.person.Signed.{Signed}
+use Rattle.plain_model.specs.Paths.{Bytes}
+use Rattle.plain_model.specs.Snapshots.{refs, refs_after}
+use Rattle.plain_model.specs.Trees.{TreeOf, has, put}
+use Rattle.plain_model.specs.Lookups.{marks_of}
+use Rattle.plain_model.specs.Soundness.{IsCommitOf, RefersBack, AreSoundBehind, IsSound, has_id}
+use Rattle.plain_model.specs.Streams.{is_marked}
+use Rattle.event_arena.proofs.SoundLemmas.{has_id-append, is_marked-append}
+use Rattle.written_laws.specs.AsRead.{ArePlaced, IsFormedEvent, IsRooted, AreRootedBehind, IsAsRead}
+use Rattle.renumbering.specs.Renumbered.{renumbered, renumbered_from}
+use Rattle.renumbering.proofs.Few.{few_marks}
+use Rattle.renumbering.proofs.Kept.{has_id_same, tree_same, refs_same}
+
+-- the two have the same ids, and the marks of the second are below the one that is due
+record IsBehind (old new : List PlainEvent) (due : ℕ) : Type 0 where
+  ids : (id : AnyId) → has_id old id ≡ has_id new id
+  below : (m : ℕ) → is_marked new m ≡ true → m < due
+
+-- ---- one event more
+
+same_more : (old new : List PlainEvent) (a b : PlainEvent) → ((id : AnyId) → has_id old id ≡ has_id new id) → ((id : AnyId) → has_id (a ∷ []) id ≡ has_id (b ∷ []) id) → (id : AnyId) → has_id (old ++ a ∷ []) id ≡ has_id (new ++ b ∷ []) id
+same_more old new a b same one id =
+    has_id-append old (a ∷ []) id ∙ ap (λ t. t || has_id (a ∷ []) id) (same id) ∙ ap (λ t. has_id new id || t) (one id) ∙ sym (has_id-append new (b ∷ []) id)
+
+-- the marks of one more event that has none
+below_more : (new : List PlainEvent) (e : PlainEvent) (due : ℕ) → ((m : ℕ) → is_marked (e ∷ []) m ≡ false) → ((m : ℕ) → is_marked new m ≡ true → m < due) → (m : ℕ) → is_marked (new ++ e ∷ []) m ≡ true → m < due
+below_more new e due none below m h = go (or_cases (is_marked new m) (is_marked (e ∷ []) m) (sym (is_marked-append new (e ∷ []) m) ∙ h))
+  where
+    go : (is_marked new m ≡ true) ⊎ (is_marked (e ∷ []) m ≡ true) → m < due
+    go (inl old) = below m old
+    go (inr own) = let is = none m in absurd cc
+
+-- the marks of one more event that has the one that is due
+below_due : (new : List PlainEvent) (e : PlainEvent) (due : ℕ) → ((m : ℕ) → is_marked (e ∷ []) m ≡ (due == m) || false) → ((m : ℕ) → is_marked new m ≡ true → m < due) → (m : ℕ) → is_marked (new ++ e ∷ []) m ≡ true → m < due + 1
+below_due new e due own below m h = go (or_cases (is_marked new m) (is_marked (e ∷ []) m) (sym (is_marked-append new (e ∷ []) m) ∙ h))
+  where
+    one : (b : Bool) → b || false ≡ true → b ≡ true
+    one true e = refl
+    one false e = absurd cc
+
+    go : (is_marked new m ≡ true) ⊎ (is_marked (e ∷ []) m ≡ true) → m < due + 1
+    go (inl old) = let low = below m old in omega arith
+    go (inr is) = let same = eqb-true due m (one (due == m) (sym (own m) ∙ is)) in omega arith
+
+-- the mark that is due stands nowhere yet
+due_is_new : (new : List PlainEvent) (due : ℕ) → ((m : ℕ) → is_marked new m ≡ true → m < due) → is_marked new due ≡ false
+due_is_new new due below = false_from_ne_true (is_marked new due) (λ h. let low = below due h in absurd (omega arith))
+
+-- ---- what an event refers to
+
+parents_still : (old new : List PlainEvent) → ((id : AnyId) → has_id old id ≡ has_id new id) → (parents : List ℕ) → AllByRecursion (IsCommitOf old) parents → AllByRecursion (IsCommitOf new) parents
+parents_still old new same [] h = tt
+parents_still old new same (p ∷ ps) h = (sym (same (any.Commit p)) ∙ h.0, parents_still old new same ps h.1)
+
+op_still : (old new : List PlainEvent) → ((id : AnyId) → has_id old id ≡ has_id new id) → (op : FileOp) → RefersBack old op → RefersBack new op
+op_still old new same (Modify Gitlink (OfBlob blob) path) h = h
+op_still old new same (Modify Plain (OfBlob blob) path) h = sym (same (any.Blob blob)) ∙ h
+op_still old new same (Modify Executable (OfBlob blob) path) h = sym (same (any.Blob blob)) ∙ h
+op_still old new same (Modify Link (OfBlob blob) path) h = sym (same (any.Blob blob)) ∙ h
+op_still old new same (Modify Gitlink (Object digits) path) h = tt
+op_still old new same (Modify Plain (Object digits) path) h = tt
+op_still old new same (Modify Executable (Object digits) path) h = tt
+op_still old new same (Modify Link (Object digits) path) h = tt
+op_still old new same (Delete path) h = tt
+op_still old new same (Copy source target) h = tt
+op_still old new same (Rename source target) h = tt
+op_still old new same DeleteAll h = tt
+
+ops_still : (old new : List PlainEvent) → ((id : AnyId) → has_id old id ≡ has_id new id) → (ops : List FileOp) → AllByRecursion (RefersBack old) ops → AllByRecursion (RefersBack new) ops
+ops_still old new same [] h = tt
+ops_still old new same (op ∷ ops) h = (op_still old new same op h.0, ops_still old new same ops h.1)
+
+-- ---- all events
+
+-- one event more, which has the mark that is due
+behind_due : (old new : List PlainEvent) (due : ℕ) (a e : PlainEvent) → renumbered_from due (a ∷ []) ≡ e ∷ [] → ((m : ℕ) → is_marked (e ∷ []) m ≡ (due == m) || false) → IsBehind old new due → IsBehind (old ++ a ∷ []) (new ++ e ∷ []) (due + 1)
+behind_due old new due a e is own b = record {
+  ids = same_more old new a e b.ids (λ id. sym (has_id_same due (a ∷ []) id) ∙ ap (λ (l : List PlainEvent). has_id l id) is);
+  below = below_due new e due own b.below;
+}
+
+-- one event more, which has none
+behind_more : (old new : List PlainEvent) (due : ℕ) (e : PlainEvent) → ((m : ℕ) → is_marked (e ∷ []) m ≡ false) → IsBehind old new due → IsBehind (old ++ e ∷ []) (new ++ e ∷ []) due
+behind_more old new due e none b = record {
+  ids = same_more old new e e b.ids (λ id. refl);
+  below = below_more new e due none b.below;
+}
+
+formed_still : (old new : List PlainEvent) (due : ℕ) (events : List PlainEvent) → IsBehind old new due → AreSoundBehind old events → AreSoundBehind new (renumbered_from due events)
+formed_still old new due [] b h = tt
+formed_still old new due (Blob id mark bytes ∷ events) b h = (
+  (sym (b.ids (any.Blob id)) ∙ h.0.0, due_is_new new due b.below),
+  formed_still (old ++ Blob id mark bytes ∷ []) (new ++ Blob id due bytes ∷ []) (due + 1) events (behind_due old new due (Blob id mark bytes) (Blob id due bytes) refl (λ m. refl) b) h.1,
+)
+formed_still old new due (Commit id mark branch author committer encoding comment parents ops ∷ events) b h =
+    let a : PlainEvent = Commit id mark branch author committer encoding comment parents ops in
+    let e : PlainEvent = Commit id due branch author committer encoding comment parents ops in
+    let s = h.0 in (
+      (
+        sym (b.ids (any.Commit id)) ∙ s.0,
+        due_is_new new due b.below,
+        s.2,
+        s.3,
+        s.4,
+        s.5,
+        parents_still old new b.ids parents s.6,
+        s.7,
+        s.8,
+        ops_still old new b.ids ops s.9,
+      ),
+      formed_still (old ++ a ∷ []) (new ++ e ∷ []) (due + 1) events (behind_due old new due a e refl (λ m. refl) b) h.1,
+    )
+formed_still old new due (Tag id name target tagger comment ∷ events) b h =
+    let e : PlainEvent = Tag id name target tagger comment in
+    let s = h.0 in (
+      (sym (b.ids (any.Tag id)) ∙ s.0, s.1, sym (b.ids (any.Commit target)) ∙ s.2, s.3),
+      formed_still (old ++ e ∷ []) (new ++ e ∷ []) due events (behind_more old new due e (λ m. refl) b) h.1,
+    )
+formed_still old new due (Reset id branch None ∷ events) b h =
+    let e : PlainEvent = Reset id branch None in
+    let s = h.0 in (
+      (sym (b.ids (any.Reset id)) ∙ s.0, s.1, tt),
+      formed_still (old ++ e ∷ []) (new ++ e ∷ []) due events (behind_more old new due e (λ m. refl) b) h.1,
+    )
+formed_still old new due (Reset id branch (Some c) ∷ events) b h =
+    let e : PlainEvent = Reset id branch (Some c) in
+    let s = h.0 in (
+      (sym (b.ids (any.Reset id)) ∙ s.0, s.1, sym (b.ids (any.Commit c)) ∙ s.2),
+      formed_still (old ++ e ∷ []) (new ++ e ∷ []) due events (behind_more old new due e (λ m. refl) b) h.1,
+    )
+formed_still old new due (Pass id line ∷ events) b h =
+    let e : PlainEvent = Pass id line in
+    let s = h.0 in (
+      (sym (b.ids (any.Pass id)) ∙ s.0, s.1),
+      formed_still (old ++ e ∷ []) (new ++ e ∷ []) due events (behind_more old new due e (λ m. refl) b) h.1,
+    )
+
+-- nothing stands before the first event
+first_behind : (due : ℕ) → IsBehind [] [] due
+first_behind due = record { ids = λ id. refl; below = λ m h. absurd cc }
+
+pub sound_again : (events : List PlainEvent) → IsSound events → IsSound (renumbered events)
+sound_again events h = record {
+  formed = formed_still [] [] 1 events (first_behind 1) h.formed;
+  trees = λ c is. subst IsSome (sym (tree_same 1 events c)) (h.trees c (sym (has_id_same 1 events (any.Commit c)) ∙ is));
+}
+
+-- ---- such as reading gives it
+
+-- the branches behind two parts
+refs_append : (t : TreeOf ℕ) (xs ys : List PlainEvent) → refs_after t (xs ++ ys) ≡ refs_after (refs_after t xs) ys
+refs_append t [] ys = refl
+refs_append t (Blob id mark bytes ∷ xs) ys = refs_append t xs ys
+refs_append t (Commit id mark branch author committer encoding comment parents ops ∷ xs) ys = refs_append (put branch id t) xs ys
+refs_append t (Tag id name target tagger comment ∷ xs) ys = refs_append t xs ys
+refs_append t (Reset id branch None ∷ xs) ys = refs_append _ xs ys
+refs_append t (Reset id branch (Some c) ∷ xs) ys = refs_append (put branch c t) xs ys
+refs_append t (Pass id line ∷ xs) ys = refs_append t xs ys
+
+placed_still : (due k : ℕ) (events : List PlainEvent) → ArePlaced k events → ArePlaced k (renumbered_from due events)
+placed_still due k [] p = tt
+placed_still due k (Blob id mark bytes ∷ events) p = (p.0, placed_still (due + 1) (suc k) events p.1)
+placed_still due k (Commit id mark branch author committer encoding comment parents ops ∷ events) p = (p.0, placed_still (due + 1) (suc k) events p.1)
+placed_still due k (Tag id name target tagger comment ∷ events) p = (p.0, placed_still due (suc k) events p.1)
+placed_still due k (Reset id branch target ∷ events) p = (p.0, placed_still due (suc k) events p.1)
+placed_still due k (Pass id line ∷ events) p = (p.0, placed_still due (suc k) events p.1)
+
+-- as long as the marks that are due are marks
+fields_still : (due : ℕ) (events : List PlainEvent) → 1 ≤ due → due + length (marks_of events) ≤ MAX_MARK + 1 → AllByRecursion IsFormedEvent events → AllByRecursion IsFormedEvent (renumbered_from due events)
+fields_still due [] low few h = tt
+fields_still due (Blob id mark bytes ∷ events) low few h = (((low, omega arith), h.0.1), fields_still (due + 1) events (omega arith) (omega arith) h.1)
+fields_still due (Commit id mark branch author committer encoding comment parents ops ∷ events) low few h =
+    (((low, omega arith), h.0.1, h.0.2), fields_still (due + 1) events (omega arith) (omega arith) h.1)
+fields_still due (Tag id name target tagger comment ∷ events) low few h = (h.0, fields_still due events low (omega arith) h.1)
+fields_still due (Reset id branch target ∷ events) low few h = (h.0, fields_still due events low (omega arith) h.1)
+fields_still due (Pass id line ∷ events) low few h = (h.0, fields_still due events low (omega arith) h.1)
+
+-- the branches stand alike behind one event more
+tips_more : (old new : List PlainEvent) (due : ℕ) (a e : PlainEvent) → renumbered_from due (a ∷ []) ≡ e ∷ [] → refs old ≡ refs new → refs (old ++ a ∷ []) ≡ refs (new ++ e ∷ [])
+tips_more old new due a e is same =
+    refs_append [] old (a ∷ [])
+    ∙ ap (λ (t : TreeOf ℕ). refs_after t (a ∷ [])) same
+    ∙ sym (refs_same due (refs new) (a ∷ []))
+    ∙ ap (refs_after (refs new)) is
+    ∙ sym (refs_append [] new (e ∷ []))
+
+rooted_event : (old new : List PlainEvent) (id mark due : ℕ) (branch : Bytes) (author committer : Signed) (encoding : Option Bytes) (comment : Bytes) (parents : List ℕ) (ops : List FileOp) → refs old ≡ refs new
+    → IsRooted old (Commit id mark branch author committer encoding comment parents ops) → IsRooted new (Commit id due branch author committer encoding comment parents ops)
+rooted_event old new id mark due branch author committer encoding comment [] ops same h = ap (λ (t : TreeOf ℕ). has t branch) (sym same) ∙ h
+rooted_event old new id mark due branch author committer encoding comment (p ∷ ps) ops same h = tt
+
+rooted_still : (old new : List PlainEvent) (due : ℕ) (events : List PlainEvent) → refs old ≡ refs new → AreRootedBehind old events → AreRootedBehind new (renumbered_from due events)
+rooted_still old new due [] same h = tt
+rooted_still old new due (Blob id mark bytes ∷ events) same h =
+    (tt, rooted_still (old ++ Blob id mark bytes ∷ []) (new ++ Blob id due bytes ∷ []) (due + 1) events (tips_more old new due (Blob id mark bytes) (Blob id due bytes) refl same) h.1)
+rooted_still old new due (Commit id mark branch author committer encoding comment parents ops ∷ events) same h =
+    let a : PlainEvent = Commit id mark branch author committer encoding comment parents ops in
+    let e : PlainEvent = Commit id due branch author committer encoding comment parents ops in (
+      rooted_event old new id mark due branch author committer encoding comment parents ops same h.0,
+      rooted_still (old ++ a ∷ []) (new ++ e ∷ []) (due + 1) events (tips_more old new due a e refl same) h.1,
+    )
+rooted_still old new due (Tag id name target tagger comment ∷ events) same h =
+    let e : PlainEvent = Tag id name target tagger comment in
+    (tt, rooted_still (old ++ e ∷ []) (new ++ e ∷ []) due events (tips_more old new due e e refl same) h.1)
+rooted_still old new due (Reset id branch target ∷ events) same h =
+    let e : PlainEvent = Reset id branch target in
+    (tt, rooted_still (old ++ e ∷ []) (new ++ e ∷ []) due events (tips_more old new due e e refl same) h.1)
+rooted_still old new due (Pass id line ∷ events) same h =
+    let e : PlainEvent = Pass id line in
+    (tt, rooted_still (old ++ e ∷ []) (new ++ e ∷ []) due events (tips_more old new due e e refl same) h.1)
+
+pub read_again : (events : List PlainEvent) → IsAsRead events → IsAsRead (renumbered events)
+read_again events h = record {
+  sound = sound_again events h.sound;
+  placed = placed_still 1 1 events h.placed;
+  formed = fields_still 1 events (omega arith) (let few = few_marks events h in omega arith) h.formed;
+  rooted = rooted_still [] [] 1 events refl h.rooted;
+}

@@ -1,0 +1,55 @@
+//! Laws of renumbering. Each function's contract is one, and its body is empty.
+ghost use Rattle.std.specs.Prelude.{◌≡◌, ℕ, List, length, map};
+ghost use Rattle.std.specs.List.{enumerate_from};
+ghost use Rattle.event_arena.specs.Changes.{with_mark};
+ghost use Rattle.plain_model.specs.declared.event.PlainEvent.{PlainEvent};
+ghost use Rattle.plain_model.specs.Histories.{tree};
+ghost use Rattle.plain_model.specs.Lookups.{id_of, marks_of};
+ghost use Rattle.plain_model.specs.Snapshots.{refs, shown_tree};
+ghost use Rattle.plain_model.specs.Soundness.{IsSound};
+ghost use Rattle.written_laws.specs.AsRead.{IsAsRead};
+ghost use Rattle.renumbering.specs.Renumbered.{renumbered};
+
+/// Blobs and commits, in the order of the list, have the marks 1, 2, 3, ..
+pub fn marks_count_up()
+    ensures { (events : List PlainEvent) → marks_of (renumbered events)
+        ≡ enumerate_from 1 (map (λ own. own.1) (marks_of events)) }
+{}
+
+/// But for their marks, the events are the same.
+pub fn nothing_else_changes()
+    ensures { (events : List PlainEvent) (mark : ℕ) →
+        map (with_mark mark) (renumbered events) ≡ map (with_mark mark) events }
+{}
+
+/// Each commit keeps its tree, with the same bytes in it, and each branch stands where it stood.
+pub fn renumbering_keeps_trees()
+    ensures trees { (events : List PlainEvent) (c : ℕ) →
+        tree (renumbered events) c ≡ tree events c }
+    ensures shown { (events : List PlainEvent) (c : ℕ) →
+        shown_tree (renumbered events) c ≡ shown_tree events c }
+    ensures refs { (events : List PlainEvent) → refs (renumbered events) ≡ refs events }
+{}
+
+/// The same ids stand in the same order, so there are as many events.
+pub fn ids_stay()
+    ensures ids { (events : List PlainEvent) →
+        map id_of (renumbered events) ≡ map id_of events }
+    ensures count { (events : List PlainEvent) → length (renumbered events) ≡ length events }
+{}
+
+/// A sound history stays sound.
+pub fn renumbering_keeps_soundness()
+    ensures { (events : List PlainEvent) → IsSound events → IsSound (renumbered events) }
+{}
+
+/// A history such as reading gives it stays one. Its marks stand once, so there are no more than marks.
+pub fn renumbering_keeps_what_reading_gives()
+    ensures { (events : List PlainEvent) → IsAsRead events → IsAsRead (renumbered events) }
+{}
+
+/// A second time changes nothing.
+pub fn numbered_again()
+    ensures { (events : List PlainEvent) →
+        renumbered (renumbered events) ≡ renumbered events }
+{}

@@ -1,0 +1,16 @@
+//! Blobs and commits get the marks 1, 2, 3, .. in the order of a history, and nothing else changes.
+#![tactic(auto)]
+
+mod laws;
+mod numbering;
+mod worked;
+
+pub use laws::{
+    ids_stay, marks_count_up, nothing_else_changes, numbered_again, renumbering_keeps_soundness,
+    renumbering_keeps_trees, renumbering_keeps_what_reading_gives,
+};
+pub use numbering::renumber;
+pub use worked::marks_go_by_place;
+
+#[cfg(test)]
+mod tests;
