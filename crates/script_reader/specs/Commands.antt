@@ -1,0 +1,143 @@
+-- The command that stands in a line. (reposurgeon manual, of each command word its section; what is at fault: own)
+use Rattle.std.specs.Prelude.{List, [], ◌∷◌, Option, Some, None, Result, Ok, Err, bytes_eq, codes, if◌then◌else◌}
+use Rattle.plain_model.specs.Paths.{Bytes}
+use Rattle.plain_model.specs.declared.fault.Fault.{Fault}
+use Rattle.plain_model.specs.declared.fault.Fault.TheVariants as fault
+use Rattle.script_reader.specs.Names.{repo_name, is_repo_name}
+use Rattle.script_reader.specs.Redirections.{begins_with_sign, redirected}
+use Rattle.script_reader.specs.Words.{head_of, behind_head, words_of, text_of}
+use Rattle.script_reader.specs.declared.command.Command.{Command}
+use Rattle.script_reader.specs.declared.command.Command.TheVariants as command
+use Rattle.script_reader.specs.declared.keyword.Keyword.{Keyword}
+use Rattle.script_reader.specs.declared.keyword.Keyword.TheVariants as keyword
+use Rattle.script_reader.specs.declared.redirection.Direction.TheVariants.{Input, Output}
+use Rattle.script_reader.specs.declared.word.Word.{Word}
+use Rattle.script_reader.specs.declared.word.Word.TheVariants.{Plain, Quoted, Broken}
+
+-- a step behind one that may be refused
+infixl 10 ◌>>=◌
+abbrev pub ◌>>=◌ : {A B : Type 0} → Result A Fault → (A → Result B Fault) → Result B Fault
+Ok x >>= f = f x
+Err why >>= f = Err why
+
+-- ---- words at fault
+
+-- the words don't fit, and this one is the first at fault
+abbrev pub at_fault : {A : Type 0} → Word → Result A Fault
+at_fault word = Err (fault.BadWords (text_of word))
+
+-- what a word was found to be, or the word is at fault
+abbrev pub or_at_fault : {A : Type 0} → Word → Option A → Result A Fault
+or_at_fault word (Some x) = Ok x
+or_at_fault word None = at_fault word
+
+-- ---- what the forms have in common
+
+-- a last word as a name: it isn't broken, and no redirection
+abbrev pub name_in : Word → Option Bytes
+name_in (Plain text) = if begins_with_sign text then None else Some text
+name_in (Quoted text) = Some text
+name_in (Broken rest) = None
+
+-- a value behind which no word stands
+abbrev pub alone : {A : Type 0} → A → List Word → Result A Fault
+alone x [] = Ok x
+alone x (word ∷ words) = at_fault word
+
+-- `[>FILE]`
+abbrev pub output_in : List Word → Result (Option Bytes) Fault
+output_in [] = Ok None
+output_in (word ∷ []) = or_at_fault word (redirected Output word) >>= λ file. Ok (Some file)
+output_in (word ∷ next ∷ words) = at_fault word
+
+-- `[NAME]`
+abbrev pub name_within : List Word → Result (Option Bytes) Fault
+name_within [] = Ok None
+name_within (word ∷ []) = or_at_fault word (name_in word) >>= λ name. Ok (Some name)
+name_within (word ∷ next ∷ words) = at_fault next
+
+-- ---- the forms, one for each command word
+
+-- a file with the name of its repository, if it gives one
+abbrev pub read_of : Option Bytes → Option Command
+read_of None = None
+read_of (Some file) = if is_repo_name (repo_name file) then Some (command.Read file (repo_name file)) else None
+
+-- `read <FILE`
+unfoldable pub read_form : List Word → Result Command Fault
+read_form [] = Err (fault.BadWords (codes "read"))
+read_form (word ∷ []) = or_at_fault word (read_of (redirected Input word))
+read_form (word ∷ next ∷ words) = at_fault word
+
+-- `write [>FILE]`
+unfoldable pub write_form : List Word → Result Command Fault
+write_form words = output_in words >>= λ to. Ok (command.Write to)
+
+-- `choose NAME`, or `choose` alone
+abbrev pub choose_of : Option Bytes → Command
+choose_of None = command.ShowRepos
+choose_of (Some name) = command.Choose name
+
+-- `choose [NAME]`
+unfoldable pub choose_form : List Word → Result Command Fault
+choose_form words = name_within words >>= λ name. Ok (choose_of name)
+
+-- `drop NAME`, or `drop` alone
+abbrev pub drop_of : Option Bytes → Command
+drop_of None = command.DropChosen
+drop_of (Some name) = command.Drop name
+
+-- `drop [NAME]`
+unfoldable pub drop_form : List Word → Result Command Fault
+drop_form words = name_within words >>= λ name. Ok (drop_of name)
+
+-- `renumber`
+unfoldable pub renumber_form : List Word → Result Command Fault
+renumber_form words = alone command.Renumber words
+
+-- `list [>FILE]`
+unfoldable pub list_form : List Word → Result Command Fault
+list_form words = output_in words >>= λ to. Ok (command.List to)
+
+-- `index [>FILE]`
+unfoldable pub index_form : List Word → Result Command Fault
+index_form words = output_in words >>= λ to. Ok (command.Index to)
+
+-- `names [>FILE]`
+unfoldable pub names_form : List Word → Result Command Fault
+names_form words = output_in words >>= λ to. Ok (command.Names to)
+
+-- the command of a command word and the words behind it
+abbrev pub form_of : Keyword → List Word → Result Command Fault
+form_of keyword.Read words = read_form words
+form_of keyword.Write words = write_form words
+form_of keyword.Choose words = choose_form words
+form_of keyword.Drop words = drop_form words
+form_of keyword.Renumber words = renumber_form words
+form_of keyword.List words = list_form words
+form_of keyword.Index words = index_form words
+form_of keyword.Names words = names_form words
+
+-- ---- a line
+
+-- the command word that bytes are; case counts
+unfoldable pub keyword_of : Bytes → Option Keyword
+keyword_of word =
+    if bytes_eq word (codes "read") then Some keyword.Read else
+    if bytes_eq word (codes "write") then Some keyword.Write else
+    if bytes_eq word (codes "choose") then Some keyword.Choose else
+    if bytes_eq word (codes "drop") then Some keyword.Drop else
+    if bytes_eq word (codes "renumber") then Some keyword.Renumber else
+    if bytes_eq word (codes "list") then Some keyword.List else
+    if bytes_eq word (codes "index") then Some keyword.Index else
+    if bytes_eq word (codes "names") then Some keyword.Names else None
+
+-- the command of such a word, if it is one
+abbrev pub command_in : Bytes → Option Keyword → List Word → Result Command Fault
+command_in head None words = Err (fault.UnknownCommand head)
+command_in head (Some word) words = form_of word words
+
+-- The command of a line that was trimmed: its command word goes up to the first blank. A line that doesn't begin with
+-- a letter has none of these words.
+unfoldable pub command_of : Bytes → Result Command Fault
+command_of line = command_in (head_of line) (keyword_of (head_of line)) (words_of (behind_head line))

@@ -1,0 +1,65 @@
+//! Commands, as they stand in a line.
+ghost use Rattle.script_reader.specs.Answering.{Answers, Refuses};
+ghost use Rattle.script_reader.specs.Commands.{command_of};
+ghost use Rattle.plain_model.specs.declared.fault.Fault.TheVariants.{UnknownCommand};
+
+use crate::form::form;
+use crate::keyword::Keyword;
+use crate::script_text::ScriptText;
+use crate::words::{cut_head, words_in};
+use plain_model::{Fault, Halt, Items, NoMemory, Text};
+use std::alloc::Global;
+
+/// A command as it was read: its words fit, and nothing was looked up yet. (reposurgeon manual, the
+/// section of each command word)
+#[derive(Drop)]
+pub enum Command {
+    /// Loads the history of a file, as a repository of that name.
+    Read { file: ScriptText, name: Text },
+    /// Writes the chosen history into a file, or prints it.
+    Write { to: Option<ScriptText> },
+    /// Chooses the repository of that name.
+    Choose { name: Text },
+    /// Prints the names of the repositories: the word `choose` alone.
+    ShowRepos,
+    /// Forgets the repository of that name.
+    Drop { name: Text },
+    /// Forgets the chosen repository: the word `drop` alone.
+    DropChosen,
+    /// Gives the marks anew, in the list's order.
+    Renumber,
+    /// Prints a line for each commit and tag.
+    List { to: Option<ScriptText> },
+    /// Prints a line for each event.
+    Index { to: Option<ScriptText> },
+    /// Prints a line for each branch and tag.
+    Names { to: Option<ScriptText> },
+}
+
+// The refusal of a command word.
+fn unknown(alloc: Global, word: &str) -> Halt
+    ensures { Refuses result (UnknownCommand word.now) }
+{
+    match Items::of(alloc, word.as_bytes()) {
+        Ok(word) => Halt::Refused(Fault::UnknownCommand { word }),
+        Err(NoMemory) => Halt::Memory,
+    }
+}
+
+impl Command {
+    /// Reads a line without blanks and CR at its ends. Refused with its command word where there is no
+    /// such command, else with its first word that doesn't fit.
+    #[tactic(auto, unfolding(crate::specs::Commands::command_of))]
+    pub fn read(alloc: Global, line: &str) -> Result<Command, Halt>
+        ensures { Answers (λ command. command) result (command_of line.now) }
+    {
+        let (head, behind) = cut_head(line);
+        match Keyword::of(head.as_bytes()) {
+            Some(keyword) => {
+                let words = words_in(alloc, behind)?;
+                form(alloc, keyword, words.as_slice())
+            }
+            None => Err(unknown(alloc, head)),
+        }
+    }
+}

@@ -1,0 +1,210 @@
+//! The forms of the commands: what may stand behind each command word.
+ghost use Rattle.std.specs.Prelude.{◌≡◌, IfOk, Some};
+ghost use Rattle.plain_model.specs.declared.fault.Fault.TheVariants.{BadWords};
+ghost use Rattle.script_reader.specs.Answering.{Answers, Refuses};
+ghost use Rattle.script_reader.specs.Commands.{
+  choose_form,
+  drop_form,
+  form_of,
+  index_form,
+  list_form,
+  name_in,
+  name_within,
+  names_form,
+  or_at_fault,
+  output_in,
+  read_form,
+  read_of,
+  renumber_form,
+  write_form,
+};
+ghost use Rattle.script_reader.specs.Redirections.{redirected};
+ghost use Rattle.script_reader.specs.Words.{text_of};
+
+use crate::command::Command;
+use crate::keyword::Keyword;
+use crate::redirection::{Direction, begins_with_sign, redirected};
+use crate::repo_name::{is_repo_name, repo_name};
+use crate::script_text::ScriptText;
+use crate::word::Word;
+use plain_model::{Fault, Halt, Items, NoMemory, Text};
+use std::alloc::Global;
+
+// The refusal of a line with this word, which is the first at fault.
+fn bad_words(alloc: Global, word: &[u8]) -> Halt
+    ensures { Refuses result (BadWords word.now) }
+{
+    match Items::of(alloc, word) {
+        Ok(word) => Halt::Refused(Fault::BadWords { word }),
+        Err(NoMemory) => Halt::Memory,
+    }
+}
+
+fn at_fault(alloc: Global, word: &Word) -> Halt
+    ensures { Refuses result (BadWords (text_of word.now)) }
+{
+    bad_words(alloc, word.text().as_bytes())
+}
+
+// The name that a last word is, which is no redirection.
+fn name_in(alloc: Global, word: &Word) -> Result<Text, Halt>
+    ensures { Answers (λ name. name) result (or_at_fault word.now (name_in word.now)) }
+{
+    match word {
+        Word::Plain(text) if !begins_with_sign(text.as_bytes()) => Ok(Items::of(
+            alloc,
+            text.as_bytes(),
+        )?),
+        Word::Quoted(text) => Ok(Items::of(alloc, text.as_bytes())?),
+        _ => Err(at_fault(alloc, word)),
+    }
+}
+
+// `[>FILE]`
+fn output(alloc: Global, words: &[Word]) -> Result<Option<ScriptText>, Halt>
+    ensures { Answers (λ to. to) result (output_in words.now) }
+{
+    match words {
+        [] => Ok(None),
+        [word] => match redirected(Direction::Output, word) {
+            Some(file) => Ok(Some(ScriptText::of(alloc, file)?)),
+            None => Err(at_fault(alloc, word)),
+        },
+        [word, ..] => Err(at_fault(alloc, word)),
+    }
+}
+
+// `[NAME]`
+fn name_within(alloc: Global, words: &[Word]) -> Result<Option<Text>, Halt>
+    ensures { Answers (λ name. name) result (name_within words.now) }
+{
+    match words {
+        [] => Ok(None),
+        [word] => Ok(Some(name_in(alloc, word)?)),
+        [_, next, ..] => Err(at_fault(alloc, next)),
+    }
+}
+
+// The command to read a file, if the file gives a repository's name.
+fn read_of(alloc: Global, file: &str) -> Result<Option<Command>, NoMemory>
+    ensures { IfOk result (λ command. command ≡ read_of (Some file.now)) }
+{
+    let name = repo_name(file.as_bytes());
+    if !is_repo_name(name) {
+        return Ok(None);
+    }
+    Ok(Some(Command::Read {
+        file: ScriptText::of(alloc, file)?,
+        name: Items::of(alloc, name)?,
+    }))
+}
+
+// `read <FILE`, of the one word
+fn read_one(alloc: Global, word: &Word) -> Result<Command, Halt>
+    ensures { Answers (λ command. command) result
+        (or_at_fault word.now (read_of (redirected Direction.Input word.now))) }
+{
+    if let Some(file) = redirected(Direction::Input, word) {
+        if let Some(command) = read_of(alloc, file)? {
+            return Ok(command);
+        }
+    }
+    Err(at_fault(alloc, word))
+}
+
+// `read <FILE`
+#[tactic(auto, unfolding(crate::specs::Commands::read_form))]
+fn read(alloc: Global, words: &[Word]) -> Result<Command, Halt>
+    ensures { Answers (λ command. command) result (read_form words.now) }
+{
+    match words {
+        [] => Err(bad_words(alloc, b"read")),
+        [word] => read_one(alloc, word),
+        [word, ..] => Err(at_fault(alloc, word)),
+    }
+}
+
+// `write [>FILE]`
+#[tactic(auto, unfolding(crate::specs::Commands::write_form))]
+fn write(alloc: Global, words: &[Word]) -> Result<Command, Halt>
+    ensures { Answers (λ command. command) result (write_form words.now) }
+{
+    let to = output(alloc, words)?;
+    Ok(Command::Write { to })
+}
+
+// `choose [NAME]`
+#[tactic(auto, unfolding(crate::specs::Commands::choose_form))]
+fn choose(alloc: Global, words: &[Word]) -> Result<Command, Halt>
+    ensures { Answers (λ command. command) result (choose_form words.now) }
+{
+    match name_within(alloc, words)? {
+        Some(name) => Ok(Command::Choose { name }),
+        None => Ok(Command::ShowRepos),
+    }
+}
+
+// `drop [NAME]`
+#[tactic(auto, unfolding(crate::specs::Commands::drop_form))]
+fn forget(alloc: Global, words: &[Word]) -> Result<Command, Halt>
+    ensures { Answers (λ command. command) result (drop_form words.now) }
+{
+    match name_within(alloc, words)? {
+        Some(name) => Ok(Command::Drop { name }),
+        None => Ok(Command::DropChosen),
+    }
+}
+
+// `renumber`
+#[tactic(auto, unfolding(crate::specs::Commands::renumber_form))]
+fn renumber(alloc: Global, words: &[Word]) -> Result<Command, Halt>
+    ensures { Answers (λ command. command) result (renumber_form words.now) }
+{
+    match words {
+        [] => Ok(Command::Renumber),
+        [word, ..] => Err(at_fault(alloc, word)),
+    }
+}
+
+// `list [>FILE]`
+#[tactic(auto, unfolding(crate::specs::Commands::list_form))]
+fn list(alloc: Global, words: &[Word]) -> Result<Command, Halt>
+    ensures { Answers (λ command. command) result (list_form words.now) }
+{
+    let to = output(alloc, words)?;
+    Ok(Command::List { to })
+}
+
+// `index [>FILE]`
+#[tactic(auto, unfolding(crate::specs::Commands::index_form))]
+fn index(alloc: Global, words: &[Word]) -> Result<Command, Halt>
+    ensures { Answers (λ command. command) result (index_form words.now) }
+{
+    let to = output(alloc, words)?;
+    Ok(Command::Index { to })
+}
+
+// `names [>FILE]`
+#[tactic(auto, unfolding(crate::specs::Commands::names_form))]
+fn names(alloc: Global, words: &[Word]) -> Result<Command, Halt>
+    ensures { Answers (λ command. command) result (names_form words.now) }
+{
+    let to = output(alloc, words)?;
+    Ok(Command::Names { to })
+}
+
+/// The command of a command word and the words behind it.
+pub fn form(alloc: Global, keyword: Keyword, words: &[Word]) -> Result<Command, Halt>
+    ensures { Answers (λ command. command) result (form_of keyword words.now) }
+{
+    match keyword {
+        Keyword::Read => read(alloc, words),
+        Keyword::Write => write(alloc, words),
+        Keyword::Choose => choose(alloc, words),
+        Keyword::Drop => forget(alloc, words),
+        Keyword::Renumber => renumber(alloc, words),
+        Keyword::List => list(alloc, words),
+        Keyword::Index => index(alloc, words),
+        Keyword::Names => names(alloc, words),
+    }
+}

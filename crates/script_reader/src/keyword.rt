@@ -1,0 +1,44 @@
+//! Command words.
+ghost use Rattle.std.specs.Prelude.{◌≡◌};
+ghost use Rattle.script_reader.specs.Commands.{keyword_of};
+
+/// A command word. (reposurgeon manual)
+#[derive(Clone, Copy)]
+pub enum Keyword {
+    Read,
+    Write,
+    Choose,
+    Drop,
+    Renumber,
+    List,
+    Index,
+    Names,
+}
+
+impl Keyword {
+    /// The command word that these bytes are; case counts.
+    #[tactic(auto, unfolding(crate::specs::Commands::keyword_of))]
+    pub fn of(word: &[u8]) -> Option<Keyword>
+        ensures { result ≡ keyword_of word.now }
+    {
+        if word == b"read".as_slice() {
+            Some(Keyword::Read)
+        } else if word == b"write".as_slice() {
+            Some(Keyword::Write)
+        } else if word == b"choose".as_slice() {
+            Some(Keyword::Choose)
+        } else if word == b"drop".as_slice() {
+            Some(Keyword::Drop)
+        } else if word == b"renumber".as_slice() {
+            Some(Keyword::Renumber)
+        } else if word == b"list".as_slice() {
+            Some(Keyword::List)
+        } else if word == b"index".as_slice() {
+            Some(Keyword::Index)
+        } else if word == b"names".as_slice() {
+            Some(Keyword::Names)
+        } else {
+            None
+        }
+    }
+}
