@@ -7,7 +7,7 @@ use Rattle.history_machine.specs.Machine.{World, Turn, Run, sent, after, PartSen
 use Rattle.plain_model.specs.declared.fault.Fault.{Fault}
 use Rattle.plain_model.specs.declared.status.Status.{Status}
 use Rattle.plain_model.specs.declared.status.Status.TheVariants as status
-use Rattle.history_machine.specs.declared.script.ScriptItem.{ScriptItem}
+use Rattle.script_reader.specs.declared.script.ScriptItem.{ScriptItem}
 use Rattle.history_machine.proofs.Runs.{done_more, refused_ends, breaks_here}
 use Rattle.surgeon_store.specs.Outside.{StoreState, SinkState, Rose}
 use Rattle.file_calls.specs.Calls.{world, world_of, Later, Carries, Refuses, Turns, CausedEnd, NoFaults}

@@ -6,7 +6,7 @@ use Rattle.history_machine.specs.Machine.{World, Turn, Run, after, PartSent, Ses
 use Rattle.plain_model.specs.declared.fault.Fault.{Fault}
 use Rattle.plain_model.specs.declared.status.Status.{Status}
 use Rattle.plain_model.specs.declared.status.Status.TheVariants as status
-use Rattle.history_machine.specs.declared.script.ScriptItem.{ScriptItem}
+use Rattle.script_reader.specs.declared.script.ScriptItem.{ScriptItem}
 use Rattle.history_machine.proofs.Runs.{IsBreak}
 use Rattle.file_calls.specs.Calls.{Carries, Refuses, Turns, CausedEnd}
 use Rattle.surgeon_store.specs.Outside.{StoreState, SinkState}

@@ -7,7 +7,7 @@ use Rattle.history_machine.specs.Machine.{World, Turn, Run, sent, after, PartSen
 use Rattle.plain_model.specs.declared.fault.Fault.{Fault}
 use Rattle.plain_model.specs.declared.status.Status.{Status}
 use Rattle.plain_model.specs.declared.status.Status.TheVariants as status
-use Rattle.history_machine.specs.declared.script.ScriptItem.{ScriptItem}
+use Rattle.script_reader.specs.declared.script.ScriptItem.{ScriptItem}
 
 -- a command, and then what stands after the others
 pub stands_first : {X : Type 0} (t : Turn X) (run : Run X) (r : Status) (w now : World) → Stands run r (after w t) now → Stands (with_first t run) r w now

@@ -8,7 +8,7 @@ use Rattle.plain_model.specs.Paths.{Bytes}
 use Rattle.plain_model.specs.declared.fault.Fault.{Fault}
 use Rattle.plain_model.specs.declared.status.Status.{Status}
 use Rattle.plain_model.specs.declared.status.Status.TheVariants as status
-use Rattle.history_machine.specs.declared.script.ScriptItem.{ScriptItem}
+use Rattle.script_reader.specs.declared.script.ScriptItem.{ScriptItem}
 
 -- ---- what a run is made of
 

@@ -1,5 +1,5 @@
 -- The run of a command line: its words, its script, and the commands of the script. (own)
-use Rattle.std.specs.Prelude.{List, [], ◌∷◌, ◌++◌, false, codes, Option, Some, None, Result, Ok, Err}
+use Rattle.std.specs.Prelude.{List, [], ◌∷◌, ◌++◌, Bool, codes, Option, Some, None, Result, Ok, Err}
 use Rattle.plain_model.specs.Faults.{fault_text}
 use Rattle.plain_model.specs.Files.{Files}
 use Rattle.plain_model.specs.Paths.{Bytes}
@@ -8,16 +8,21 @@ use Rattle.plain_model.specs.declared.fault.Fault.{Fault}
 use Rattle.plain_model.specs.declared.fault.Fault.TheVariants as fault
 use Rattle.plain_model.specs.declared.status.Status.{Status}
 use Rattle.plain_model.specs.declared.status.Status.TheVariants as status
-use Rattle.history_machine.specs.Commands.{Session, line_step}
-use Rattle.history_machine.specs.Loading.{file_within}
+use Rattle.script_reader.specs.Scripts.{script_of}
+use Rattle.script_reader.specs.declared.script.ScriptItem.{ScriptItem}
+use Rattle.history_machine.specs.Loading.{◌>>=◌, file_within}
 use Rattle.history_machine.specs.Machine.{Run, run_on}
-use Rattle.history_machine.specs.Scripts.{items_of, script_of}
+use Rattle.history_machine.specs.Sessions.{Session, empty_session, line_step}
+use Rattle.history_machine.specs.Words.{Asked, asked}
 
 -- ---- runs that only print
 
 -- a run that prints a line and ends so
 abbrev pub only_prints : Status → Bytes → Run Session
-only_prints ends line = record { turns = record { session = None; to = None; bytes = line ++ 10 ∷ [] } ∷ []; status = ends }
+only_prints ends line = record {
+  turns = record { session = empty_session; to = None; bytes = line ++ 10 ∷ [] } ∷ [];
+  status = ends;
+}
 
 -- how the program is called
 unfoldable pub usage : Bytes
@@ -39,20 +44,24 @@ unread name why = only_prints (unread_status why) (unread_line name (unread_stat
 
 -- ---- the run
 
--- the run of a script's bytes among files: the first refusal ends it
-abbrev pub script_run : Files → Bytes → Run Session
-script_run files bytes = run_on line_step false status.Done None files (items_of bytes)
+-- the run of a script from a session on: the first refusal ends it, unless it is to keep going
+abbrev pub run_from : Session → Files → List ScriptItem → Bool → Run Session
+run_from s files items keep_going = run_on line_step keep_going status.Done s files items
 
 -- the run of a script, if it was read
-abbrev pub run_read : Bytes → Files → Result Bytes Fault → Run Session
-run_read name files (Ok bytes) = script_run files bytes
-run_read name files (Err why) = unread name why
+abbrev pub run_read : Asked → Files → Result (List ScriptItem) Fault → Run Session
+run_read what files (Ok items) = run_from empty_session files items what.keep_going
+run_read what files (Err why) = unread what.script why
 
--- the run of the script that the words name, if they are right
-abbrev pub run_named : Files → Option Bytes → Run Session
-run_named files None = only_prints status.Usage usage
-run_named files (Some name) = run_read name files (file_within files name MAX_SCRIPT_BYTES)
+-- the script of a file
+abbrev pub script_in : Files → Bytes → Result (List ScriptItem) Fault
+script_in files name = file_within files name MAX_SCRIPT_BYTES >>= λ bytes. script_of bytes
+
+-- the run that is asked for, if the words are right
+abbrev pub run_asked : Files → Option Asked → Run Session
+run_asked files None = only_prints status.Usage usage
+run_asked files (Some what) = run_read what files (script_in files what.script)
 
 -- the run of a command line, whose first word is the program's name
 unfoldable pub run : List Bytes → Files → Run Session
-run words files = run_named files (script_of words)
+run words files = run_asked files (asked words)

@@ -3,6 +3,8 @@ use Rattle.std.proofs.Common.{◌≡◌, inl, ℕ, zero, List, [], ◌∷◌, �
 use Rattle.std.specs.Prelude.{IfSome, IsSome}
 use Rattle.plain_model.specs.Files.{Files}
 use Rattle.history_machine.specs.Machine.{World, Turn, Run, sent, PartSent, Stands, BreaksAfter}
+use Rattle.script_reader.specs.declared.script.ScriptItem.{ScriptItem}
+use Rattle.history_machine.specs.Words.{Asked}
 use Rattle.history_machine.specs.Whole.{only_prints, run_read, unread, unread_status}
 use Rattle.plain_model.specs.declared.fault.Fault.{Fault}
 use Rattle.plain_model.specs.declared.fault.Fault.TheVariants as fault
@@ -85,17 +87,17 @@ read_later s s' k frame = record {
   tells = rw frame.files (still (world s k));
 }
 
-unread_told_worlds : (files : Option Files) (p q : Option (List ℕ)) (name : List ℕ) (why : Fault) (due : Files → Result (List ℕ) Fault) (r : Status) → IfSome files (λ f. due f ≡ Err why)
-    → IfSome (world_of files p) (λ w. IfSome (world_of files q) (λ now. Stands (unread name why) r w now))
-    → IfSome (world_of files p) (λ w. IfSome (world_of files q) (λ now. Stands (run_read name w.files (due w.files)) r w now))
-unread_told_worlds None p q name why due r refused h = tt
-unread_told_worlds (Some f) None q name why due r refused h = tt
-unread_told_worlds (Some f) (Some x) None name why due r refused h = tt
-unread_told_worlds (Some f) (Some x) (Some y) name why due r refused h =
-    subst (λ (d : Result (List ℕ) Fault). Stands (run_read name f d) r (record { files = f; printed = x }) (record { files = f; printed = y })) (sym refused) h
+unread_told_worlds : (files : Option Files) (p q : Option (List ℕ)) (what : Asked) (why : Fault) (due : Files → Result (List ScriptItem) Fault) (r : Status) → IfSome files (λ f. due f ≡ Err why)
+    → IfSome (world_of files p) (λ w. IfSome (world_of files q) (λ now. Stands (unread what.script why) r w now))
+    → IfSome (world_of files p) (λ w. IfSome (world_of files q) (λ now. Stands (run_read what w.files (due w.files)) r w now))
+unread_told_worlds None p q what why due r refused h = tt
+unread_told_worlds (Some f) None q what why due r refused h = tt
+unread_told_worlds (Some f) (Some x) None what why due r refused h = tt
+unread_told_worlds (Some f) (Some x) (Some y) what why due r refused h =
+    subst (λ (d : Result (List ScriptItem) Fault). Stands (run_read what f d) r (record { files = f; printed = x }) (record { files = f; printed = y })) (sym refused) h
 
 -- the run of a script that is not read
-pub unread_told : (name : List ℕ) (why : Fault) (due : Files → Result (List ℕ) Fault) (s s' : StoreState) (k k' : SinkState) (r : Status) → Reads s s' → IfSome s.files (λ f. due f ≡ Err why)
-    → IfSome (world s k) (λ w. IfSome (world s k') (λ now. Stands (unread name why) r w now))
-    → IfSome (world s k) (λ w. IfSome (world s' k') (λ now. Stands (run_read name w.files (due w.files)) r w now))
-unread_told name why due s s' k k' r frame refused h = rw frame.files (unread_told_worlds s.files k.written k'.written name why due r refused h)
+pub unread_told : (what : Asked) (why : Fault) (due : Files → Result (List ScriptItem) Fault) (s s' : StoreState) (k k' : SinkState) (r : Status) → Reads s s' → IfSome s.files (λ f. due f ≡ Err why)
+    → IfSome (world s k) (λ w. IfSome (world s k') (λ now. Stands (unread what.script why) r w now))
+    → IfSome (world s k) (λ w. IfSome (world s' k') (λ now. Stands (run_read what w.files (due w.files)) r w now))
+unread_told what why due s s' k k' r frame refused h = rw frame.files (unread_told_worlds s.files k.written k'.written what why due r refused h)

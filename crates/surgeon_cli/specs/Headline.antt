@@ -1,7 +1,6 @@
 -- What the top call promises, over a store that tells its files and a sink that tells what was written.
 use Rattle.std.specs.Prelude.{◌≡◌, ◌≢◌, List, None, IfSome}
 use Rattle.std.specs.List.{AllByRecursion}
-use Rattle.plain_model.specs.declared.event.PlainEvent.{PlainEvent}
 use Rattle.plain_model.specs.declared.status.Status.{Status}
 use Rattle.plain_model.specs.declared.status.Status.TheVariants as status
 use Rattle.plain_model.specs.Paths.{Bytes}
@@ -9,10 +8,10 @@ use Rattle.plain_model.specs.Files.{Files}
 use Rattle.plain_model.specs.Text.{text}
 use Rattle.stream_replay.specs.Shows.{Shows}
 use Rattle.surgeon_store.specs.Outside.{StoreState, SinkState}
-use Rattle.history_machine.specs.Commands.{Session}
-use Rattle.history_machine.specs.Machine.{Turn, Completes, Stands}
-use Rattle.history_machine.specs.Scripts.{script_of}
+use Rattle.history_machine.specs.Sessions.{Repo}
+use Rattle.history_machine.specs.Machine.{Completes, Stands}
 use Rattle.history_machine.specs.Whole.{run}
+use Rattle.history_machine.specs.Words.{asked}
 use Rattle.file_calls.specs.Calls.{NoFaults, world}
 
 -- Files and output are those of the machine's run of these words: at its end, with its status, or where a fault of
@@ -25,14 +24,14 @@ abbrev pub Succeeds : List Bytes → StoreState → SinkState → Status → Sto
 Succeeds words s k answer s' k' =
     NoFaults s k s' k' → answer ≢ status.Memory → IfSome (world s k) (λ w. IfSome (world s' k') (λ now. Completes (run words w.files) answer w now))
 
--- what a command writes into a file is the text of a history: it is read again as it, and a replay of it by plain maps
--- shows what that history shows
-abbrev pub WritesHistory : Turn Session → Type 0
-WritesHistory t = IfSome t.to (λ name. (history : List PlainEvent) × (t.bytes ≡ text history) × Shows t.bytes history)
+-- each history that a session holds: what is written of it is read again as it, and a replay of that by plain maps shows
+-- what the history shows
+abbrev pub AreShown : List Repo → Type 0
+AreShown repos = AllByRecursion (λ r. Shows (text r.history) r.history) repos
 
--- each file that the run writes
-abbrev pub WritesHistories : List Bytes → Files → Type 0
-WritesHistories words files = AllByRecursion WritesHistory (run words files).turns
+-- that is so behind each command of the run, whether it is done or refused
+abbrev pub ShowsHistories : List Bytes → Files → Type 0
+ShowsHistories words files = AllByRecursion (λ t. AreShown t.session.repos) (run words files).turns
 
 -- how a run ends that tells how the program is called: so, or a fault of printing or want of memory broke it off
 abbrev pub IsUsageEnd : Status → Type 0
@@ -43,5 +42,5 @@ IsUsageEnd other = ⊥
 
 -- the words aren't right exactly where it is told how the program is called
 pub record AnswersWords (words : List Bytes) (answer : Status) : Type 0 where
-  pub told : script_of words ≡ None → IsUsageEnd answer
-  pub only : answer ≡ status.Usage → script_of words ≡ None
+  pub told : asked words ≡ None → IsUsageEnd answer
+  pub only : answer ≡ status.Usage → asked words ≡ None

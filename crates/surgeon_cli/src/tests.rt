@@ -361,7 +361,7 @@ fn a_commit_has_64_parents_at_most(rt: HostRuntime) -> Result<(), Fail> {
 #[test]
 fn a_script_ends_with_its_status_and_its_line(rt: HostRuntime) -> Result<(), Fail> {
     let alloc = rt.alloc();
-    let rows: [(&str, &[u8], Status, &[u8]); 11] = [
+    let rows: [(&str, &[u8], Status, &[u8]); 14] = [
         ("no line", b"", Status::Done, b""),
         ("a line that no LF ends", b"read <a.fi", Status::Done, b""),
         (
@@ -377,46 +377,64 @@ fn a_script_ends_with_its_status_and_its_line(rt: HostRuntime) -> Result<(), Fai
             b"",
         ),
         (
+            "blanks and CR around words, a comment, an empty line",
+            b"\tread   <a.fi \r\n# note\n\n",
+            Status::Done,
+            b"",
+        ),
+        (
             "an unknown word",
             b"frob\n",
             Status::Refused,
             b"surgeon: line 1: refused 20 UnknownCommand word=frob\n",
         ),
         (
-            "an empty line",
-            b"read <a.fi\n\nwrite >b\n",
+            "a number in front",
+            b"# note\n1 list\n",
             Status::Refused,
-            b"surgeon: line 2: refused 20 UnknownCommand word=\n",
+            b"surgeon: line 2: refused 20 UnknownCommand word=1\n",
         ),
         (
-            "a CR before the LF",
-            b"read <a.fi\r\n",
+            "a word too many",
+            b"read <a.fi\nlist all\n",
             Status::Refused,
-            b"surgeon: line 1: refused 20 UnknownCommand word=read\n",
+            b"surgeon: line 2: refused 21 BadWords word=all\n",
         ),
         (
-            "write first",
-            b"write >b\n",
+            "nothing is chosen",
+            b"list\n",
             Status::Refused,
-            b"surgeon: line 1: refused 20 UnknownCommand word=write\n",
+            b"surgeon: line 1: refused 30 NoRepo\n",
+        ),
+        (
+            "no such repository",
+            b"read <a.fi\nchoose b\n",
+            Status::Refused,
+            b"surgeon: line 2: refused 31 NoSuchRepo name=b\n",
         ),
         (
             "read again",
             b"read <a.fi\nread <a.fi\n",
             Status::Refused,
-            b"surgeon: line 2: refused 20 UnknownCommand word=read\n",
-        ),
-        (
-            "two spaces",
-            b"read  <a.fi\n",
-            Status::Refused,
-            b"surgeon: line 1: refused 20 UnknownCommand word=read\n",
+            b"surgeon: line 2: refused 32 RepoTaken name=a\n",
         ),
         (
             "no such stream",
             b"read <none\n",
             Status::Refused,
             b"surgeon: line 1: refused 11 Absent name=none\n",
+        ),
+        (
+            "a comment that isn't UTF-8",
+            b"read <a.fi\n# \xff\nfrob\n",
+            Status::BadScript,
+            b"surgeon: script refused 26 BadText line=2\n",
+        ),
+        (
+            "the names of what is loaded",
+            b"read <a.fi\nread <e.fi\nchoose a\nchoose\ndrop\nchoose\n",
+            Status::Done,
+            b"* a\n  e\n  e\n",
         ),
     ];
     for (what, script, status, printed) in rows {
@@ -428,13 +446,122 @@ fn a_script_ends_with_its_status_and_its_line(rt: HostRuntime) -> Result<(), Fai
 }
 
 #[test]
+fn a_run_goes_on_behind_refusals_where_it_is_to(rt: HostRuntime) -> Result<(), Fail> {
+    let alloc = rt.alloc();
+    let script = b"write\nread <a.fi\nread <none\nrenumber x\nindex\nread <a.fi\nwrite >b.fi\n";
+    let printed = b"surgeon: line 1: refused 30 NoRepo
+surgeon: line 3: refused 11 Absent name=none
+surgeon: line 4: refused 21 BadWords word=x
+     1 blob :1
+     2 commit :2 refs/heads/master
+     3 commit :3 refs/heads/master
+surgeon: line 6: refused 32 RepoTaken name=a
+";
+    let rows: [(&str, &[&str]); 2] = [
+        ("the flag first", &["--keep-going", "s"]),
+        ("the script first", &["s", "--keep-going"]),
+    ];
+    for (what, given) in rows {
+        let ending = run_script(alloc, script, given)?;
+        assert_eq!(rt; ending.status, Status::Refused, "{what}");
+        assert!(rt; ending.printed.as_slice() == printed.as_slice(), "{what}");
+        assert!(rt;
+            is_as_wanted(ending.written.as_ref(), Some(WRITTEN)),
+            "{what}"
+        );
+    }
+    Ok(())
+}
+
+// The same two commits, with the marks 10, 20 and 30.
+const TENS: &[u8] =
+    b"blob\nmark :10\ndata 3\none\ncommit refs/heads/master\nmark :20\ncommitter A <a@x> 100 +0000\ndata 2\nc1\nM 100644 :10 f\n\ncommit refs/heads/master\nmark :30\ncommitter A <a@x> 200 +0000\ndata 2\nc2\nfrom :20\nD f\n";
+
+#[test]
+fn marks_are_given_anew(rt: HostRuntime) -> Result<(), Fail> {
+    let alloc = rt.alloc();
+    let words = words(alloc, &["s"])?;
+    let script = b"read <x/lib.fi\nrenumber\nindex\nchoose\nwrite >b.fi\n";
+    let mut files = Items::new(alloc)?;
+    files.push(entry(alloc, "s", script)?)?;
+    files.push(entry(alloc, "x/lib.fi", TENS)?)?;
+    let ending = run_over(alloc, files, &words)?;
+    let printed = b"     1 blob :1
+     2 commit :2 refs/heads/master
+     3 commit :3 refs/heads/master
+* lib
+";
+    assert_eq!(rt; ending.status, Status::Done);
+    assert!(rt; ending.printed.as_slice() == printed.as_slice());
+    assert!(rt; is_as_wanted(ending.written.as_ref(), Some(WRITTEN)));
+    Ok(())
+}
+
+#[test]
+fn a_listing_goes_into_a_file(rt: HostRuntime) -> Result<(), Fail> {
+    let alloc = rt.alloc();
+    let rows: [(&str, &[u8], &[u8]); 3] = [
+        (
+            "the list",
+            b"read <a.fi\nlist >b.fi\n",
+            b"     2 1970-01-01T00:01:40Z :2 c1\n     3 1970-01-01T00:03:20Z :3 c2\n",
+        ),
+        (
+            "the index",
+            b"read <a.fi\nindex >b.fi\n",
+            b"     1 blob :1\n     2 commit :2 refs/heads/master\n     3 commit :3 refs/heads/master\n",
+        ),
+        (
+            "the names",
+            b"read <a.fi\nnames >b.fi\n",
+            b"branch refs/heads/master :3\n",
+        ),
+    ];
+    for (what, script, written) in rows {
+        let ending = run_script(alloc, script, &["s"])?;
+        assert_eq!(rt; ending.status, Status::Done, "{what}");
+        assert!(rt; ending.printed.as_slice().is_empty(), "{what}");
+        assert!(rt;
+            is_as_wanted(ending.written.as_ref(), Some(written)),
+            "{what}"
+        );
+    }
+    Ok(())
+}
+
+#[test]
 fn a_command_line_ends_with_its_status_and_its_line(rt: HostRuntime) -> Result<(), Fail> {
     let alloc = rt.alloc();
     let usage: &[u8] = b"usage: surgeon [--keep-going] SCRIPT\n";
-    let rows: [(&str, &[&str], Status, &[u8]); 6] = [
+    let rows: [(&str, &[&str], Status, &[u8]); 11] = [
         ("no word", &[], Status::Usage, usage),
         ("two words", &["s", "s"], Status::Usage, usage),
         ("an option", &["-x"], Status::Usage, usage),
+        ("the flag alone", &["--keep-going"], Status::Usage, usage),
+        (
+            "the flag twice",
+            &["--keep-going", "s", "--keep-going"],
+            Status::Usage,
+            usage,
+        ),
+        (
+            "the flag with a value",
+            &["--keep-going=1", "s"],
+            Status::Usage,
+            usage,
+        ),
+        (
+            "an option behind two hyphens",
+            &["--", "-x"],
+            Status::NoScript,
+            b"surgeon: no script -x\n",
+        ),
+        (
+            "two hyphens twice",
+            &["--keep-going", "--", "--"],
+            Status::NoScript,
+            b"surgeon: no script --\n",
+        ),
         (
             "no such script",
             &["t"],

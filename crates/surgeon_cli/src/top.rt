@@ -11,41 +11,43 @@ ghost use Rattle.std.specs.Prelude.{
   OnOk,
   IsErrOf,
   IfSome,
-  None,
-  false,
+  Err,
+  Some,
   ◌≢◌,
 };
-ghost use Rattle.surgeon_store.specs.Outside.{Rose, StoreState, Puts, PutsSome};
-ghost use Rattle.history_machine.specs.Loading.{file_within};
-ghost use Rattle.history_machine.specs.Machine.{World, Stands, run_on};
+ghost use Rattle.surgeon_store.specs.Outside.{Puts, PutsSome, Reads, Rose, StoreState};
+ghost use Rattle.history_machine.specs.Machine.{Stands, World};
+ghost use Rattle.history_machine.specs.Sessions.{empty_session};
 ghost use Rattle.history_machine.specs.Whole.{
-  run,
-  usage,
-  unread,
   only_prints,
-  unread_status,
+  run,
+  run_asked,
+  run_from,
+  script_in,
+  unread,
   unread_line,
-  run_read,
-  script_run,
+  unread_status,
+  usage,
 };
-ghost use Rattle.file_calls.specs.Calls.{CausedEnd, Later, world};
+ghost use Rattle.file_calls.specs.Calls.{CausedByReading, CausedEnd, Gives, Later, world};
 ghost use Rattle.surgeon_cli.specs.Headline.{
-  AsPrescribed,
   AnswersWords,
+  AsPrescribed,
   IsUsageEnd,
+  ShowsHistories,
   Succeeds,
-  WritesHistories,
 };
 ghost use Rattle.plain_model.specs.Files.{Files};
 
-use crate::lines::items_in;
-use crate::run::run_items;
-use crate::words::script_in;
+use crate::words::asked_in;
 use file_calls::{Halted, read_file};
 use plain_model::{Fault, Items, MAX_SCRIPT_BYTES, NoMemory, Status, Text};
-use sound_laws::what_is_read_is_sound;
+use renumbering::{ids_stay, renumbering_keeps_what_reading_gives};
+use script_reader::Script;
+use sound_laws::{what_is_read_is_sound, what_is_read_passes_no_limit};
 use std::alloc::Global;
 use stream_replay::replay_shows_the_history;
+use surgeon_session::Session;
 use surgeon_store::{Sink, Store, WriteEnd, write_all};
 use written_laws::what_is_written_is_read_again;
 
@@ -143,37 +145,68 @@ fn print_usage<T: Sink>(alloc: Global, out: &mut T) -> Status
     }
 }
 
-// Runs the bytes of a script.
-fn run_bytes<S: Store, T: Sink>(alloc: Global, bytes: &[u8], store: &mut S, out: &mut T) -> Status
+// The script of a file.
+fn script_in<S: Store>(alloc: Global, store: &mut S, name: &str) -> Result<Script, Halted>
+    ensures told { IfSome (S.state store.old).files
+        (λ files. Gives (λ script. script) result (script_in files name.now)) }
+    ensures missed { (name : _) → result ≡ Err (Halted.Refused (Fault.Absent name))
+        → Rose (S.state store.old).misses (S.state store.new).misses }
+    ensures caused { CausedByReading (S.state store.old) result (S.state store.new) }
+    ensures frame { Reads (S.state store.old) (S.state store.new) }
+{
+    let bytes = match read_file(alloc, store, name, MAX_SCRIPT_BYTES) {
+        Ok(bytes) => bytes,
+        Err(halted) => return Err(halted),
+    };
+    match Script::read(alloc, bytes.as_slice()) {
+        Ok(script) => Ok(script),
+        Err(halt) => Err(Halted::from(halt)),
+    }
+}
+
+// Runs a script from the empty session on.
+fn run_script<S: Store, T: Sink>(
+    alloc: Global,
+    script: &Script,
+    keep_going: bool,
+    store: &mut S,
+    out: &mut T,
+) -> Status
     ensures told { IfSome (world (S.state store.old) (T.state out.old))
         (λ w. IfSome (world (S.state store.new) (T.state out.new))
-        (λ now. Stands (script_run w.files bytes.now) result w now)) }
+        (λ now. Stands (run_from empty_session w.files script.now keep_going) result w now)) }
     ensures caused { CausedEnd (S.state store.old) (T.state out.old) result
         (S.state store.new) (T.state out.new) }
     ensures later { Later (S.state store.old) (T.state out.old)
         (S.state store.new) (T.state out.new) }
     ensures words { result ≢ Status.Usage }
 {
-    match items_in(alloc, bytes) {
-        Ok(items) => run_items(alloc, items.as_slice(), store, out),
+    match Session::new(alloc) {
+        Ok(mut session) => session.run(script, keep_going, store, out),
         Err(NoMemory) => Status::Memory,
     }
 }
 
 // Runs the script of a file.
-fn run_file<S: Store, T: Sink>(alloc: Global, name: &str, store: &mut S, out: &mut T) -> Status
+fn run_file<S: Store, T: Sink>(
+    alloc: Global,
+    name: &str,
+    keep_going: bool,
+    store: &mut S,
+    out: &mut T,
+) -> Status
     ensures told { IfSome (world (S.state store.old) (T.state out.old))
         (λ w. IfSome (world (S.state store.new) (T.state out.new))
-        (λ now. Stands (run_read name.now w.files (file_within w.files name.now MAX_SCRIPT_BYTES))
-        result w now)) }
+        (λ now. Stands (run_asked w.files
+        (Some (record { keep_going = keep_going; script = name.now }))) result w now)) }
     ensures caused { CausedEnd (S.state store.old) (T.state out.old) result
         (S.state store.new) (T.state out.new) }
     ensures later { Later (S.state store.old) (T.state out.old)
         (S.state store.new) (T.state out.new) }
     ensures words { result ≢ Status.Usage }
 {
-    match read_file(alloc, store, name, MAX_SCRIPT_BYTES) {
-        Ok(bytes) => run_bytes(alloc, bytes.as_slice(), store, out),
+    match script_in(alloc, store, name) {
+        Ok(script) => run_script(alloc, &script, keep_going, store, out),
         Err(Halted::Refused(why)) => unread_script(alloc, name.as_bytes(), &why, out),
         Err(Halted::SourceFault) => Status::SourceFault,
         Err(Halted::SinkFault) => Status::SinkFault,
@@ -181,7 +214,7 @@ fn run_file<S: Store, T: Sink>(alloc: Global, name: &str, store: &mut S, out: &m
     }
 }
 
-// Runs the script that the words name.
+// Runs what the words ask for.
 #[tactic(auto, unfolding(history_machine::specs::Whole::run))]
 fn run_words<S: Store, T: Sink>(
     alloc: Global,
@@ -198,13 +231,14 @@ fn run_words<S: Store, T: Sink>(
         (S.state store.new) (T.state out.new) }
     ensures words { AnswersWords (map string_bytes words.now) result }
 {
-    match script_in(words) {
+    match asked_in(words) {
         None => print_usage(alloc, out),
-        Some(name) => run_file(alloc, name.as_str(), store, out),
+        Some(asked) => run_file(alloc, asked.script.as_str(), asked.keep_going, store, out),
     }
 }
 
-/// Runs the script that the words name, over these files and this output. The first word is the program's name.
+/// Runs the script that the words name, over these files and this output. The first word is the program's name; with
+/// `--keep-going` among the others the run goes on behind refusals. (own)
 pub fn surgeon<S: Store, T: Sink>(
     alloc: Global,
     words: &[String],
@@ -227,12 +261,15 @@ pub fn surgeon<S: Store, T: Sink>(
     // want of memory may come in its place.
     ensures words { AnswersWords (map string_bytes words.now) result }
 
-    // Each file that the run writes is the text of a history: it is read again as it, and replayed by plain maps it
-    // shows what that history shows.
-    ensures replayed { (files : Files) → WritesHistories (map string_bytes words.now) files }
+    // Each history that the run holds, and so each that it writes, is read again of its text, which replayed by plain
+    // maps shows what that history shows.
+    ensures replayed { (files : Files) → ShowsHistories (map string_bytes words.now) files }
 {
     what_is_read_is_sound();
+    what_is_read_passes_no_limit();
     what_is_written_is_read_again();
     replay_shows_the_history();
+    ids_stay();
+    renumbering_keeps_what_reading_gives();
     run_words(alloc, words, store, out)
 }

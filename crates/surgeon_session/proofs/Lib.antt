@@ -1,0 +1,6 @@
+mod Ends
+mod Entries
+mod Fronts
+mod Ids
+mod Lines
+mod Sessions

@@ -1,0 +1,165 @@
+use crate::Session;
+use file_calls::Halted;
+use plain_model::{Fault, Items, Status, Text};
+use script_reader::{Command, Script};
+use std::alloc::Global;
+use std::test::Fail;
+use surgeon_store::{FileEntry, FileList, SureSink, SureStore};
+
+// A root that puts a file, and a reset to it; the marks aren't 1 and 2.
+const STREAM: &[u8] =
+    b"blob\nmark :7\ndata 1\nx\ncommit refs/heads/main\nmark :9\ncommitter A <a@x> 86400 +0100\ndata 6\none\nmo\nM 100644 :7 f\n\nreset refs/tags/v\nfrom :9\n";
+
+const RENUMBERED: &[u8] =
+    b"blob\nmark :1\ndata 1\nx\ncommit refs/heads/main\nmark :2\nauthor A <a@x> 86400 +0100\ncommitter A <a@x> 86400 +0100\ndata 6\none\nmo\nM 100644 :1 f\n\nreset refs/tags/v\nfrom :2\n";
+
+fn entry(alloc: Global, name: &[u8], bytes: &[u8]) -> Result<FileEntry, Fail> {
+    Ok(FileEntry {
+        name: Items::of(alloc, name)?,
+        bytes: Items::of(alloc, bytes)?,
+    })
+}
+
+// The stream, as the files `1.fi` to `9.fi`.
+fn files(alloc: Global) -> Result<FileList, Fail> {
+    let mut files = Items::new(alloc)?;
+    for digit in b"123456789" {
+        let name = [*digit, b'.', b'f', b'i'];
+        files.push(entry(alloc, &name, STREAM)?)?;
+    }
+    Ok(files)
+}
+
+// How a run ends, what it prints, and what stands in the file `out` then.
+#[derive(Drop)]
+struct Ending {
+    status: Status,
+    printed: Text,
+    written: Text,
+}
+
+fn run(alloc: Global, script: &[u8], keep_going: bool) -> Result<Ending, Fail> {
+    let mut store = SureStore::new(alloc, files(alloc)?)?;
+    let mut out = SureSink::new(alloc)?;
+    let script = Script::read(alloc, script).ok().ok_or("no script")?;
+    let mut session = Session::new(alloc)?;
+    let status = session.run(&script, keep_going, &mut store, &mut out);
+    let written = match store.file("out") {
+        Some(bytes) => Items::of(alloc, bytes.as_slice())?,
+        None => Items::new(alloc)?,
+    };
+    Ok(Ending {
+        status,
+        printed: Items::of(alloc, out.written().as_slice())?,
+        written,
+    })
+}
+
+#[test]
+fn each_command_prints_and_writes_its_text(rt: HostRuntime) -> Result<(), Fail> {
+    let alloc = rt.alloc();
+    let index: &[u8] =
+        b"     1 blob :7\n     2 commit :9 refs/heads/main\n     3 reset :9 refs/tags/v\n";
+    let rows: [(&str, &[u8], &[u8], &[u8]); 9] = [
+        (
+            "list",
+            b"read <1.fi\nlist",
+            b"     2 1970-01-02T00:00:00Z :9 one\n",
+            b"",
+        ),
+        ("index", b"read <1.fi\nindex", index, b""),
+        (
+            "names",
+            b"read <1.fi\nnames",
+            b"branch refs/heads/main :9\nbranch refs/tags/v :9\n",
+            b"",
+        ),
+        ("a file", b"read <1.fi\nindex >out", b"", index),
+        (
+            "renumber",
+            b"read <1.fi\nrenumber\nwrite >out",
+            b"",
+            RENUMBERED,
+        ),
+        ("write", b"read <1.fi\nrenumber\nwrite", RENUMBERED, b""),
+        (
+            "choose",
+            b"read <1.fi\nread <2.fi\nchoose\nchoose 1\nchoose",
+            b"  1\n* 2\n* 1\n  2\n",
+            b"",
+        ),
+        (
+            "drop",
+            b"read <1.fi\nread <2.fi\nread <3.fi\ndrop 1\nchoose\ndrop\nchoose",
+            b"  2\n* 3\n  2\n",
+            b"",
+        ),
+        (
+            "a name again",
+            b"read <1.fi\ndrop 1\nread <1.fi\nchoose",
+            b"* 1\n",
+            b"",
+        ),
+    ];
+    for (what, script, printed, written) in rows {
+        let ending = run(alloc, script, false)?;
+        assert_eq!(rt; ending.status, Status::Done, "{what}");
+        assert!(rt; ending.printed.as_slice() == printed, "{what}");
+        assert!(rt; ending.written.as_slice() == written, "{what}");
+    }
+    Ok(())
+}
+
+#[test]
+fn eight_are_loaded_at_most(rt: HostRuntime) -> Result<(), Fail> {
+    let script =
+        b"read <1.fi\nread <2.fi\nread <3.fi\nread <4.fi\nread <5.fi\nread <6.fi\nread <7.fi\nread <8.fi\nread <none\ndrop 4\nread <9.fi\nchoose";
+    let printed =
+        b"surgeon: line 9: refused 33 TooManyRepos limit=8\n  1\n  2\n  3\n  5\n  6\n  7\n  8\n* 9\n";
+    let ending = run(rt.alloc(), script, true)?;
+    assert_eq!(rt; ending.status, Status::Refused);
+    assert!(rt; ending.printed.as_slice() == printed.as_slice());
+    Ok(())
+}
+
+#[test]
+fn a_refusal_ends_the_run(rt: HostRuntime) -> Result<(), Fail> {
+    let ending = run(rt.alloc(), b"drop\nread <1.fi\nlist", false)?;
+    let printed = b"surgeon: line 1: refused 30 NoRepo\n";
+    assert_eq!(rt; ending.status, Status::Refused);
+    assert!(rt; ending.printed.as_slice() == printed.as_slice());
+    Ok(())
+}
+
+// What a command of a line answers, in a word.
+fn answer(alloc: Global, session: &mut Session, line: &str) -> Result<&'static str, Fail> {
+    let mut store = SureStore::new(alloc, files(alloc)?)?;
+    let mut out = SureSink::new(alloc)?;
+    let command = Command::read(alloc, line).ok().ok_or("no command")?;
+    match session.step(&command, &mut store, &mut out) {
+        Ok(()) => Ok("done"),
+        Err(Halted::Refused(Fault::NoRepo)) => Ok("nothing chosen"),
+        Err(Halted::Refused(Fault::NoSuchRepo { .. })) => Ok("not loaded"),
+        Err(Halted::Refused(_)) => Ok("another refusal"),
+        Err(_) => Ok("broken off"),
+    }
+}
+
+#[test]
+fn a_session_goes_on_from_command_to_command(rt: HostRuntime) -> Result<(), Fail> {
+    let alloc = rt.alloc();
+    let mut session = Session::new(alloc)?;
+    let rows: [(&str, &str); 7] = [
+        ("renumber", "nothing chosen"),
+        ("read <1.fi", "done"),
+        ("renumber", "done"),
+        ("drop 2", "not loaded"),
+        ("drop 1", "done"),
+        ("choose 1", "not loaded"),
+        ("names", "nothing chosen"),
+    ];
+    for (line, want) in rows {
+        assert_eq!(rt; answer(alloc, &mut session, line)?, want, "{line}");
+    }
+    Ok(())
+}
