@@ -5,6 +5,7 @@ use Rattle.std.proofs.lemmas.Bool.Decides.{nat_tests}
 use Rattle.std.proofs.lemmas.List.{reverse-append}
 use Rattle.std.specs.List.{AllByRecursion}
 use Rattle.std.specs.Prelude.{length, IsSome}
+use Rattle.plain_model.specs.declared.limit.TheConstants.{MAX_MARK}
 use Rattle.plain_model.specs.declared.id.AnyId.{AnyId}
 use Rattle.plain_model.specs.declared.id.AnyId.TheVariants as any
 use Rattle.plain_model.specs.declared.operation.Entry.{Entry}
@@ -14,7 +15,7 @@ use Rattle.plain_model.specs.declared.event.PlainEvent.{PlainEvent}
 use Rattle.plain_model.specs.declared.event.PlainEvent.TheVariants as plain
 use Rattle.plain_model.specs.Histories.{Node, begun, folded, nodes, past, tree, tree_in}
 use Rattle.plain_model.specs.Lookups.{AreIdsBelow, id_number}
-use Rattle.plain_model.specs.Soundness.{AreSoundBehind, IsCommitOf, IsFormedSigned, IsSound, IsSoundEvent, are_distinct, has_id}
+use Rattle.plain_model.specs.Soundness.{AreSoundBehind, IsCommitOf, IsFormedEvent, IsFormedSigned, IsSound, IsSoundEvent, are_distinct, has_id}
 use Rattle.plain_model.specs.Streams.{is_marked}
 use Rattle.plain_model.specs.Trees.{Tree}
 use Rattle.event_arena.proofs.SoundLemmas.{has_id-append, has_id-find, is_marked-append}
@@ -82,6 +83,7 @@ pub record IsLine (step : ℕ) (events : List PlainEvent) : Type 0 where
   pub marks : (m : ℕ) → 2 * step < m → is_marked events m ≡ false
   pub last : eqb step 0 ≡ false → has_id events (any.Commit (2 * step)) ≡ true
   pub trees : (c : ℕ) → has_id events (any.Commit c) ≡ true → OneFile (tree events c)
+  pub spelled : 2 * step ≤ MAX_MARK → AllByRecursion IsFormedEvent events
 
 pub line-none : IsLine 0 []
 line-none = record {
@@ -90,7 +92,12 @@ line-none = record {
   marks = λ m h. refl;
   last = λ h. absurd (true≢false h);
   trees = λ c h. absurd (true≢false (sym h));
+  spelled = λ h. tt;
 }
+
+all-more : (xs : List PlainEvent) (e : PlainEvent) → AllByRecursion IsFormedEvent xs → IsFormedEvent e → AllByRecursion IsFormedEvent (xs ++ e ∷ [])
+all-more [] e h own = (own, tt)
+all-more (x ∷ xs) e h own = (h.0, all-more xs e h.1 own)
 
 who-formed : IsFormedSigned who
 who-formed = (refl, lit≤ tt, lit≤ tt)
@@ -185,10 +192,11 @@ module _ (step : ℕ) (events : List PlainEvent) (h : IsLine step events) where
     marks = no-later-mark;
     last = λ _. is-last;
     trees = tree-of;
+    spelled = λ few. all-more (events ++ blob step ∷ []) (commit step) (all-more events (blob step) (h.spelled (omega arith)) (omega arith, omega arith)) ((omega arith, omega arith), ((tt, refl), tt));
   }
 
-pub line-sound : (step : ℕ) (events : List PlainEvent) → IsLine step events → IsSound events
-line-sound step events h = record { formed = h.formed; trees = λ c there. some (tree events c) (h.trees c there) }
+pub line-sound : (step : ℕ) (events : List PlainEvent) → step < 1073741824 → IsLine step events → IsSound events
+line-sound step events few h = record { formed = h.formed; spelled = h.spelled (omega arith); trees = λ c there. some (tree events c) (h.trees c there) }
   where
     some : (o : Option Tree) → OneFile o → IsSome o
     some o (entry, e) = rw e refl

@@ -2,11 +2,14 @@
 use Rattle.std.proofs.Common.{◌≡◌, ℕ, ◌≤◌, inl, inr, List, [], ◌∷◌, ◌++◌, refl, sym, subst, eqb, lit<, lit≤}
 use Rattle.std.proofs.lemmas.Bool.{cases_Bool, eqb-true, true≢false}
 use Rattle.std.specs.Prelude.{IsSome}
+use Rattle.std.specs.List.{AllByRecursion}
+use Rattle.plain_model.specs.declared.limit.TheConstants.{MAX_MARK}
 use Rattle.plain_model.specs.declared.event.PlainEvent.{PlainEvent}
 use Rattle.plain_model.specs.declared.id.AnyId.TheVariants as any
 use Rattle.plain_model.specs.Histories.{tree}
 use Rattle.plain_model.specs.Lookups.{AreIdsBelow, next_number}
-use Rattle.plain_model.specs.Soundness.{AreSoundBehind, IsCommitOf, IsFormedSigned, IsSound}
+use Rattle.plain_model.specs.Marks.{IsMark}
+use Rattle.plain_model.specs.Soundness.{AreSoundBehind, IsCommitOf, IsFormedEvent, IsFormedSigned, IsSound}
 use Rattle.event_arena.specs.Changes.{IsOrderOf, without}
 use Rattle.event_arena.specs.Examples.{example, front, other_order, reset, signed, tag}
 use Rattle.event_arena.proofs.MeasureLemmas.{ids-below}
@@ -50,17 +53,24 @@ trees c h = elim (cases_Bool (eqb 2 c)) [
   ]
 ]
 
+-- the fields of the first events are such as lines spell, whatever stands behind them
+spelled : (rest : List PlainEvent) → AllByRecursion IsFormedEvent rest → AllByRecursion IsFormedEvent (front ++ rest)
+spelled rest h = (a-mark 1 (lit≤ tt) (lit≤ tt), ((a-mark 2 (lit≤ tt) (lit≤ tt), tt), ((a-mark 3 (lit≤ tt) (lit≤ tt), tt), ((a-mark 4 (lit≤ tt) (lit≤ tt), tt), ((a-mark 5 (lit≤ tt) (lit≤ tt), tt), h)))))
+  where
+    a-mark : (n : ℕ) → 1 ≤ n → n ≤ MAX_MARK → IsMark n
+    a-mark n low high = (low, high)
+
 pub example-sound : IsSound example
 unfolding example
-example-sound = record { formed = behind (tag 6 5 ∷ reset ∷ []) ((refl, refl, refl, tt), ((refl, refl, refl), tt)); trees = trees }
+example-sound = record { formed = behind (tag 6 5 ∷ reset ∷ []) ((refl, refl, refl, tt), ((refl, refl, refl), tt)); spelled = spelled (tag 6 5 ∷ reset ∷ []) (tt, (tt, tt)); trees = trees }
 
 pub untagged-sound : IsSound (without (any.Tag 6) example)
 unfolding example
-untagged-sound = record { formed = behind (reset ∷ []) ((refl, refl, refl), tt); trees = trees }
+untagged-sound = record { formed = behind (reset ∷ []) ((refl, refl, refl), tt); spelled = spelled (reset ∷ []) (tt, tt); trees = trees }
 
 pub retagged-sound : IsSound (without (any.Tag 6) example ++ tag 8 5 ∷ [])
 unfolding example
-retagged-sound = record { formed = behind (reset ∷ tag 8 5 ∷ []) ((refl, refl, refl), ((refl, refl, refl, tt), tt)); trees = trees }
+retagged-sound = record { formed = behind (reset ∷ tag 8 5 ∷ []) ((refl, refl, refl), ((refl, refl, refl, tt), tt)); spelled = spelled (reset ∷ tag 8 5 ∷ []) (tt, (tt, tt)); trees = trees }
 
 pub example-low : AreIdsBelow 4611686018427387904 example
 unfolding example

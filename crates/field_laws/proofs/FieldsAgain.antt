@@ -1,5 +1,5 @@
 -- A field that is written is read as the same value.
-use Rattle.std.proofs.Common.{◌≡◌, ℕ, ◌^◌, ◌<◌, true, false, cond, not, [], ◌∷◌, ◌++◌, length, take, drop, Some, None, Result, Ok, Err, refl, sym, ap, subst, ◌∙◌, arith, append_assoc, append-nil, eqb-true, le-leb, ne_eqb, drop_at, take_at, length-append, codes, decimal}
+use Rattle.std.proofs.Common.{◌≡◌, ℕ, true, false, cond, not, [], ◌∷◌, ◌++◌, length, take, drop, Some, None, Result, Ok, Err, refl, sym, ap, subst, ◌∙◌, arith, append_assoc, append-nil, eqb-true, le-leb, ne_eqb, drop_at, take_at, length-append, codes, decimal}
 use Rattle.std.specs.Prelude.{◌==◌, ◌&&◌, bytes_eq, nat_le}
 use Rattle.std.specs.List.{list_all}
 use Rattle.std.proofs.lemmas.Bool.{and_parts, or_from, cond-true, cond-false, not-true}
@@ -14,7 +14,8 @@ use Rattle.plain_model.specs.declared.raw.RawContent.TheVariants.{Marked, Object
 use Rattle.plain_model.specs.declared.raw.RawOp.{RawOp}
 use Rattle.plain_model.specs.declared.raw.RawOp.TheVariants.{Modify, Delete, Copy, Rename, DeleteAll}
 use Rattle.plain_model.specs.Marks.{IsMark}
-use Rattle.plain_model.specs.Numbers.{is_digit}
+use Rattle.field_laws.proofs.Decimals.{numeral_of}
+use Rattle.plain_model.specs.Numbers.{decimal_of, is_digit}
 use Rattle.plain_model.specs.Objects.{is_hex, is_object, as_object}
 use Rattle.plain_model.specs.Paths.{Bytes, IsPath}
 use Rattle.plain_model.specs.Parts.{begins, mark_of, skip_lf}
@@ -28,7 +29,7 @@ use Rattle.field_laws.proofs.FieldSteps.{ok_then, due_found}
 use Rattle.field_laws.proofs.Lines.{eqb_turned}
 use Rattle.field_laws.proofs.Numerals.{mark_read, numeral_read}
 use Rattle.field_laws.proofs.Persons.{all_pass, digit_isnt, person_in_read}
-use Rattle.field_laws.proofs.Written.{mark_numeral, numeral_written, person_written}
+use Rattle.field_laws.proofs.Written.{mark_numeral, person_written}
 use Rattle.field_laws.proofs.Words.{has_no_space, first_word-space, behind_space-space}
 use Rattle.field_laws.proofs.PathsAgain.{path_again}
 
@@ -172,13 +173,13 @@ op_again DeleteAll h i = refl
 -- ---- data
 
 -- a block, with its line and one LF behind it
-pub data_again : (bytes rest : Bytes) → length bytes < 10 ^ 64 → block_in (codes "data " ++ decimal (length bytes)) (bytes ++ 10 ∷ rest) ≡ Ok (bytes, rest)
+pub data_again : (bytes rest : Bytes) → block_in (codes "data " ++ decimal_of (length bytes)) (bytes ++ 10 ∷ rest) ≡ Ok (bytes, rest)
 unfolding block_in block_behind extent_in data_text
-data_again bytes rest h =
+data_again bytes rest =
     let n = length bytes in
     let text = bytes ++ 10 ∷ rest in
     let fits : nat_le n (length text) ≡ true = le-leb n (length text) (omega (arith, length-append bytes (10 ∷ rest))) in
-    ap (λ o. block_of (extent_by (decimal n) o) text) (numeral_read (decimal n) n (numeral_written n h))
+    ap (λ o. block_of (extent_by (decimal_of n) o) text) (numeral_read (decimal_of n) n (numeral_of n))
     ∙ ap (λ o. due Truncated o then_field λ x. parts x.0 (skip_lf x.1)) (cond-true (nat_le n (length text)) (Some (take n text, drop n text)) None fits)
     ∙ (λ i. parts (take_at bytes (10 ∷ rest) n refl i) (skip_lf (drop_at bytes (10 ∷ rest) n refl i)))
   where

@@ -3,6 +3,7 @@ pub mod FieldSteps
 pub mod Lines
 pub mod Numerals
 pub mod Persons
+pub mod Decimals
 pub mod Written
 pub mod Words
 pub mod Quoted

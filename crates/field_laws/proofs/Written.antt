@@ -1,5 +1,5 @@
 -- Each field that is written is spelled as it is read, whatever follows.
-use Rattle.std.proofs.Common.{◌≡◌, inl, inr, ℕ, ◌+◌, ◌-◌, ◌*◌, ◌/◌, ◌%◌, ◌^◌, ◌≤◌, ◌<◌, Bool, true, false, cond, not, [], ◌∷◌, ◌++◌, length, refl, sym, ap, subst, ◌∙◌, arith, append_assoc, length-append, leb-true, le-leb, lt-ltb, ne_eqb, codes}
+use Rattle.std.proofs.Common.{◌≡◌, inl, inr, ℕ, ◌+◌, ◌-◌, ◌*◌, ◌/◌, ◌%◌, ◌^◌, ◌≤◌, ◌<◌, Bool, true, false, cond, not, [], ◌∷◌, ◌++◌, length, refl, sym, ap, subst, ◌∙◌, arith, append_assoc, length-append, leb-true, lt-ltb, ne_eqb, codes}
 use Rattle.std.specs.Prelude.{◌==◌, ◌&&◌, ◌||◌, nat_le, nat_lt, decimal, IsTrue}
 use Rattle.std.specs.List.{list_all, list_any}
 use Rattle.std.proofs.lemmas.Bool.{and_parts, and_from, or_from, cond-true, cond-false, not-true}
@@ -10,23 +10,15 @@ use Rattle.plain_model.specs.declared.person.Signed.{Signed}
 use Rattle.plain_model.specs.Paths.{Bytes, IsPath}
 use Rattle.plain_model.specs.Marks.{IsMark}
 use Rattle.plain_model.specs.Names.{is_name_byte, is_name}
-use Rattle.plain_model.specs.Numbers.{is_digit, value_after, IsNumeral}
+use Rattle.plain_model.specs.Numbers.{IsNumeral, decimal_of, is_digit}
 use Rattle.plain_model.specs.People.{is_clean, IsNamePart, IsZone, IsSigned}
 use Rattle.plain_model.specs.Spelling.{has_no_lf, IsLine, begins, IsMarkLine, IsData, IsSignedLine, IsLastPath}
 use Rattle.plain_model.specs.Text.{line, data_block, zone, person, begins_quoted, quoted, last_path}
+use Rattle.field_laws.proofs.Decimals.{digit, numeral_of, value_push}
 use Rattle.field_laws.proofs.Lines.{eqb_turned}
 use Rattle.field_laws.proofs.Persons.{all_pass}
 
 -- ---- numbers
-
--- 48 and a number below 10 is a digit
-digit : (d : ℕ) → d < 10 → is_digit (48 + d) ≡ true
-digit d h = and_from (nat_le 48 (48 + d)) (nat_le (48 + d) 57) (le-leb 48 (48 + d) (omega arith)) (le-leb (48 + d) 57 (omega arith))
-
--- the value with one more digit
-value_push : (a : ℕ) (ds : Bytes) (d : ℕ) → value_after a (ds ++ d ∷ []) ≡ 10 * value_after a ds + (d - 48)
-value_push a [] d = refl
-value_push a (x ∷ xs) d = value_push (10 * a + (x - 48)) xs d
 
 -- the digits that are written of a number say it
 pub numeral_written : (n : ℕ) → n < 10 ^ 64 → IsNumeral (decimal n) n
@@ -55,6 +47,10 @@ greater_plain b h = ap not (ne_eqb b 10 (λ e. absurd (omega arith)))
 -- digits have no LF
 plain_digits : (ds : Bytes) → list_all is_digit ds ≡ true → has_no_lf ds ≡ true
 plain_digits ds h = all_pass is_digit (λ b. not (b == 10)) (λ b d. greater_plain b (let low = leb-true 48 b (and_parts (nat_le 48 b) (nat_le b 57) d).0 in omega arith)) ds h
+
+-- digits that say a number have no LF
+plain_numeral : (ds : Bytes) (n : ℕ) → IsNumeral ds n → has_no_lf ds ≡ true
+plain_numeral ds n h = plain_digits ds h.all
 
 -- the digits that are written have no LF
 plain_number : (n : ℕ) → n < 10 ^ 64 → has_no_lf (decimal n) ≡ true
@@ -90,15 +86,15 @@ mark_written word rest mark plain h = record {
 }
 
 -- a block of data gives its bytes back, and its LF is passed over
-pub data_written : (bytes rest : Bytes) → length bytes < 10 ^ 64 → IsData (data_block bytes ++ rest) bytes rest
-data_written bytes rest h =
-    let head = codes "data " ++ decimal (length bytes) in
+pub data_written : (bytes rest : Bytes) → IsData (data_block bytes ++ rest) bytes rest
+data_written bytes rest =
+    let head = codes "data " ++ decimal_of (length bytes) in
     record {
-      digits = decimal (length bytes);
+      digits = decimal_of (length bytes);
       block = line bytes ++ rest;
       behind = 10 ∷ rest;
-      line = subst (λ (t : Bytes). IsLine t head (line bytes ++ rest)) (sym (append_assoc (line head) (line bytes) rest)) (line_written head (line bytes ++ rest) (plain_number (length bytes) h));
-      count = numeral_written (length bytes) h;
+      line = subst (λ (t : Bytes). IsLine t head (line bytes ++ rest)) (sym (append_assoc (line head) (line bytes) rest)) (line_written head (line bytes ++ rest) (plain_numeral (decimal_of (length bytes)) (length bytes) (numeral_of (length bytes))));
+      count = numeral_of (length bytes);
       is = append_assoc bytes (10 ∷ []) rest;
       passes = inl (refl, refl);
     }

@@ -29,6 +29,7 @@ ghost use Rattle.plain_model.specs.Fields.{
   HasItsContent,
 };
 ghost use Rattle.plain_model.specs.Marks.{IsMark};
+ghost use Rattle.plain_model.specs.Numbers.{IsNumeral, decimal_of};
 ghost use Rattle.plain_model.specs.Paths.{IsPath};
 ghost use Rattle.plain_model.specs.People.{IsSigned};
 ghost use Rattle.plain_model.specs.Soundness.{IsFormedSigned};
@@ -62,7 +63,13 @@ pub fn operations_are_read_again()
 
 /// A block of data is read again behind its line, whatever follows the LF behind it.
 pub fn data_is_read_again()
-    ensures { (bytes rest : List ℕ) → length bytes < 10 ^ 64
-        → block_in (codes "data " ++ decimal (length bytes)) (bytes ++ 10 ∷ rest)
+    ensures { (bytes rest : List ℕ) →
+        block_in (codes "data " ++ decimal_of (length bytes)) (bytes ++ 10 ∷ rest)
         ≡ Ok (bytes, rest) }
+{}
+
+/// The digits that are written of a number say it, however great it is. Below 10^64 they are those that the library writes.
+pub fn numbers_are_read_again()
+    ensures said { (n : ℕ) → IsNumeral (decimal_of n) n }
+    ensures same { (n : ℕ) → n < 10 ^ 64 → decimal_of n ≡ decimal n }
 {}

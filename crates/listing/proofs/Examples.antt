@@ -61,6 +61,10 @@ exported_sound =
           ),
         ),
       );
+      spelled = (
+        (lit≤ tt, lit≤ tt),
+        (tt, (((lit≤ tt, lit≤ tt), ((tt, refl), tt)), ((lit≤ tt, lit≤ tt), (((lit≤ tt, lit≤ tt), ((tt, refl), tt)), (((lit≤ tt, lit≤ tt), ((refl, refl), tt)), (((lit≤ tt, lit≤ tt), ((tt, refl), tt)), (tt, (tt, tt)))))))),
+      );
       trees = exported_trees;
     }
 
@@ -102,6 +106,7 @@ rarer_sound = record {
       ),
     ),
   );
+  spelled = (tt, (((lit≤ tt, lit≤ tt), tt), (((lit≤ tt, lit≤ tt), tt), (tt, (tt, (tt, (tt, (tt, tt))))))));
   trees = rarer_trees;
 }
 

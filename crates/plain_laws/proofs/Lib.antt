@@ -2,3 +2,4 @@ mod LineLaws
 pub mod PathLaws
 mod Rows
 pub mod TreeLaws
+pub mod TreeMapping

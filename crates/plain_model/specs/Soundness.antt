@@ -7,14 +7,17 @@ use Rattle.plain_model.specs.declared.person.Signed.{Signed}
 use Rattle.plain_model.specs.declared.id.AnyId.{AnyId}
 use Rattle.plain_model.specs.declared.id.AnyId.TheVariants as any
 use Rattle.plain_model.specs.declared.operation.Mode.TheVariants.{Gitlink}
+use Rattle.plain_model.specs.declared.operation.Content.{Content}
 use Rattle.plain_model.specs.declared.operation.Content.TheVariants.{Blob as OfBlob, Object}
 use Rattle.plain_model.specs.declared.operation.FileOp.{FileOp}
 use Rattle.plain_model.specs.declared.operation.FileOp.TheVariants.{Modify, Delete, Copy, Rename, DeleteAll}
 use Rattle.plain_model.specs.declared.event.PlainEvent.{PlainEvent}
 use Rattle.plain_model.specs.declared.event.PlainEvent.TheVariants.{Blob, Commit, Tag, Reset, Pass}
 use Rattle.plain_model.specs.Histories.{tree}
+use Rattle.plain_model.specs.Marks.{IsMark}
 use Rattle.plain_model.specs.Names.{is_name}
-use Rattle.plain_model.specs.Paths.{Bytes}
+use Rattle.plain_model.specs.Objects.{is_object}
+use Rattle.plain_model.specs.Paths.{Bytes, IsPath}
 use Rattle.plain_model.specs.People.{is_clean}
 use Rattle.plain_model.specs.Spelling.{begins, has_no_lf}
 use Rattle.plain_model.specs.Streams.{is_marked}
@@ -66,6 +69,28 @@ is_passed_line line =
     && not (begins (codes "feature import-marks") line)
     && (not (begins (codes "feature date-format=") line) || begins (codes "feature date-format=raw") line && (length line == 23)))
 
+-- an object is named by an object's id
+abbrev pub IsFormedContent : Content → Type 0
+IsFormedContent (OfBlob b) = Unit {0}
+IsFormedContent (Object digits) = IsTrue (is_object digits)
+
+-- an operation's paths are paths
+abbrev pub IsFormedOp : FileOp → Type 0
+IsFormedOp (Modify mode content path) = IsFormedContent content × IsPath path
+IsFormedOp (Delete path) = IsPath path
+IsFormedOp (Copy source target) = IsPath source × IsPath target
+IsFormedOp (Rename source target) = IsPath source × IsPath target
+IsFormedOp DeleteAll = Unit {0}
+
+-- a mark is a mark, and each operation is formed
+abbrev pub IsFormedEvent : PlainEvent → Type 0
+IsFormedEvent (Blob id mark bytes) = IsMark mark
+IsFormedEvent (Commit id mark branch author committer encoding comment parents ops) =
+    IsMark mark × AllByRecursion IsFormedOp ops
+IsFormedEvent (Tag id name target tagger comment) = Unit {0}
+IsFormedEvent (Reset id branch target) = Unit {0}
+IsFormedEvent (Pass id line) = Unit {0}
+
 -- ---- an event behind earlier ones
 
 abbrev pub IsSoundEvent : List PlainEvent → PlainEvent → Type 0
@@ -88,4 +113,5 @@ AreSoundBehind earlier (e ∷ events) = IsSoundEvent earlier e × AreSoundBehind
 -- the whole history
 pub record IsSound (events : List PlainEvent) : Type 0 where
   pub formed : AreSoundBehind [] events
+  pub spelled : AllByRecursion IsFormedEvent events
   pub trees : (c : ℕ) → IsCommitOf events c → IsSome (tree events c)

@@ -16,6 +16,7 @@ use Rattle.plain_model.specs.declared.raw.RawOp.TheVariants as rawop
 use Rattle.plain_model.specs.declared.person.Signed.{Signed}
 use Rattle.plain_model.specs.declared.event.PlainEvent.{PlainEvent}
 use Rattle.plain_model.specs.declared.event.PlainEvent.TheVariants.{Blob, Commit, Tag, Reset, Pass}
+use Rattle.plain_model.specs.Numbers.{decimal_of}
 use Rattle.plain_model.specs.Paths.{Bytes}
 use Rattle.plain_model.specs.Trees.{TreeOf, has}
 use Rattle.plain_model.specs.Snapshots.{commit_mark, refs_after}
@@ -30,7 +31,7 @@ abbrev pub marked : ℕ → Bytes
 marked mark = codes ":" ++ decimal mark
 
 abbrev pub data_block : Bytes → Bytes
-data_block bytes = line (codes "data " ++ decimal (length bytes)) ++ line bytes
+data_block bytes = line (codes "data " ++ decimal_of (length bytes)) ++ line bytes
 
 -- four digits
 abbrev pub zone : ℕ → Bytes

@@ -13,7 +13,7 @@ use Rattle.plain_model.specs.Lookups.{marks_of}
 use Rattle.plain_model.specs.Marks.{IsMark}
 use Rattle.event_arena.specs.Once.{AreMarkedOnce}
 use Rattle.event_arena.proofs.SoundLemmas.{sound-once}
-use Rattle.written_laws.specs.AsRead.{IsAsRead, IsFormedEvent}
+use Rattle.plain_model.specs.Soundness.{IsFormedEvent, IsSound}
 
 -- the numbers alone
 abbrev numbers : List (ℕ × AnyId) → List ℕ
@@ -36,7 +36,7 @@ numbers_distinct (x ∷ marks) h = (all_differ x.0 marks h.0, numbers_distinct m
 -- they are marks
 are_marks : (events : List PlainEvent) → AllByRecursion IsFormedEvent events → AllByRecursion IsMark (numbers (marks_of events))
 are_marks [] h = tt
-are_marks (Blob id mark bytes ∷ events) h = (h.0.0, are_marks events h.1)
+are_marks (Blob id mark bytes ∷ events) h = (h.0, are_marks events h.1)
 are_marks (Commit id mark branch author committer encoding comment parents ops ∷ events) h = (h.0.0, are_marks events h.1)
 are_marks (Tag id name target tagger comment ∷ events) h = are_marks events h.1
 are_marks (Reset id branch target ∷ events) h = are_marks events h.1
@@ -64,11 +64,11 @@ numbers_length : (marks : List (ℕ × AnyId)) → length (numbers marks) ≡ le
 numbers_length [] = refl
 numbers_length (x ∷ marks) = ap suc (numbers_length marks)
 
-pub few_marks : (events : List PlainEvent) → IsAsRead events → length (marks_of events) ≤ MAX_MARK
+pub few_marks : (events : List PlainEvent) → IsSound events → length (marks_of events) ≤ MAX_MARK
 few_marks events h =
     let ns = numbers (marks_of events) in
-    let marks = are_marks events h.formed in
-    let few = length-le_from_distinct_below (0 ∷ ns) (MAX_MARK + 1) (with_0 ns marks (numbers_distinct (marks_of events) (sound-once events h.sound).marks)) below in
+    let marks = are_marks events h.spelled in
+    let few = length-le_from_distinct_below (0 ∷ ns) (MAX_MARK + 1) (with_0 ns marks (numbers_distinct (marks_of events) (sound-once events h).marks)) below in
     let same = numbers_length (marks_of events) in
     omega arith
   where
@@ -77,4 +77,4 @@ few_marks events h =
       where
         go : (eqb q 0 ≡ true) ⊎ (list_any (eqb q) (numbers (marks_of events)) ≡ true) → q < MAX_MARK + 1
         go (inl is) = let same = eqb-true q 0 is in omega arith
-        go (inr later) = at_most (numbers (marks_of events)) (are_marks events h.formed) q later
+        go (inr later) = at_most (numbers (marks_of events)) (are_marks events h.spelled) q later

@@ -40,7 +40,11 @@ trees c h = elim (cases_Bool (eqb 3 c)) [
 ]
 
 pub falling-sound : IsSound falling
-falling-sound = record { formed = formed; trees = trees }
+falling-sound = record {
+  formed = formed;
+  spelled = ((lit≤ tt, lit≤ tt), ((lit≤ tt, lit≤ tt), (((lit≤ tt, lit≤ tt), ((tt, refl), ((tt, refl), tt))), (tt, (tt, (((lit≤ tt, lit≤ tt), tt), (tt, tt)))))));
+  trees = trees;
+}
 
 pub counted-sound : IsSound counted
 counted-sound = sound_again falling falling-sound

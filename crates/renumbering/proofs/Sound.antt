@@ -17,10 +17,10 @@ use Rattle.plain_model.specs.Paths.{Bytes}
 use Rattle.plain_model.specs.Snapshots.{refs, refs_after}
 use Rattle.plain_model.specs.Trees.{TreeOf, has, put}
 use Rattle.plain_model.specs.Lookups.{marks_of}
-use Rattle.plain_model.specs.Soundness.{IsCommitOf, RefersBack, AreSoundBehind, IsSound, has_id}
+use Rattle.plain_model.specs.Soundness.{AreSoundBehind, IsCommitOf, IsFormedEvent, IsSound, RefersBack, has_id}
 use Rattle.plain_model.specs.Streams.{is_marked}
 use Rattle.event_arena.proofs.SoundLemmas.{has_id-append, is_marked-append}
-use Rattle.written_laws.specs.AsRead.{ArePlaced, IsFormedEvent, IsRooted, AreRootedBehind, IsAsRead}
+use Rattle.written_laws.specs.AsRead.{ArePlaced, IsRooted, AreRootedBehind, IsAsRead}
 use Rattle.renumbering.specs.Renumbered.{renumbered, renumbered_from}
 use Rattle.renumbering.proofs.Few.{few_marks}
 use Rattle.renumbering.proofs.Kept.{has_id_same, tree_same, refs_same}
@@ -153,12 +153,6 @@ formed_still old new due (Pass id line ∷ events) b h =
 first_behind : (due : ℕ) → IsBehind [] [] due
 first_behind due = record { ids = λ id. refl; below = λ m h. absurd cc }
 
-pub sound_again : (events : List PlainEvent) → IsSound events → IsSound (renumbered events)
-sound_again events h = record {
-  formed = formed_still [] [] 1 events (first_behind 1) h.formed;
-  trees = λ c is. subst IsSome (sym (tree_same 1 events c)) (h.trees c (sym (has_id_same 1 events (any.Commit c)) ∙ is));
-}
-
 -- ---- such as reading gives it
 
 -- the branches behind two parts
@@ -182,12 +176,19 @@ placed_still due k (Pass id line ∷ events) p = (p.0, placed_still due (suc k) 
 -- as long as the marks that are due are marks
 fields_still : (due : ℕ) (events : List PlainEvent) → 1 ≤ due → due + length (marks_of events) ≤ MAX_MARK + 1 → AllByRecursion IsFormedEvent events → AllByRecursion IsFormedEvent (renumbered_from due events)
 fields_still due [] low few h = tt
-fields_still due (Blob id mark bytes ∷ events) low few h = (((low, omega arith), h.0.1), fields_still (due + 1) events (omega arith) (omega arith) h.1)
+fields_still due (Blob id mark bytes ∷ events) low few h = ((low, omega arith), fields_still (due + 1) events (omega arith) (omega arith) h.1)
 fields_still due (Commit id mark branch author committer encoding comment parents ops ∷ events) low few h =
-    (((low, omega arith), h.0.1, h.0.2), fields_still (due + 1) events (omega arith) (omega arith) h.1)
+    (((low, omega arith), h.0.1), fields_still (due + 1) events (omega arith) (omega arith) h.1)
 fields_still due (Tag id name target tagger comment ∷ events) low few h = (h.0, fields_still due events low (omega arith) h.1)
 fields_still due (Reset id branch target ∷ events) low few h = (h.0, fields_still due events low (omega arith) h.1)
 fields_still due (Pass id line ∷ events) low few h = (h.0, fields_still due events low (omega arith) h.1)
+
+pub sound_again : (events : List PlainEvent) → IsSound events → IsSound (renumbered events)
+sound_again events h = record {
+  formed = formed_still [] [] 1 events (first_behind 1) h.formed;
+  spelled = fields_still 1 events (omega arith) (let few = few_marks events h in omega arith) h.spelled;
+  trees = λ c is. subst IsSome (sym (tree_same 1 events c)) (h.trees c (sym (has_id_same 1 events (any.Commit c)) ∙ is));
+}
 
 -- the branches stand alike behind one event more
 tips_more : (old new : List PlainEvent) (due : ℕ) (a e : PlainEvent) → renumbered_from due (a ∷ []) ≡ e ∷ [] → refs old ≡ refs new → refs (old ++ a ∷ []) ≡ refs (new ++ e ∷ [])
@@ -227,6 +228,5 @@ pub read_again : (events : List PlainEvent) → IsAsRead events → IsAsRead (re
 read_again events h = record {
   sound = sound_again events h.sound;
   placed = placed_still 1 1 events h.placed;
-  formed = fields_still 1 events (omega arith) (let few = few_marks events h in omega arith) h.formed;
   rooted = rooted_still [] [] 1 events refl h.rooted;
 }

@@ -16,14 +16,13 @@ use Rattle.plain_model.specs.Names.{is_name}
 use Rattle.plain_model.specs.Parts.{has_no_lf}
 use Rattle.plain_model.specs.Paths.{Bytes}
 use Rattle.plain_model.specs.Snapshots.{refs}
-use Rattle.plain_model.specs.Soundness.{IsCommitOf, IsFormedSigned, RefersBack, are_distinct}
+use Rattle.plain_model.specs.Soundness.{IsCommitOf, IsFormedOp, IsFormedSigned, RefersBack, are_distinct}
 use Rattle.plain_model.specs.Trees.{Tree, at}
 use Rattle.stream_grammar.specs.Known.{Known, OpenCommit, Open, is_empty_list, op_behind, with_parent, tree_now}
 use Rattle.stream_grammar.specs.Known.Open.{Nothing, ABlob, ACommit, ATag, AReset}
 use Rattle.stream_grammar.specs.Limits.{limit_if, last_limit, tree_limit, op_limit, open_parents, event_count, op_count}
 use Rattle.stream_grammar.specs.Lines.{with_mark, with_commit, with_from, with_tagger, with_operation}
 use Rattle.field_laws.proofs.FieldSteps.{bind_ok, same_Ok}
-use Rattle.written_laws.specs.AsRead.{IsFormedOp}
 use Rattle.sound_laws.proofs.Kept.{IsOpenWell, HasTarget, HasNoOps}
 use Rattle.sound_laws.proofs.OpsRead.{IsOp, tree_behind}
 use Rattle.sound_laws.proofs.SoFar.{MarkFits, IsCommitSoFar, HaveTrees, all_imply}

@@ -18,7 +18,7 @@ use Rattle.plain_model.specs.declared.event.PlainEvent.{PlainEvent}
 use Rattle.plain_model.specs.Fields.{◌>>=◌, due, first_word, behind_space, mode_in, content_in, path_in, last_path_in}
 use Rattle.plain_model.specs.Histories.{folded, if_ok}
 use Rattle.plain_model.specs.Paths.{Bytes, IsPath}
-use Rattle.plain_model.specs.Soundness.{RefersBack, has_id}
+use Rattle.plain_model.specs.Soundness.{IsFormedOp, RefersBack, has_id}
 use Rattle.plain_model.specs.Streams.{blob_marked}
 use Rattle.plain_model.specs.Trees.{Tree, Refusal, subtree, without, cleared_for, moved, put, put_all, has_long_path, within_paths, apply, apply_all}
 use Rattle.plain_model.specs.Trees.{placed as put_at}
@@ -28,7 +28,6 @@ use Rattle.stream_grammar.specs.Known.{OpenCommit, next_id, is_empty_list, ensur
 use Rattle.stream_grammar.specs.Limits.{limit_of_tree, limit_on, last_limit}
 use Rattle.stream_grammar.specs.Lines.{text_of, is_inline}
 use Rattle.field_laws.proofs.FieldSteps.{bind_ok, due_is, same_Ok}
-use Rattle.written_laws.specs.AsRead.{IsFormedOp}
 use Rattle.sound_laws.proofs.FieldsRead.{path_fits, last_path_fits, FitsMode, content_fits}
 use Rattle.sound_laws.proofs.Ids.{blob_found}
 

@@ -13,10 +13,10 @@ use Rattle.plain_model.specs.declared.event.PlainEvent.TheVariants.{Blob, Commit
 use Rattle.plain_model.specs.Lookups.{id_of, id_number}
 use Rattle.plain_model.specs.Paths.{Bytes, path_fault}
 use Rattle.plain_model.specs.Snapshots.{refs}
-use Rattle.plain_model.specs.Soundness.{IsSoundEvent, AreSoundBehind, has_id}
+use Rattle.plain_model.specs.Soundness.{AreSoundBehind, IsFormedEvent, IsSoundEvent, has_id}
 use Rattle.plain_model.specs.Streams.{is_marked}
 use Rattle.plain_model.specs.Trees.{at, has}
-use Rattle.written_laws.specs.AsRead.{ArePlaced, IsFormedEvent, IsRooted, AreRootedBehind, IsAsRead}
+use Rattle.written_laws.specs.AsRead.{ArePlaced, IsRooted, AreRootedBehind, IsAsRead}
 
 -- ---- positions
 
@@ -47,7 +47,7 @@ module _ (front back : List PlainEvent) where
   -- ---- what is never read
 
   pub no_mark : (id : ℕ) (bytes : Bytes) → IsAsRead (front ++ Blob id 0 bytes ∷ back) → ⊥
-  no_mark id bytes h = let least = (all_at IsFormedEvent front back (Blob id 0 bytes) h.formed).0.0 in absurd (omega arith)
+  no_mark id bytes h = let least = (all_at IsFormedEvent front back (Blob id 0 bytes) h.sound.spelled).0 in absurd (omega arith)
 
   pub mark_twice : (id mark : ℕ) (bytes : Bytes) → IsTrue (is_marked front mark) → IsAsRead (front ++ Blob id mark bytes ∷ back) → ⊥
   mark_twice id mark bytes there h = let new = (own_sound (Blob id mark bytes) h).1 in absurd cc
@@ -70,7 +70,7 @@ module _ (front back : List PlainEvent) where
     root_on_tip tip ops is h = let none = rooted_at [] front back (commit [] ops) h.rooted in let there : has (refs front) branch ≡ true = ap is_some is in absurd cc
 
     pub no_path : (parents : List ℕ) (path : Bytes) (fault : PathFault) (ops : List FileOp) → path_fault path ≡ Some fault → IsAsRead (front ++ commit parents (Delete path ∷ ops) ∷ back) → ⊥
-    no_path parents path fault ops is h = let (mark_is, counted, fit) = all_at IsFormedEvent front back (commit parents (Delete path ∷ ops)) h.formed in let none = fit.0 in absurd cc
+    no_path parents path fault ops is h = let (mark_is, fit) = all_at IsFormedEvent front back (commit parents (Delete path ∷ ops)) h.sound.spelled in let none = fit.0 in absurd cc
 
   pub later_target : (id target : ℕ) (name : Bytes) (tagger : Option Signed) (comment : Bytes) → IsFalse (has_id front (any.Commit target)) → IsAsRead (front ++ Tag id name target tagger comment ∷ back) → ⊥
   later_target id target name tagger comment isnt h = let there = (own_sound (Tag id name target tagger comment) h).2 in absurd cc

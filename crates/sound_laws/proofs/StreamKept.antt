@@ -1,5 +1,5 @@
 -- What a stream keeps within its limits, from its start to its end.
-use Rattle.std.proofs.Common.{◌≡◌, ℕ, ◌<◌, ◌≤◌, ◌^◌, Bool, true, false, cond, not, List, ◌∷◌, length, Option, Some, None, Result, Ok, Err, refl, sym, ap, subst, ◌∙◌, inr, arith, nat_lt}
+use Rattle.std.proofs.Common.{◌≡◌, ℕ, suc, ◌<◌, ◌≤◌, Bool, true, false, cond, not, List, ◌∷◌, length, Option, Some, None, Result, Ok, Err, refl, sym, ap, subst, ◌∙◌, inr, arith, nat_lt}
 use Rattle.std.proofs.lemmas.Bool.{not-true, or_parts}
 use Rattle.std.proofs.lemmas.Bool.Decides.{nat_tests}
 use Rattle.plain_model.specs.declared.fault.Fault.{Fault}
@@ -280,12 +280,12 @@ not_spent k events e = go (nat_lt MAX_MARK (last_mark (closed k))) refl e
     go true is e = absurd cc
     go false is e = (grind (arith, nat_tests), cc)
 
-pub read_is_sound : (bytes : Bytes) (events : List PlainEvent) → length bytes < 10 ^ 64 → stream_of bytes ≡ Ok events → IsAsRead events
-read_is_sound bytes events few e = go (outcome stream_within all bytes) refl e
+pub read_is_sound : (bytes : Bytes) (events : List PlainEvent) → stream_of bytes ≡ Ok events → IsAsRead events
+read_is_sound bytes events e = go (outcome stream_within all bytes) refl e
   where
     go : (o : Outcome State (Cause Why Which)) → outcome stream_within all bytes ≡ o → if_known (known_given o) ≡ Ok events → IsAsRead events
     go (Reads s) is e =
         let whole = not_spent s.known events e in
-        subst IsAsRead whole.1 (are_as_read (closed s.known) (events_are_well (10 ^ 64) (omega arith) bytes s few is) whole.0)
+        subst IsAsRead whole.1 (are_as_read (suc (length bytes)) (closed s.known) (events_are_well (suc (length bytes)) (omega arith) bytes s (omega arith) is) whole.0)
     go (Refuses n cause) is e = absurd cc
     go (Lacks n) is e = absurd cc

@@ -1,10 +1,8 @@
 //! Laws of what is read. Each function's contract is one, and its body is empty.
 ghost use Rattle.std.specs.Prelude.{
   ◌≡◌,
-  ◌<◌,
   ◌≤◌,
   ◌+◌,
-  ◌^◌,
   ◌++◌,
   [],
   ◌∷◌,
@@ -38,14 +36,14 @@ ghost use Rattle.written_laws.specs.AsRead.{IsAsRead};
 
 /// What a stream gives is a sound history, such as reading gives it.
 pub fn what_is_read_is_sound()
-    ensures { (bytes : List ℕ) (events : List PlainEvent) → length bytes < 10 ^ 64 →
+    ensures { (bytes : List ℕ) (events : List PlainEvent) →
         stream_of bytes ≡ Ok events → IsAsRead events }
 {}
 
 /// What a stream gives is written as a text that is read again as the same history.
 pub fn what_is_read_is_read_again()
     ensures { (bytes : List ℕ) (events : List PlainEvent) →
-        length bytes < 10 ^ 64 → stream_of bytes ≡ Ok events →
+        stream_of bytes ≡ Ok events →
         history_in (text events) ≡ Some events }
 {}
 

@@ -6,7 +6,7 @@ use Rattle.plain_model.specs.declared.person.Person.{Person}
 use Rattle.plain_model.specs.declared.person.When.{When}
 use Rattle.plain_model.specs.declared.raw.RawContent.{RawContent}
 use Rattle.plain_model.specs.Paths.{Bytes}
-use Rattle.plain_model.specs.Text.{zone, mode_text, raw_content_text, last_path, source_path}
+use Rattle.plain_model.specs.Text.{line, zone, mode_text, raw_content_text, last_path, source_path}
 
 -- a name, with the space that parts it from the email
 abbrev pub name_part : Bytes → Bytes
@@ -23,3 +23,7 @@ modify_text mode content path = codes "M " ++ mode_text mode ++ codes " " ++ raw
 
 abbrev pub paths_text : Bytes → Bytes → Bytes → Bytes
 paths_text word source target = word ++ source_path source ++ codes " " ++ last_path target
+
+-- a block of data, whose count has 64 digits at most
+abbrev pub counted_block : Bytes → Bytes
+counted_block bytes = line (codes "data " ++ decimal (length bytes)) ++ line bytes

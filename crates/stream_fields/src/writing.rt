@@ -11,7 +11,6 @@ ghost use Rattle.std.specs.Prelude.{
   OnErr,
   IsTrue,
   codes,
-  decimal,
   length,
 };
 ghost use Rattle.plain_model.specs.Fields.{
@@ -24,6 +23,7 @@ ghost use Rattle.plain_model.specs.Fields.{
   HasItsContent,
 };
 ghost use Rattle.plain_model.specs.Soundness.{IsFormedSigned};
+ghost use Rattle.plain_model.specs.Numbers.{decimal_of};
 ghost use Rattle.plain_model.specs.Text.{marked, person, path_text, raw_op_text, data_block};
 
 use crate::written_parts::{push_data, push_marked, push_op, push_path, push_person};
@@ -89,7 +89,7 @@ pub fn write_data(bytes: &[u8], into: &mut Text) -> Result<(), NoMemory>
     ensures ok { OnOk result (into.new ≡ into.old ++ data_block bytes.now) }
     ensures err { OnErr result (into.new ≡ into.old) }
     ensures again { OnOk result ((rest : List ℕ)
-        → block_in (codes "data " ++ decimal (length bytes.now)) (bytes.now ++ 10 ∷ rest)
+        → block_in (codes "data " ++ decimal_of (length bytes.now)) (bytes.now ++ 10 ∷ rest)
         ≡ Ok (bytes.now, rest)) }
 {
     let before = into.as_slice().len();

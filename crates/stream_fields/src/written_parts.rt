@@ -30,9 +30,8 @@ ghost use Rattle.plain_model.specs.Text.{
   raw_content_text,
   raw_op_text,
   marked,
-  data_block,
 };
-ghost use Rattle.stream_fields.specs.Written.{name_part, address, date, modify_text, paths_text};
+ghost use Rattle.stream_fields.specs.Written.{name_part, address, date, modify_text, paths_text, counted_block};
 
 use crate::paths::begins_with_quote;
 use plain_model::{Mode, NoMemory, Path, Person, Place, RawContent, RawOp, Signed, Text, When};
@@ -244,7 +243,7 @@ pub fn push_op(out: &mut Text, op: &RawOp) -> Result<(), NoMemory>
 /// Puts the line `data COUNT`, the bytes and an LF. Where memory is wanting a part of them may stand there.
 #[tactic(auto, using(crate::proofs::Fronts::fronts))]
 pub fn push_data(out: &mut Text, bytes: &[u8]) -> Result<(), NoMemory>
-    ensures text { OnOk result (out.new ≡ out.old ++ data_block bytes.now) }
+    ensures text { OnOk result (out.new ≡ out.old ++ counted_block bytes.now) }
     ensures front { take (length out.old) out.new ≡ out.old }
 {
     out.push_all(b"data ")?;

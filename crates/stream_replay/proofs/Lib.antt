@@ -1,5 +1,4 @@
 mod InStep
-mod TreeMapping
 mod Placed
 mod SoFar
 mod Operations

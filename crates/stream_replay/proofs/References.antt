@@ -12,7 +12,7 @@ use Rattle.plain_model.specs.Snapshots.{Shown, shown_tree, refs}
 use Rattle.plain_model.specs.Streams.{commit_marked}
 use Rattle.stream_grammar.specs.Known.{is_left_out_ref, ref_in}
 use Rattle.stream_replay.specs.Replay.{first_files, number_marked, commit_named}
-use Rattle.stream_replay.proofs.TreeMapping.{changed_from}
+use Rattle.plain_laws.proofs.TreeMapping.{changed_from}
 use Rattle.stream_replay.proofs.Placed.{seen_of, commits_seen, commit_place, files_alike, number_alike}
 use Rattle.stream_replay.proofs.SoFar.{AllBelow, IsSoFar, all_at, files_now}
 use Rattle.stream_replay.proofs.Operations.{bind_ok, due_ok}

@@ -24,7 +24,7 @@ use Rattle.plain_model.specs.Lookups.{mark_number, greatest_mark}
 use Rattle.plain_model.specs.Snapshots.{Shown, blob_bytes, shown, shown_tree, refs, refs_after}
 use Rattle.plain_model.specs.Snapshots.ShownContent.{ShownBytes, ShownObject}
 use Rattle.stream_replay.specs.Replay.{Numbered, if_kept, changed_files}
-use Rattle.stream_replay.proofs.TreeMapping.{map_change, if_ok_of, changed_from, begun_of, changes_seen, seen, seen_here, seen_other, seen_alike}
+use Rattle.plain_laws.proofs.TreeMapping.{map_change, if_ok_of, changed_from, begun_of, changes_seen, seen, seen_here, seen_other, seen_alike}
 use Rattle.stream_replay.proofs.Placed.{ArePlaced, event_id, placed_more, marked_blobs, commits_seen, tags_seen, unmarked_in, seen_of, nodes_append, refs_append, commits_append, blobs_append, tags_append, unmarked_append, greatest_more, bytes_still}
 
 -- ---- what the commits refer to

@@ -32,7 +32,7 @@ use Rattle.stream_replay.specs.Replay.{begun as begun_replay, passed as passed_r
 use Rattle.stream_replay.specs.Replay.Reading.{NoEvent, InBlob, InCommit, InTag, InReset}
 use Rattle.stream_replay.proofs.InStep.{Place}
 use Rattle.stream_replay.proofs.InStep.Place.{AtLine, AtBlock, AtEnd}
-use Rattle.stream_replay.proofs.TreeMapping.{map_change, changed_from}
+use Rattle.plain_laws.proofs.TreeMapping.{map_change, changed_from}
 use Rattle.stream_replay.proofs.Placed.{seen_of, marked_blobs, commits_seen, blob_place, files_alike}
 use Rattle.stream_replay.proofs.SoFar.{AllBelow, IsSoFar, blobs_of, all_join, files_now, files_more, so_far_more}
 use Rattle.stream_replay.proofs.Operations.{bind_ok, ok_same, GoesWith, waits, op_alike, IsOperation, operation_line, inline_line}

@@ -2,18 +2,17 @@
 ghost use Rattle.std.specs.Prelude.{◌≡◌, ◌++◌, ◌≤◌, [], OnOk, IfOk, IsErrOf};
 ghost use Rattle.std.specs.List.{list_any};
 ghost use Rattle.plain_model.specs.Text.{text, text_from, end_text, is_feature_done};
-ghost use Rattle.stream_replay.specs.Shows.{Shows};
+ghost use Rattle.shown_laws.specs.Showing.{IsShownBy};
 ghost use Rattle.surgeon_store.specs.Outside.{Rose, Puts, PutsSome};
-ghost use Rattle.written_laws.specs.AsRead.{IsAsRead};
+ghost use Rattle.plain_model.specs.Soundness.{IsSound};
 
 use crate::events::push_event;
 use crate::marks::MarkedHistory;
 use branch_tips::Tips;
 use plain_model::{EventList, Items, NoMemory, PlainEvent, Text};
+use shown_laws::what_is_written_shows_the_history;
 use std::alloc::Global;
-use stream_replay::replay_shows_the_history;
 use surgeon_store::{Sink, WriteEnd, write_all};
-use written_laws::what_is_written_is_read_again;
 
 fn is_promise(event: &PlainEvent) -> bool
     ensures { result ≡ is_feature_done event.now }
@@ -81,12 +80,11 @@ pub fn write_stream<W: Sink>(
     ensures later { (W.state sink.old).faults ≤ (W.state sink.new).faults }
     ensures around { (W.state sink.new).around ≡ (W.state sink.old).around }
 
-    // A history that was read is read again from what is written: the same events, and a replay of the text by
-    // plain maps shows what they show.
-    ensures again { IsAsRead events.now → Shows (text events.now) events.now }
+    // What is written of a history is a stream, what is read of that is written as the same text, and a replay of it
+    // by plain maps shows what the history shows.
+    ensures again { IsSound events.now → IsShownBy (text events.now) events.now }
 {
-    what_is_written_is_read_again();
-    replay_shows_the_history();
+    what_is_written_shows_the_history();
     match text_of(alloc, events.as_slice()) {
         Ok(text) => write_all(sink, text.as_slice()),
         Err(NoMemory) => Err(WriteEnd::Memory),

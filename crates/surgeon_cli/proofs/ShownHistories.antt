@@ -1,4 +1,4 @@
--- Each history that a run holds is as reading gives it, and so it is shown by what is written of it.
+-- Each history that a run holds can be written, and so it is shown by what is written of it.
 use Rattle.std.proofs.Common.{◌≡◌, ℕ, ◌<◌, ◌≤◌, ◌^◌, Bool, true, false, List, [], ◌∷◌, ◌++◌, length, take, Option, Some, None, Result, Ok, Err, refl, sym, subst, arith, nat_lt}
 use Rattle.std.specs.Prelude.{if◌then◌else◌, bytes_eq}
 use Rattle.std.specs.List.{AllByRecursion}
@@ -12,12 +12,11 @@ use Rattle.plain_model.specs.declared.status.Status.{Status}
 use Rattle.plain_model.specs.declared.status.Status.TheVariants as status
 use Rattle.plain_model.specs.Files.{Files}
 use Rattle.plain_model.specs.Paths.{Bytes}
-use Rattle.plain_model.specs.Snapshots.{snapshot}
 use Rattle.plain_model.specs.Text.{text}
 use Rattle.stream_grammar.specs.Limits.{stream_of}
-use Rattle.stream_grammar.specs.Lines.{history_in}
-use Rattle.stream_replay.specs.Replay.{replay_in}
 use Rattle.written_laws.specs.AsRead.{IsAsRead}
+use Rattle.plain_model.specs.Soundness.{IsSound}
+use Rattle.shown_laws.specs.Showing.{IsShownBy}
 use Rattle.renumbering.specs.Renumbered.{renumbered}
 use Rattle.script_reader.specs.Commands.{command_of}
 use Rattle.script_reader.specs.declared.command.Command.{Command}
@@ -31,9 +30,9 @@ use Rattle.history_machine.specs.Words.{Asked, asked}
 use Rattle.history_machine.proofs.Steps.{found}
 use Rattle.surgeon_cli.specs.Headline.{AreShown, ShowsHistories}
 
--- a history such as reading gives it, within the limit of events
+-- a history that can be written, within the limit of events
 abbrev IsHeld : List PlainEvent → Type 0
-IsHeld events = IsAsRead events × (length events ≤ MAX_EVENTS)
+IsHeld events = IsSound events × (length events ≤ MAX_EVENTS)
 
 abbrev AreHeld : List Repo → Type 0
 AreHeld repos = AllByRecursion (λ r. IsHeld r.history) repos
@@ -108,15 +107,11 @@ never_over name (Err (fault.BadStream line why)) events h = go (is_truncated why
 never_over name (Err (fault.Limit which number)) events h = absurd cc
 never_over name (Err other) events h = absurd cc
 
-small : (n : ℕ) → n ≤ MAX_STREAM_BYTES → n < 10 ^ 64
-small n h = omega arith
-
 module _
-    (sound : (bytes : List ℕ) (events : List PlainEvent) → length bytes < 10 ^ 64 → stream_of bytes ≡ Ok events → IsAsRead events)
+    (sound : (bytes : List ℕ) (events : List PlainEvent) → stream_of bytes ≡ Ok events → IsAsRead events)
     (few : (bytes : List ℕ) (events : List PlainEvent) → stream_of bytes ≡ Ok events → length events ≤ MAX_EVENTS)
-    (again : (events : List PlainEvent) → IsAsRead events → history_in (text events) ≡ Some events)
-    (replayed : (bytes : List ℕ) (events : List PlainEvent) → history_in bytes ≡ Some events → replay_in bytes ≡ Some (snapshot events))
-    (numbered : (events : List PlainEvent) → IsAsRead events → IsAsRead (renumbered events))
+    (shows : (events : List PlainEvent) → IsSound events → IsShownBy (text events) events)
+    (numbered : (events : List PlainEvent) → IsSound events → IsSound (renumbered events))
     (as_many : (events : List PlainEvent) → length (renumbered events) ≡ length events)
   where
     read_held : (name : Bytes) (file : Option Bytes) (events : List PlainEvent) → read_of name file ≡ Ok events → IsHeld events
@@ -127,8 +122,7 @@ module _
             → (if b then over name (stream_of (whole_lines (take MAX_STREAM_BYTES bytes))) else stream_of bytes) ≡ Ok events → IsHeld events
         go true is h = absurd (never_over name (stream_of (whole_lines (take MAX_STREAM_BYTES bytes))) events h)
         go false is h =
-            let fits : length bytes ≤ MAX_STREAM_BYTES = grind (arith, nat_tests) in
-            (sound bytes events (small (length bytes) fits) h, few bytes events h)
+            ((sound bytes events h).sound, few bytes events h)
 
     loaded_held : (files : Files) (file : Bytes) (events : List PlainEvent) → loaded files file ≡ Ok events → IsHeld events
     unfolding loaded
@@ -204,9 +198,7 @@ module _
 
     shown : (repos : List Repo) → AreHeld repos → AreShown repos
     shown [] h = tt
-    shown (r ∷ repos) h =
-        let is = again r.history h.0.0 in
-        ((is, replayed (text r.history) r.history is), shown repos h.1)
+    shown (r ∷ repos) h = (shows r.history h.0.0, shown repos h.1)
 
     abbrev Show : List (Turn Session) → Type 0
     Show turns = AllByRecursion (λ t. AreShown t.session.repos) turns

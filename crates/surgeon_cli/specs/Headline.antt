@@ -6,7 +6,7 @@ use Rattle.plain_model.specs.declared.status.Status.TheVariants as status
 use Rattle.plain_model.specs.Paths.{Bytes}
 use Rattle.plain_model.specs.Files.{Files}
 use Rattle.plain_model.specs.Text.{text}
-use Rattle.stream_replay.specs.Shows.{Shows}
+use Rattle.shown_laws.specs.Showing.{IsShownBy}
 use Rattle.surgeon_store.specs.Outside.{StoreState, SinkState}
 use Rattle.history_machine.specs.Sessions.{Repo}
 use Rattle.history_machine.specs.Machine.{Completes, Stands}
@@ -24,10 +24,10 @@ abbrev pub Succeeds : List Bytes → StoreState → SinkState → Status → Sto
 Succeeds words s k answer s' k' =
     NoFaults s k s' k' → answer ≢ status.Memory → IfSome (world s k) (λ w. IfSome (world s' k') (λ now. Completes (run words w.files) answer w now))
 
--- each history that a session holds: what is written of it is read again as it, and a replay of that by plain maps shows
--- what the history shows
+-- each history that a session holds: what is written of it is a stream, what is read of that is written as the same bytes,
+-- and a replay of it by plain maps shows what the history shows
 abbrev pub AreShown : List Repo → Type 0
-AreShown repos = AllByRecursion (λ r. Shows (text r.history) r.history) repos
+AreShown repos = AllByRecursion (λ r. IsShownBy (text r.history) r.history) repos
 
 -- that is so behind each command of the run, whether it is done or refused
 abbrev pub ShowsHistories : List Bytes → Files → Type 0

@@ -42,14 +42,13 @@ ghost use Rattle.plain_model.specs.Files.{Files};
 use crate::words::asked_in;
 use file_calls::{Halted, read_file};
 use plain_model::{Fault, Items, MAX_SCRIPT_BYTES, NoMemory, Status, Text};
-use renumbering::{ids_stay, renumbering_keeps_what_reading_gives};
+use renumbering::{ids_stay, renumbering_keeps_soundness};
 use script_reader::Script;
+use shown_laws::what_is_written_shows_the_history;
 use sound_laws::{what_is_read_is_sound, what_is_read_passes_no_limit};
 use std::alloc::Global;
-use stream_replay::replay_shows_the_history;
 use surgeon_session::Session;
 use surgeon_store::{Sink, Store, WriteEnd, write_all};
-use written_laws::what_is_written_is_read_again;
 
 fn status_of(why: &Fault) -> Status
     ensures { result ≡ unread_status why.now }
@@ -261,15 +260,14 @@ pub fn surgeon<S: Store, T: Sink>(
     // want of memory may come in its place.
     ensures words { AnswersWords (map string_bytes words.now) result }
 
-    // Each history that the run holds, and so each that it writes, is read again of its text, which replayed by plain
-    // maps shows what that history shows.
+    // Each history that the run holds, and so each that it writes, is shown by its text: that is a stream, what is read of
+    // it is written as the same bytes, and a replay by plain maps shows what that history shows.
     ensures replayed { (files : Files) → ShowsHistories (map string_bytes words.now) files }
 {
     what_is_read_is_sound();
     what_is_read_passes_no_limit();
-    what_is_written_is_read_again();
-    replay_shows_the_history();
+    what_is_written_shows_the_history();
     ids_stay();
-    renumbering_keeps_what_reading_gives();
+    renumbering_keeps_soundness();
     run_words(alloc, words, store, out)
 }

@@ -12,7 +12,7 @@ use Rattle.plain_model.specs.Histories.{tree, begun, folded}
 use Rattle.plain_model.specs.Lookups.{greatest_mark}
 use Rattle.plain_model.specs.Paths.{Bytes}
 use Rattle.plain_model.specs.Snapshots.{refs_after, refs}
-use Rattle.plain_model.specs.Soundness.{has_id, IsCommitOf, AreSoundBehind}
+use Rattle.plain_model.specs.Soundness.{AreSoundBehind, IsCommitOf, IsFormedEvent, has_id}
 use Rattle.plain_model.specs.Text.{line, event_text, text_from, end_text, is_feature_done, text as text_of_history}
 use Rattle.plain_model.specs.Trees.{TreeOf, put, has}
 use Rattle.stream_grammar.specs.declared.lines.Due.{Due}
@@ -21,7 +21,7 @@ use Rattle.stream_grammar.specs.declared.lines.Word.TheVariants as word
 use Rattle.stream_grammar.specs.Known.{next_id, with_marks, history_of}
 use Rattle.stream_grammar.specs.Known.Open.{Nothing}
 use Rattle.stream_grammar.specs.Lines.{history_in, must_go_on}
-use Rattle.written_laws.specs.AsRead.{ArePlaced, IsFormedEvent, IsRooted, AreRootedBehind, IsAsRead}
+use Rattle.written_laws.specs.AsRead.{ArePlaced, IsRooted, AreRootedBehind, IsAsRead}
 use Rattle.written_laws.proofs.Points.{point, Gives, line_ends, text_ends}
 use Rattle.written_laws.proofs.WrittenLines.{is_between, done_leads}
 use Rattle.written_laws.proofs.WrittenEvents.{GivesBehind, blob_goes, tag_goes, reset_goes, pass_goes}
@@ -34,7 +34,7 @@ use Rattle.written_laws.proofs.FoundAgain.{AreFound, FindsCommit, found_next, ow
 all_marked : (n : ℕ) (events : List PlainEvent) → AllByRecursion IsFormedEvent events → with_marks n events ≡ events
 all_marked n [] h = refl
 all_marked n (Blob id mark bytes ∷ events) h =
-    cond-false (mark == 0) (Blob id (n + 1) bytes ∷ with_marks (n + 1) events) (Blob id mark bytes ∷ with_marks n events) (ne_eqb mark 0 (λ e. absurd (let low = h.0.0.0 in omega (arith, e, low))))
+    cond-false (mark == 0) (Blob id (n + 1) bytes ∷ with_marks (n + 1) events) (Blob id mark bytes ∷ with_marks n events) (ne_eqb mark 0 (λ e. absurd (let low = h.0.0 in omega (arith, e, low))))
     ∙ ap (λ (l : List PlainEvent). Blob id mark bytes ∷ l) (all_marked n events h.1)
 all_marked n (Commit id mark branch author committer encoding comment parents ops ∷ events) h =
     cond-false (mark == 0) (Commit id (n + 1) branch author committer encoding comment parents ops ∷ with_marks (n + 1) events) (Commit id mark branch author committer encoding comment parents ops ∷ with_marks n events) (ne_eqb mark 0 (λ e. absurd (let low = h.0.0.0 in omega (arith, e, low))))
@@ -115,10 +115,10 @@ target_found whole done found (Some c) h = found.commits c h
 event_goes : (whole done : List PlainEvent) (e : PlainEvent) (later : List PlainEvent) → HaveTrees whole → IsSplit whole done (e ∷ later) → (rest : Bytes) (history : List PlainEvent)
     → GivesBehind (done ++ e ∷ []) rest history → GivesBehind done (event_text whole (refs done) e ++ rest) history
 event_goes whole done (Blob id mark bytes) later trees s rest history k d wants events current h =
-    blob_goes d wants events current done h rest history whole id mark bytes s.placed.0 s.formed.0.0 s.sound.0.1 s.formed.0.1 k
+    blob_goes d wants events current done h rest history whole id mark bytes s.placed.0 s.formed.0 s.sound.0.1 k
 event_goes whole done (Commit id mark branch author committer encoding comment parents ops) later trees s rest history k d wants events current h =
     let (fresh, new, named, written_by, committed_by, encoded, children, apart, few, refers) = s.sound.0 in
-    let (is_mark, counted, formed) = s.formed.0 in
+    let (is_mark, formed) = s.formed.0 in
     commit_goes d wants events current whole done h s.found id mark branch author committer encoding comment parents ops
     (record {
       place = s.placed.0;
@@ -128,7 +128,6 @@ event_goes whole done (Commit id mark branch author committer encoding comment p
       written_by = written_by;
       committed_by = committed_by;
       encoded = encoded;
-      counted = counted;
       children = children;
       apart = apart;
       rooted = root_is done id mark branch author committer encoding comment parents ops s.rooted.0;
@@ -138,7 +137,7 @@ event_goes whole done (Commit id mark branch author committer encoding comment p
     }) rest history k
 event_goes whole done (Tag id name target tagger comment) later trees s rest history k d wants events current h =
     let (fresh, named, there, formed) = s.sound.0 in
-    tag_goes d wants events current done h rest history whole id name target tagger comment s.placed.0 named (s.found.commits target there) formed s.formed.0 k
+    tag_goes d wants events current done h rest history whole id name target tagger comment s.placed.0 named (s.found.commits target there) formed k
 event_goes whole done (Reset id branch target) later trees s rest history k d wants events current h =
     let (fresh, named, there) = s.sound.0 in
     reset_goes d wants events current done h rest history whole id branch target s.placed.0 named (target_found whole done s.found target there) k
@@ -171,13 +170,13 @@ events_go whole done (e ∷ later) formed trees s =
 -- what is written of a history that was read is read again as it
 pub again : (events : List PlainEvent) → IsAsRead events → history_in (text_of_history events) ≡ Some events
 again events h =
-    events_go events [] events h.formed h.sound.trees
+    events_go events [] events h.sound.spelled h.sound.trees
     (record {
       is = refl;
       found = record { commits = λ c e. absurd cc; blobs = λ b e. absurd cc };
       sound = h.sound.formed;
       placed = h.placed;
-      formed = h.formed;
+      formed = h.sound.spelled;
       rooted = h.rooted;
     })
     due.Event false [] Nothing (record { between = refl; are = refl; promised = refl }) 1 []

@@ -12,12 +12,12 @@ use Rattle.plain_model.specs.declared.person.Signed.{Signed}
 use Rattle.plain_model.specs.Paths.{Bytes}
 use Rattle.plain_model.specs.Trees.{Tree, Refusal, apply, apply_all, ◌>>=◌}
 use Rattle.plain_model.specs.Histories.{Node, Past, nodes, past, tree, tree_in, begun, folded, if_ok, knows}
-use Rattle.plain_model.specs.Soundness.{has_id, IsSoundEvent}
+use Rattle.plain_model.specs.Soundness.{IsFormedEvent, IsSoundEvent, has_id}
 use Rattle.plain_model.specs.Streams.{is_marked, blob_marked, commit_marked}
 use Rattle.plain_model.specs.Snapshots.{commit_mark}
 use Rattle.plain_model.specs.Text.{blob_mark_in}
 use Rattle.plain_model.specs.Marks.{IsMark}
-use Rattle.written_laws.specs.AsRead.{ArePlaced, IsFormedEvent}
+use Rattle.written_laws.specs.AsRead.{ArePlaced}
 
 -- ---- ids of two parts
 
@@ -215,7 +215,7 @@ module _ (done more : List PlainEvent) (id mark : ℕ) (branch : Bytes) (author 
 
 -- any event
 found_with : (done more : List PlainEvent) (e : PlainEvent) → AreFound (done ++ e ∷ more) done → IsSoundEvent done e → IsFormedEvent e → AreFound (done ++ e ∷ more) (done ++ e ∷ [])
-found_with done more (Blob id mark bytes) s sound formed = found_with_blob done more id mark bytes sound.0 sound.1 formed.0 s
+found_with done more (Blob id mark bytes) s sound formed = found_with_blob done more id mark bytes sound.0 sound.1 formed s
 found_with done more (Commit id mark branch author committer encoding comment parents ops) s sound formed =
     found_with_commit done more id mark branch author committer encoding comment parents ops sound.0 sound.1 formed.0 s
 found_with done more (Tag id name target tagger comment) s sound formed = found_more (done ++ Tag id name target tagger comment ∷ more) done (Tag id name target tagger comment) s (λ c h. absurd cc) (λ b h. absurd cc)

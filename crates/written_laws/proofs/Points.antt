@@ -1,5 +1,5 @@
 -- A text that is read on from a place between two lines: behind a line, or behind a line and its block of data.
-use Rattle.std.proofs.Common.{◌≡◌, ℕ, ◌+◌, ◌^◌, ◌<◌, Bool, true, false, cond, List, [], ◌∷◌, ◌++◌, length, take, drop, Some, Ok, refl, sym, ap, subst, ◌∙◌, arith, append_assoc, length-append, le-leb, take_at, drop_at, codes, decimal, None, not, ◌==◌, ne_eqb, leb-true}
+use Rattle.std.proofs.Common.{◌≡◌, ℕ, ◌+◌, Bool, true, false, cond, List, [], ◌∷◌, ◌++◌, length, take, drop, Some, Ok, refl, sym, ap, subst, ◌∙◌, arith, append_assoc, length-append, le-leb, take_at, drop_at, codes, None, not, ◌==◌, ne_eqb, leb-true}
 use Rattle.std.specs.Prelude.{nat_le}
 use Rattle.std.specs.List.{list_all}
 use Rattle.std.proofs.lemmas.Bool.{cond-true, cond-false, and_parts}
@@ -9,11 +9,12 @@ use Rattle.plain_model.specs.Fields.Extent.{Counted}
 use Rattle.plain_model.specs.Parts.{has_no_lf, line_at}
 use Rattle.plain_model.specs.Paths.{Bytes}
 use Rattle.plain_model.specs.Text.{line, data_block}
-use Rattle.plain_model.specs.Numbers.{is_digit}
+use Rattle.plain_model.specs.Numbers.{decimal_of, is_digit}
 use Rattle.field_laws.proofs.FieldSteps.{ok_then}
 use Rattle.field_laws.proofs.Lines.{line_read}
 use Rattle.field_laws.proofs.Numerals.{numeral_read}
-use Rattle.field_laws.proofs.Written.{line_written, numeral_written}
+use Rattle.field_laws.proofs.Decimals.{numeral_of}
+use Rattle.field_laws.proofs.Written.{line_written}
 use Rattle.field_laws.proofs.Persons.{all_pass}
 use Rattle.line_machine.specs.Machine.{Next, outcome_from, all}
 use Rattle.line_machine.specs.Machine.Next.{More, Block, Over}
@@ -108,9 +109,9 @@ pub digits_plain : (digits : Bytes) → list_all is_digit digits ≡ true → ha
 digits_plain digits h = all_pass is_digit (λ b. not (b == 10)) digit_plain digits h
 
 -- the line before a block says how far it goes
-pub extent_again : (n : ℕ) → n < 10 ^ 64 → extent_in (codes "data " ++ decimal n) ≡ Ok (Counted n)
+pub extent_again : (n : ℕ) → extent_in (codes "data " ++ decimal_of n) ≡ Ok (Counted n)
 unfolding extent_in data_text
-extent_again n h = ap (extent_by (decimal n)) (numeral_read (decimal n) n (numeral_written n h))
+extent_again n = ap (extent_by (decimal_of n)) (numeral_read (decimal_of n) n (numeral_of n))
 
 -- so many bytes are the block
 block_again : (bytes rest : Bytes) → block_at (Counted (length bytes)) (bytes ++ 10 ∷ rest) ≡ Some (bytes, 10 ∷ rest)
@@ -120,9 +121,9 @@ block_again bytes rest =
     cond-true (nat_le n (length text)) (Some (take n text, drop n text)) None (le-leb n (length text) (omega (arith, length-append bytes (10 ∷ rest))))
     ∙ (λ i. Some (take_at bytes (10 ∷ rest) n refl i, drop_at bytes (10 ∷ rest) n refl i))
 
-module _ (p : Point) (standing : Standing) (bytes : Bytes) (short : length bytes < 10 ^ 64) (stands : behind_word p.standing word.Data ≡ Ok standing) where
+module _ (p : Point) (standing : Standing) (bytes : Bytes) (stands : behind_word p.standing word.Data ≡ Ok standing) where
   abbrev data_head : Bytes
-  data_head = codes "data " ++ decimal (length bytes)
+  data_head = codes "data " ++ decimal_of (length bytes)
 
   -- behind the line, before its block
   abbrev before_block : Point
@@ -130,11 +131,11 @@ module _ (p : Point) (standing : Standing) (bytes : Bytes) (short : length bytes
 
   head_leads : Leads p data_head word.Data (Block (length bytes)) before_block
   head_leads = record {
-    plain = digits_plain (decimal (length bytes)) (numeral_written (length bytes) short).all;
+    plain = digits_plain (decimal_of (length bytes)) (numeral_of (length bytes)).all;
     no_comment = refl;
     word_is = refl;
     stands = stands;
-    follows = ok_then (extent_in data_head) (λ extent. Ok (next_by extent)) (Counted (length bytes)) (Ok (Block (length bytes))) (extent_again (length bytes) short) refl;
+    follows = ok_then (extent_in data_head) (λ extent. Ok (next_by extent)) (Counted (length bytes)) (Ok (Block (length bytes))) (extent_again (length bytes)) refl;
     fits = refl;
   }
 

@@ -1,6 +1,7 @@
 -- The worked histories, by computation.
 use Rattle.std.proofs.Common.{IsSome, ◌≡◌, Some, refl, arith, ◌==◌, Bool, ◌||◌, false, true, IsSome, cond, None}
 use Rattle.std.specs.Fmt.{digits}
+use Rattle.plain_model.specs.Numbers.{decimal_of}
 use Rattle.plain_model.specs.Parts.{cut_at, number_of, number_within, mark_of, name_of, zone_of, when_of, when_behind, person_parts, behind}
 use Rattle.plain_model.specs.Fields.{mark_in, name_in, person_in, turn, path_by, quoted_path, path_in, mode_in, content_in, last_path_in, extent_in, data_text}
 use Rattle.plain_model.specs.Text.{text}
@@ -11,7 +12,7 @@ use Rattle.written_laws.specs.AsRead.{IsAsRead}
 use Rattle.written_laws.specs.Worked.{two_branches, two_branches_lines}
 
 pub is_written : text two_branches ≡ lines two_branches_lines
-unfolding digits
+unfolding digits decimal_of
 is_written = refl
 
 pub is_read : history_in (lines two_branches_lines) ≡ Some two_branches
@@ -56,28 +57,26 @@ is_as_read = record {
         ),
       ),
     );
-    trees = λ c h. three_trees (6 == c) (5 == c) (3 == c) _ _ _ h;
-  };
-  placed = (refl, (refl, (refl, (refl, (refl, (refl, (refl, (refl, (refl, tt)))))))));
-  formed = (
-    tt,
-    (
-      ((omega arith, omega arith), omega arith),
+    spelled = (
+      tt,
       (
-        ((omega arith, omega arith), omega arith, ((tt, refl), ((tt, refl), tt))),
+        (omega arith, omega arith),
         (
-          tt,
+          ((omega arith, omega arith), ((tt, refl), ((tt, refl), tt))),
           (
-            ((omega arith, omega arith), omega arith, ((refl, refl), ((refl, refl), tt))),
+            tt,
             (
-              ((omega arith, omega arith), omega arith, (tt, ((refl, refl), (refl, tt)))),
+              ((omega arith, omega arith), ((refl, refl), ((refl, refl), tt))),
               (
-                tt,
+                ((omega arith, omega arith), (tt, ((refl, refl), (refl, tt)))),
                 (
-                  omega arith,
+                  tt,
                   (
-                    omega arith,
                     tt,
+                    (
+                      tt,
+                      tt,
+                    ),
                   ),
                 ),
               ),
@@ -85,7 +84,9 @@ is_as_read = record {
           ),
         ),
       ),
-    ),
-  );
+    );
+    trees = λ c h. three_trees (6 == c) (5 == c) (3 == c) _ _ _ h;
+  };
+  placed = (refl, (refl, (refl, (refl, (refl, (refl, (refl, (refl, (refl, tt)))))))));
   rooted = (tt, (tt, (refl, (tt, (tt, (tt, (tt, (tt, (tt, tt)))))))));
 }

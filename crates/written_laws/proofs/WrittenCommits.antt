@@ -9,7 +9,7 @@ use Rattle.plain_model.specs.declared.event.PlainEvent.TheVariants.{Commit}
 use Rattle.plain_model.specs.declared.person.Signed.{Signed}
 use Rattle.plain_model.specs.Histories.{tree, begun, folded}
 use Rattle.plain_model.specs.Paths.{Bytes}
-use Rattle.plain_model.specs.Soundness.{IsCommitOf, RefersBack, IsFormedSigned, are_distinct}
+use Rattle.plain_model.specs.Soundness.{IsCommitOf, IsFormedOp, IsFormedSigned, RefersBack, are_distinct}
 use Rattle.plain_model.specs.Snapshots.{commit_mark, refs}
 use Rattle.plain_model.specs.Text.{line, marked, data_block, person, parents_text, encoding_text, reset_text, event_text, op_text, raw_op_text, raw_op}
 use Rattle.plain_model.specs.Marks.{IsMark}
@@ -23,7 +23,6 @@ use Rattle.stream_grammar.specs.declared.lines.Due.TheVariants as due
 use Rattle.stream_grammar.specs.declared.lines.Word.TheVariants as word
 use Rattle.stream_grammar.specs.Known.{Open, OpenCommit, next_id, with_parent}
 use Rattle.stream_grammar.specs.Known.Open.{ACommit}
-use Rattle.written_laws.specs.AsRead.{IsFormedOp, IsCounted}
 use Rattle.written_laws.proofs.Points.{Point, point, Gives, line_goes, data_goes}
 use Rattle.written_laws.proofs.WrittenLines.{may_end, commit_leads, commit_mark_leads, author_leads, committer_leads, encoding_leads, commit_from_leads, merge_leads, empty_leads}
 use Rattle.written_laws.proofs.WrittenOps.{op_leads}
@@ -149,17 +148,17 @@ module _ (whole done : List PlainEvent) (found : AreFound whole done) (wants : B
 
 -- the encoding, if there is one, and the comment
 comment_goes : (whole done : List PlainEvent) (found : AreFound whole done) (wants : Bool) (branch : Bytes) (mark : ℕ) (author committer : Signed) (encoding : Option Bytes) (comment : Bytes) (history : List PlainEvent)
-    (tip : List ℕ) (rest : Bytes) → IfSome encoding (λ e. IsTrue (has_no_lf e)) → IsCounted comment
+    (tip : List ℕ) (rest : Bytes) → IfSome encoding (λ e. IsTrue (has_no_lf e))
     → Gives (at_commit whole done found wants branch mark author committer encoding comment history due.CommitFrom tip []) rest history
     → Gives (before_encoding whole done found wants branch mark author committer encoding comment history None tip) (encoding_text whole encoding ++ (data_block comment ++ rest)) history
-comment_goes whole done found wants branch mark author committer None comment history tip rest plain counted g =
-    data_goes (before_encoding whole done found wants branch mark author committer None comment history None tip) (record { due = due.CommitFrom; wants_done = wants }) comment counted refl rest history g
-comment_goes whole done found wants branch mark author committer (Some e) comment history tip rest plain counted g =
+comment_goes whole done found wants branch mark author committer None comment history tip rest plain g =
+    data_goes (before_encoding whole done found wants branch mark author committer None comment history None tip) (record { due = due.CommitFrom; wants_done = wants }) comment refl rest history g
+comment_goes whole done found wants branch mark author committer (Some e) comment history tip rest plain g =
     let c : OpenCommit = record { branch = branch; mark = mark; author = Some author; committer = Some committer; encoding = None; comment = []; parents = tip; ops = [] } in
     let q : Point = point due.CommitData wants done (ACommit (record { branch = branch; mark = mark; author = Some author; committer = Some committer; encoding = Some e; comment = []; parents = tip; ops = [] })) in
     line_goes (before_encoding whole done found wants branch mark author committer (Some e) comment history None tip) q (codes "encoding " ++ e) (data_block comment ++ rest) word.Encoding history
     (encoding_leads wants done c e plain)
-    (data_goes q (record { due = due.CommitFrom; wants_done = wants }) comment counted refl rest history g)
+    (data_goes q (record { due = due.CommitFrom; wants_done = wants }) comment refl rest history g)
 
 -- ---- whole commits
 
@@ -183,7 +182,6 @@ pub record CommitFits (whole done : List PlainEvent) (id mark : ℕ) (branch : B
   pub written_by : IsFormedSigned author
   pub committed_by : IsFormedSigned committer
   pub encoded : IfSome encoding (λ e. IsTrue (has_no_lf e))
-  pub counted : IsCounted comment
   pub children : AllByRecursion (IsCommitOf done) parents
   pub apart : are_distinct parents ≡ true
   pub rooted : parents ≡ [] → has (refs done) branch ≡ false
@@ -220,7 +218,7 @@ module _ (d : Due) (wants : Bool) (events : List PlainEvent) (current : Open) (w
   -- behind the line of the committer
   rest_goes : Gives (before_encoding whole done found wants branch mark author committer encoding comment history None tip) (encoding_text whole encoding ++ (data_block comment ++ (parents_text whole parents ++ (flat_map (op_text whole) ops ++ 10 ∷ rest)))) history
   rest_goes =
-      comment_goes whole done found wants branch mark author committer encoding comment history tip (parents_text whole parents ++ (flat_map (op_text whole) ops ++ 10 ∷ rest)) fits.encoded fits.counted
+      comment_goes whole done found wants branch mark author committer encoding comment history tip (parents_text whole parents ++ (flat_map (op_text whole) ops ++ 10 ∷ rest)) fits.encoded
       (parents_go whole done found wants branch mark author committer encoding comment history tip parents (flat_map (op_text whole) ops ++ 10 ∷ rest) fits.children fits.apart (λ e. no_tip (refs done) branch (fits.rooted e))
       (ops_go whole done found wants branch mark author committer encoding comment history parents [] ops (10 ∷ rest) fits.refers fits.formed (subst IsSome (ap (folded ops) (sym (nothing_folded (begun (tree done) parents)))) fits.carried_out) end_goes))
     where

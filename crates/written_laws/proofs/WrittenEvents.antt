@@ -17,7 +17,6 @@ use Rattle.stream_grammar.specs.declared.lines.Due.TheVariants as due
 use Rattle.stream_grammar.specs.declared.lines.Word.TheVariants as word
 use Rattle.stream_grammar.specs.Known.{Open, closed, next_id}
 use Rattle.stream_grammar.specs.Known.Open.{Nothing, ABlob, ATag, AReset}
-use Rattle.written_laws.specs.AsRead.{IsCounted}
 use Rattle.written_laws.proofs.Points.{point, Gives, line_goes, data_goes}
 use Rattle.written_laws.proofs.WrittenLines.{is_between, blob_leads, blob_mark_leads, tag_leads, tag_from_leads, tagger_leads, reset_leads, reset_from_leads}
 use Rattle.written_laws.proofs.PassedLines.{pass_leads}
@@ -60,15 +59,15 @@ module _ (d : Due) (wants : Bool) (events : List PlainEvent) (current : Open) (d
   blob_grouped : (a b c : Bytes) → a ++ b ++ c ++ rest ≡ a ++ (b ++ (c ++ rest))
   blob_grouped a b c = simp append_assoc
 
-  pub blob_goes : (whole : List PlainEvent) (id mark : ℕ) (bytes : Bytes) → id ≡ next_id done → IsMark mark → is_marked done mark ≡ false → IsCounted bytes
+  pub blob_goes : (whole : List PlainEvent) (id mark : ℕ) (bytes : Bytes) → id ≡ next_id done → IsMark mark → is_marked done mark ≡ false
       → GivesBehind (done ++ Blob id mark bytes ∷ []) rest history → from_here (event_text whole (refs done) (Blob id mark bytes) ++ rest)
-  blob_goes whole id mark bytes place is_mark new counted k =
+  blob_goes whole id mark bytes place is_mark new k =
       subst from_here (sym (blob_grouped (line (codes "blob")) (line (codes "mark " ++ marked mark)) (data_block bytes)))
       (line_goes (point d wants events current) (point due.BlobMark wants done (ABlob 0)) (codes "blob") (line (codes "mark " ++ marked mark) ++ (data_block bytes ++ rest)) word.Blob history
       (blob_leads d h.between wants events done current h.are)
       (line_goes (point due.BlobMark wants done (ABlob 0)) (point due.BlobOid wants done (ABlob mark)) (codes "mark " ++ marked mark) (data_block bytes ++ rest) word.Mark history
       (blob_mark_leads wants done mark is_mark new)
-      (data_goes (point due.BlobOid wants done (ABlob mark)) (record { due = due.Event; wants_done = wants }) bytes counted refl rest history
+      (data_goes (point due.BlobOid wants done (ABlob mark)) (record { due = due.Event; wants_done = wants }) bytes refl rest history
       (k due.Event wants (done ++ Blob (next_id done) mark bytes ∷ []) Nothing
       (record { between = refl; are = ap (λ n. done ++ Blob n mark bytes ∷ []) (sym place); promised = promised_still (Blob id mark bytes) refl })))))
 
@@ -80,9 +79,9 @@ module _ (d : Due) (wants : Bool) (events : List PlainEvent) (current : Open) (d
   tagged_grouped : (a b c e : Bytes) → a ++ b ++ c ++ e ++ rest ≡ a ++ (b ++ (c ++ (e ++ rest)))
   tagged_grouped a b c e = simp append_assoc
 
-  pub tag_goes : (whole : List PlainEvent) (id : ℕ) (name : Bytes) (target : ℕ) (tagger : Option Signed) (comment : Bytes) → id ≡ next_id done → IsTrue (is_name name) → FindsCommit whole done target → IfSome tagger IsFormedSigned → IsCounted comment
+  pub tag_goes : (whole : List PlainEvent) (id : ℕ) (name : Bytes) (target : ℕ) (tagger : Option Signed) (comment : Bytes) → id ≡ next_id done → IsTrue (is_name name) → FindsCommit whole done target → IfSome tagger IsFormedSigned
       → GivesBehind (done ++ Tag id name target tagger comment ∷ []) rest history → from_here (event_text whole (refs done) (Tag id name target tagger comment) ++ rest)
-  tag_goes whole id name target None comment place named found formed counted k =
+  tag_goes whole id name target None comment place named found formed k =
       let from_line = codes "from " ++ marked (commit_mark whole target) in
       let behind_from = data_block comment ++ rest in
       subst from_here (sym (tag_grouped (line (codes "tag " ++ name)) (line from_line) (data_block comment)))
@@ -90,10 +89,10 @@ module _ (d : Due) (wants : Bool) (events : List PlainEvent) (current : Open) (d
       (tag_leads d h.between wants events done current h.are name named)
       (line_goes (point due.TagFrom wants done (ATag name 0 None)) (point due.TagOid wants done (ATag name target None)) from_line behind_from word.From history
       (tag_from_leads wants done (commit_mark whole target) target found.0 found.1 name 0 None)
-      (data_goes (point due.TagOid wants done (ATag name target None)) (record { due = due.Event; wants_done = wants }) comment counted refl rest history
+      (data_goes (point due.TagOid wants done (ATag name target None)) (record { due = due.Event; wants_done = wants }) comment refl rest history
       (k due.Event wants (done ++ Tag (next_id done) name target None comment ∷ []) Nothing
       (record { between = refl; are = ap (λ n. done ++ Tag n name target None comment ∷ []) (sym place); promised = promised_still (Tag id name target None comment) refl })))))
-  tag_goes whole id name target (Some who) comment place named found formed counted k =
+  tag_goes whole id name target (Some who) comment place named found formed k =
       let from_line = codes "from " ++ marked (commit_mark whole target) in
       let tagger_line = codes "tagger " ++ person who in
       let behind_tagger = data_block comment ++ rest in
@@ -104,7 +103,7 @@ module _ (d : Due) (wants : Bool) (events : List PlainEvent) (current : Open) (d
       (tag_from_leads wants done (commit_mark whole target) target found.0 found.1 name 0 None)
       (line_goes (point due.TagOid wants done (ATag name target None)) (point due.TagData wants done (ATag name target (Some who))) tagger_line behind_tagger word.Tagger history
       (tagger_leads wants done who formed name target None)
-      (data_goes (point due.TagData wants done (ATag name target (Some who))) (record { due = due.Event; wants_done = wants }) comment counted refl rest history
+      (data_goes (point due.TagData wants done (ATag name target (Some who))) (record { due = due.Event; wants_done = wants }) comment refl rest history
       (k due.Event wants (done ++ Tag (next_id done) name target (Some who) comment ∷ []) Nothing
       (record { between = refl; are = ap (λ n. done ++ Tag n name target (Some who) comment ∷ []) (sym place); promised = promised_still (Tag id name target (Some who) comment) refl }))))))
 

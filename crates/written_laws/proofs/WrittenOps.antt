@@ -21,7 +21,7 @@ use Rattle.plain_model.specs.Fields.{◌>>=◌, first_word, behind_space, path_i
 use Rattle.plain_model.specs.Paths.{Bytes, IsPath}
 use Rattle.plain_model.specs.Trees.{Tree, apply_all, subtree, ◌>>=◌ as ◌then_op◌, placed as tree_placed, without}
 use Rattle.plain_model.specs.Histories.{folded, if_ok}
-use Rattle.plain_model.specs.Soundness.{has_id, RefersBack}
+use Rattle.plain_model.specs.Soundness.{IsFormedContent, IsFormedOp, RefersBack, has_id}
 use Rattle.plain_model.specs.Text.{LF, quoted_byte, quoted, begins_quoted, last_path, source_path, raw_content_text, raw_op_text, raw_content, raw_op}
 use Rattle.plain_model.specs.Parts.{has_no_lf}
 use Rattle.plain_model.specs.Objects.{is_hex, is_object}
@@ -40,7 +40,6 @@ use Rattle.stream_grammar.specs.declared.lines.Word.TheVariants as word
 use Rattle.stream_grammar.specs.Known.{OpenCommit, op_behind, paths_behind, placed, has_source, is_empty_list, tree_now, ensure}
 use Rattle.stream_grammar.specs.Known.Open.{ACommit}
 use Rattle.stream_grammar.specs.Lines.{word_of, follows, gone_on, is_comment}
-use Rattle.written_laws.specs.AsRead.{IsFormedContent, IsFormedOp}
 use Rattle.written_laws.proofs.Points.{Leads, point}
 use Rattle.written_laws.proofs.WrittenLines.{may_end}
 use Rattle.written_laws.proofs.FoundAgain.{AreFound}

@@ -12,7 +12,10 @@ loop-step-preserved c =
     subst (IsLine (c.loop-step.step + 1)) (sym both) (line-more c.loop-step.step c.loop-step.list c.loop-step.invariant)
 
 pub returns-clause-sound : goal.returns-clause-sound
-returns-clause-sound c = line-sound c.loop-step.step c.loop-step.list c.loop-step.invariant
+returns-clause-sound c =
+    let few = c.requires in
+    let done = c.loop-step.auto.step-end in
+    line-sound c.loop-step.step c.loop-step.list (omega arith) c.loop-step.invariant
 
 pub returns-clause-low : goal.returns-clause-low
 returns-clause-low c =

@@ -1,4 +1,4 @@
-use Rattle.std.proofs.Common.{◌≡◌, Ok, refl, arith}
+use Rattle.std.proofs.Common.{◌≡◌, Ok, refl}
 use Rattle.plain_model.specs.Parts.{cut_at, number_of, number_within, name_of, zone_of, when_of, when_behind, person_parts, behind}
 use Rattle.plain_model.specs.Fields.{name_in, person_in, turn, path_by, quoted_path, path_in, mode_in, content_in, last_path_in, extent_in, data_text}
 use Rattle.stream_grammar.specs.Limits.{stream_of}
@@ -11,4 +11,4 @@ unfolding cut_at number_of number_within name_of zone_of when_of when_behind per
 read = refl
 
 pub returns : goal.returns
-returns c = record { read = read; sound = read_is_sound stream_of_two history_of_two (omega arith) read }
+returns c = record { read = read; sound = read_is_sound stream_of_two history_of_two read }

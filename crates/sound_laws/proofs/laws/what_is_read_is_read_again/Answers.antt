@@ -3,4 +3,4 @@ use Rattle.sound_laws.proofs.StreamKept.{read_is_sound}
 use Rattle.sound_laws.proofs.laws.what_is_read_is_read_again.Goals as goal
 
 pub returns : goal.returns
-returns c = λ bytes events few is. again events (read_is_sound bytes events few is)
+returns c = λ bytes events is. again events (read_is_sound bytes events is)

@@ -10,5 +10,5 @@ returns-clause-complete g c = λ quiet enough.
 
 pub returns-clause-replayed : goal.returns-clause-replayed
 returns-clause-replayed g c = λ files.
-    histories_shown c.what_is_read_is_sound.ensures (λ bytes events is. (c.what_is_read_passes_no_limit.ensures bytes events is).0) c.what_is_written_is_read_again.ensures c.replay_shows_the_history.ensures
-    c.renumbering_keeps_what_reading_gives.ensures c.ids_stay.ensures.count (map string_bytes c.args.words.now) files
+    histories_shown c.what_is_read_is_sound.ensures (λ bytes events is. (c.what_is_read_passes_no_limit.ensures bytes events is).0) c.what_is_written_shows_the_history.ensures
+    c.renumbering_keeps_soundness.ensures c.ids_stay.ensures.count (map string_bytes c.args.words.now) files

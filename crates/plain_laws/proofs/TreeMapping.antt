@@ -37,7 +37,7 @@ map_change f Clear = Clear
 
 module _ {X Y : Type 0} (f : X → Y) where
   -- entries that pass a test of their paths
-  mapped_where : (t : Bytes → Bool) (tree : TreeOf X) → map_tree f (where_path t tree) ≡ where_path t (map_tree f tree)
+  pub mapped_where : (t : Bytes → Bool) (tree : TreeOf X) → map_tree f (where_path t tree) ≡ where_path t (map_tree f tree)
   mapped_where t [] = refl
   mapped_where t (e ∷ es) =
       let rest = mapped_where t es in
