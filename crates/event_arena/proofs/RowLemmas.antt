@@ -2,7 +2,7 @@
 use Rattle.std.proofs.Common.{◌≡◌, ℕ, zero, suc, ◌+◌, Bool, true, false, cond, inl, inr, List, [], ◌∷◌, ◌++◌, Option, None, Some, refl, sym, ap, ◌∙◌, slice_get, length, ◌<◌, arith, ◌-◌, eqb, subst, is_some}
 use Rattle.std.proofs.lemmas.Bool.{eqb-true}
 use Rattle.std.proofs.lemmas.Bool.Decides.{nat_tests}
-use Rattle.std.specs.List.{position, position_or_len, insert, remove, AllZip}
+use Rattle.std.specs.List.{position, position_or_len, insert, remove, AllByRecursion, AllZip, IsDistinct}
 use Rattle.std.specs.Prelude.{nat_lt, IsSome}
 use Rattle.std.specs.Prelude.{option_map}
 use Rattle.std.specs.declared.rc.Rc.{Rc}
@@ -16,6 +16,7 @@ use Rattle.plain_model.specs.declared.id.AnyId.{AnyId}
 use Rattle.plain_model.specs.contracts.id.AnyIdPartialEq.TheImpl.{eq-value}
 use Rattle.plain_model.specs.Lookups.{event_at, find_event, id_of, place_of, same_id}
 use Rattle.event_arena.specs.Changes.{put_event, without, put_after}
+use Rattle.event_arena.specs.Once.{AreDistinct}
 use Rattle.event_arena.specs.Rows.{events_of, IsKeyed}
 use Rattle.event_arena.proofs.Ids.{key_eq, same_id-true}
 
@@ -200,3 +201,14 @@ put-new e (x ∷ es) h = elim (cases_Bool (same_id (id_of e) (id_of x))) [
   | inl yes_it ↦ absurd (none-some x (sym h ∙ rw yes_it refl))
   | inr no_it ↦ rw no_it (ap (λ xs. x ∷ xs) (put-new e es (rw no_it at h)))
 ]
+
+module _ {A : Type 0} where
+  -- no two rows of a map have events with one id
+  pub rows-distinct : (rows : List (AnyId × Rc PlainEvent A)) → IsKeyed rows → IsDistinct eq-value.it (keys_of rows) → AreDistinct (events_of rows)
+  unfolding IsDistinct
+  rows-distinct [] k d = tt
+  rows-distinct (r ∷ rows) k d = (subst (λ id. find_event id (events_of rows) ≡ None) k.0 (apart r.0 rows k.1 d.0), rows-distinct rows k.1 d.1)
+    where
+      apart : (own : AnyId) (others : List (AnyId × Rc PlainEvent A)) → IsKeyed others → AllByRecursion (λ y. eq-value.it own y ≡ false) (keys_of others) → find_event own (events_of others) ≡ None
+      apart own [] k a = refl
+      apart own (other ∷ others) k a = rw (sym (row_test own other k.0) ∙ a.0) (apart own others k.1 a.1)

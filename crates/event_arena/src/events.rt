@@ -1,14 +1,17 @@
 //! A history as an indexed graph.
 ghost use Rattle.std.specs.Prelude.{
   ◌≡◌,
+  ◌<◌,
   ◌≤◌,
   ◌^◌,
   [],
   None,
+  Some,
   length,
   option_map,
   slice_get,
   IfOk,
+  IfSome,
   IsTrue,
   OnOk,
 };
@@ -23,6 +26,7 @@ ghost use Rattle.plain_model.specs.Lookups.{
   next_mark,
   next_number,
   number_of,
+  place_of,
 };
 ghost use Rattle.plain_model.specs.Soundness.{IsSound, are_distinct};
 ghost use Rattle.plain_model.specs.declared.id.AnyId.TheVariants.{Commit};
@@ -125,6 +129,22 @@ impl Events {
         ensures { option_map (λ event. event.now) result ≡ find_event id self.now.list }
     {
         self.table.event(id)
+    }
+
+    /// The event before which so many stand.
+    pub fn nth(&self, place: usize) -> &PlainEvent
+        requires { place < length self.now.list }
+        ensures { slice_get self.now.list place ≡ Some result.now }
+    {
+        self.table.nth(place)
+    }
+
+    /// How many events stand before the one with the id.
+    pub fn place(&self, id: AnyId) -> Option<usize>
+        ensures place { result ≡ place_of id self.now.list }
+        ensures within { IfSome result (λ place. place < length self.now.list) }
+    {
+        self.table.place(id)
     }
 
     /// The id of the event with the mark.

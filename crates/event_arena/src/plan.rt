@@ -9,9 +9,12 @@ ghost use Rattle.std.specs.Prelude.{
   ◌++◌,
   [],
   None,
+  Some,
   length,
   option_map,
+  slice_get,
   IfOk,
+  IfSome,
   IsSome,
   IsTrue,
   OnErr,
@@ -36,6 +39,7 @@ ghost use Rattle.event_arena.specs.Changes.{
   without,
   without_all,
 };
+ghost use Rattle.event_arena.specs.Once.{AreDistinct};
 ghost use Rattle.event_arena.specs.Spent.{BringsNoneBack};
 ghost use Rattle.plain_model.specs.Lookups.{
   AreIdsBelow,
@@ -44,6 +48,7 @@ ghost use Rattle.plain_model.specs.Lookups.{
   id_number,
   id_of,
   number_of,
+  place_of,
 };
 ghost use Rattle.plain_model.specs.declared.id.AnyId.TheVariants.{Commit};
 
@@ -97,9 +102,10 @@ impl Plan {
         })
     }
 
-    /// How many events there are after.
+    /// How many events there are after. No two have one id.
     pub fn count(&self) -> usize
-        ensures { result ≡ length self.now.after }
+        ensures count { result ≡ length self.now.after }
+        ensures once { AreDistinct self.now.after }
     {
         self.after.count()
     }
@@ -125,9 +131,34 @@ impl Plan {
         self.after.event(id)
     }
 
-    /// How many events there were before.
+    /// The event before which so many stand after.
+    pub fn nth(&self, place: usize) -> &PlainEvent
+        requires { place < length self.now.after }
+        ensures { slice_get self.now.after place ≡ Some result.now }
+    {
+        self.after.nth(place)
+    }
+
+    /// How many events stand after before the one with the id.
+    pub fn place(&self, id: AnyId) -> Option<usize>
+        ensures place { result ≡ place_of id self.now.after }
+        ensures within { IfSome result (λ place. place < length self.now.after) }
+    {
+        self.after.place(id)
+    }
+
+    /// The event before which so many stood before.
+    pub fn old_nth(&self, place: usize) -> &PlainEvent
+        requires { place < length self.now.before }
+        ensures { slice_get self.now.before place ≡ Some result.now }
+    {
+        self.before.nth(place)
+    }
+
+    /// How many events there were before. No two had one id.
     pub fn old_count(&self) -> usize
-        ensures { result ≡ length self.now.before }
+        ensures count { result ≡ length self.now.before }
+        ensures once { AreDistinct self.now.before }
     {
         self.before.count()
     }

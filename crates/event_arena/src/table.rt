@@ -109,9 +109,10 @@ impl EventTable {
         Ok(EventTable { alloc, rows })
     }
 
-    /// How many events there are.
+    /// How many events there are. No two have one id.
     pub fn count(&self) -> usize
-        ensures { result ≡ length self.now }
+        ensures count { result ≡ length self.now }
+        ensures once { AreDistinct self.now }
     {
         self.rows.len()
     }

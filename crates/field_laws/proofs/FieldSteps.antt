@@ -2,7 +2,6 @@
 use Rattle.std.proofs.Common.{◌≡◌, Option, Some, None, Result, Ok, Err, refl, ap, ◌∙◌}
 use Rattle.plain_model.specs.declared.fault.Why.{Why}
 use Rattle.plain_model.specs.Fields.{◌>>=◌, due}
-use Rattle.plain_model.specs.Reading.{if_ok}
 
 -- the value of a field that had no defect, and what came of it
 pub bind_ok : {A B : Type 0} (r : Result A Why) (f : A → Result B Why) (y : B) → (r >>= f) ≡ Ok y → (x : A) × (r ≡ Ok x) × (f x ≡ Ok y)
@@ -26,7 +25,3 @@ due_found why o x e = ap (due why) e
 
 pub same_Ok : {A : Type 0} (x y : A) → ◌≡◌ {A = Result A Why} (Ok x) (Ok y) → x ≡ y
 same_Ok x y e = cc
-
-pub if_ok_is : {A : Type 0} (r : Result A Why) (x : A) → if_ok r ≡ Some x → r ≡ Ok x
-if_ok_is (Ok y) x e = cc
-if_ok_is (Err why) x e = absurd (cc)

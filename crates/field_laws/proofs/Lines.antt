@@ -8,7 +8,7 @@ use Rattle.std.proofs.lemmas.List.{take-append-drop, drop_more, take_all}
 use Rattle.std.proofs.lemmas.List.Quantifiers.{position-Some}
 use Rattle.std.proofs.lemmas.Option.{same_Some, none-some, cond_some, some_pair_parts}
 use Rattle.plain_model.specs.Paths.{Bytes}
-use Rattle.plain_model.specs.Spelling.{IsLine, begins, PassesLf}
+use Rattle.plain_model.specs.Parts.{IsLine, begins}
 use Rattle.plain_model.specs.Parts.{cut_parts, cut_at, is_lf, line_cut, line_at, behind, skip_lf}
 use Rattle.field_laws.proofs.Steps.{is_some-cond}
 
@@ -139,11 +139,6 @@ line_read text line rest (plain, inr e) =
     ∙ ap (λ o. Some (line_cut line o)) (position_not is_lf line plain)
     ∙ ap (λ (r : Bytes). Some (line, r)) (sym e.1)
 
--- a line takes bytes
-pub line_takes : (text line rest : Bytes) → IsLine text line rest → length rest < length text
-line_takes text line rest (plain, inl e) = omega (arith, ap length e, length-append line (10 ∷ rest))
-line_takes text line rest (plain, inr e) = omega (arith, ap length e.0, ap length e.1)
-
 -- ---- words
 
 pub behind_is : (word text rest : Bytes) → behind word text ≡ Some rest → text ≡ word ++ rest
@@ -181,31 +176,4 @@ behind_read word rest =
     (begins_same word text ∙ begins_own word rest)
     ∙ ap (λ (r : Bytes). Some r) (drop_at word rest (length word) refl)
 
--- a line that begins with a word
-pub word_line_is : (text line after word field rest : Bytes) → line_at text ≡ Some (line, after) → behind word line ≡ Some field → after ≡ rest → IsLine text (word ++ field) rest
-word_line_is text line after word field rest e f same =
-    subst (λ (l : Bytes). IsLine text l rest) (behind_is word line field f) (subst (IsLine text line) same (line_is text line after e))
-
--- a text whose first line begins with a word begins with it
-pub line_begins : (word text field rest : Bytes) → IsLine text (word ++ field) rest → begins word text ≡ true
-line_begins word text field rest (plain, inl e) = ap (begins word) (e ∙ append_assoc word field (10 ∷ rest)) ∙ begins_own word (field ++ 10 ∷ rest)
-line_begins word text field rest (plain, inr e) = ap (begins word) e.0 ∙ begins_own word field
-
 -- ---- an LF that may stand
-
-pub passes_is : (text : Bytes) → PassesLf text (skip_lf text)
-passes_is [] = refl
-passes_is (b ∷ bs) = elim (cases_Bool (b == 10)) [
-  | inl same ↦ inl (eqb-true b 10 same, cond-true (b == 10) bs (b ∷ bs) same)
-  | inr other ↦ inr (eqb-false b 10 other, cond-false (b == 10) bs (b ∷ bs) other)
-]
-
-pub passes_read : (text rest : Bytes) → PassesLf text rest → skip_lf text ≡ rest
-passes_read [] rest h = sym h
-passes_read (b ∷ bs) rest (inl h) = cond-true (b == 10) bs (b ∷ bs) (eq-eqb b 10 h.0) ∙ sym h.1
-passes_read (b ∷ bs) rest (inr h) = cond-false (b == 10) bs (b ∷ bs) (ne_eqb b 10 h.0) ∙ sym h.1
-
-pub passes_within : (text rest : Bytes) → PassesLf text rest → length rest ≤ length text
-passes_within [] rest h = omega (arith, ap length h)
-passes_within (b ∷ bs) rest (inl h) = omega (arith, ap length h.1)
-passes_within (b ∷ bs) rest (inr h) = omega (arith, ap length h.1)

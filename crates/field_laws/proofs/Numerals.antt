@@ -8,11 +8,8 @@ use Rattle.plain_model.specs.declared.limit.TheConstants.{MAX_MARK}
 use Rattle.plain_model.specs.Paths.{Bytes}
 use Rattle.plain_model.specs.Marks.{IsMark, as_mark}
 use Rattle.plain_model.specs.Numbers.{is_digit, value_after, IsNumeral}
-use Rattle.plain_model.specs.Spelling.{IsMarkLine}
 use Rattle.plain_model.specs.Parts.{◌>>=◌, behind, line_at, value_from, number_of, at_most, number_within, mark_of}
-use Rattle.plain_model.specs.Reading.{mark_at}
 use Rattle.field_laws.proofs.Steps.{bind_some, some_then}
-use Rattle.field_laws.proofs.Lines.{word_line_is, line_read, line_takes, behind_read}
 
 -- ---- numbers
 
@@ -76,34 +73,3 @@ unfolding mark_of
 mark_read digits m h is =
     some_then (number_within MAX_MARK digits) (λ m. as_mark m) m (Some m) (within_read MAX_MARK digits m h is.1)
     (cond-true (nat_le 1 m && nat_le m MAX_MARK) (Some m) None (and_from (nat_le 1 m) (nat_le m MAX_MARK) (le-leb 1 m is.0) (le-leb m MAX_MARK is.1)))
-
--- ---- a line of a word and a mark
-
-module _ (word : Bytes) where
-  abbrev line_word : Bytes
-  line_word = word ++ codes " :"
-
-  pub mark_line_is : (text : Bytes) (m : ℕ) (rest : Bytes) → mark_at line_word text ≡ Some (m, rest) → IsMarkLine word text m rest
-  unfolding mark_at
-  mark_line_is text m rest e =
-      let l = bind_some (line_at text) (λ l. behind line_word l.0 >>= λ digits. mark_of digits >>= λ m. Some (m, l.1)) (m, rest) e in
-      let d = bind_some (behind line_word l.0.0) (λ digits. mark_of digits >>= λ m. Some (m, l.0.1)) (m, rest) l.2 in
-      let n = bind_some (mark_of d.0) (λ m. Some (m, l.0.1)) (m, rest) d.2 in
-      let pair = some_pair_parts n.0 m l.0.1 rest n.2 in
-      let is = mark_is d.0 n.0 n.1 in
-      record {
-        digits = d.0;
-        line = word_line_is text l.0.0 l.0.1 line_word d.0 rest l.1 d.1 pair.1;
-        numeral = subst (IsNumeral d.0) pair.0 is.0;
-        is_mark = subst IsMark pair.0 is.1;
-      }
-
-  pub mark_line_read : (text : Bytes) (m : ℕ) (rest : Bytes) → IsMarkLine word text m rest → mark_at line_word text ≡ Some (m, rest)
-  unfolding mark_at
-  mark_line_read text m rest h =
-      some_then (line_at text) (λ l. behind line_word l.0 >>= λ digits. mark_of digits >>= λ m. Some (m, l.1)) (line_word ++ h.digits, rest) (Some (m, rest)) (line_read text (line_word ++ h.digits) rest h.line)
-      (some_then (behind line_word (line_word ++ h.digits)) (λ digits. mark_of digits >>= λ m. Some (m, rest)) h.digits (Some (m, rest)) (behind_read line_word h.digits)
-      (some_then (mark_of h.digits) (λ m. Some (m, rest)) m (Some (m, rest)) (mark_read h.digits m h.numeral h.is_mark) refl))
-
-  pub mark_line_takes : (text : Bytes) (m : ℕ) (rest : Bytes) → IsMarkLine word text m rest → length rest < length text
-  mark_line_takes text m rest h = line_takes text (line_word ++ h.digits) rest h.line

@@ -12,15 +12,13 @@ use Rattle.plain_model.specs.declared.person.When.{When}
 use Rattle.plain_model.specs.Paths.{Bytes}
 use Rattle.plain_model.specs.Numbers.{is_digit, value_after, IsNumeral}
 use Rattle.plain_model.specs.People.{is_clean_byte, is_clean, IsNamePart, IsZone, IsSigned}
-use Rattle.plain_model.specs.Spelling.{IsLine, IsSignedLine}
 use Rattle.plain_model.specs.Parts.{◌>>=◌, behind, cut_at, line_at, number_within, name_of, zone_of, when_of, when_behind, person_parts}
 use Rattle.plain_model.specs.declared.fault.Why.TheVariants.{BadPerson, BadWhen}
 use Rattle.plain_model.specs.Fields.{due, signed, person_in}
 use Rattle.plain_model.specs.Fields.{◌>>=◌ as ◌then_field◌}
-use Rattle.plain_model.specs.Reading.{signed_of, if_ok}
-use Rattle.field_laws.proofs.FieldSteps.{bind_ok, ok_then, due_is, due_found, if_ok_is, same_Ok}
+use Rattle.field_laws.proofs.FieldSteps.{bind_ok, ok_then, due_is, due_found, same_Ok}
 use Rattle.field_laws.proofs.Steps.{bind_some, some_then, cond_step}
-use Rattle.field_laws.proofs.Lines.{cut_is, cut_read, line_read, line_takes, word_line_is, behind_is, behind_read}
+use Rattle.field_laws.proofs.Lines.{cut_is, cut_read, behind_is, behind_read}
 use Rattle.field_laws.proofs.Numerals.{within_is, within_read}
 
 -- ---- the name before an email
@@ -263,42 +261,3 @@ person_in_read text who h =
     (ok_then (due BadWhen (when_behind (32 ∷ when))) (λ w. Ok (signed p w)) who.when (Ok who)
     (due_found BadWhen (when_behind (32 ∷ when)) who.when (when_behind_read when who.when (when_read when who.when (record { digits = h.digits; zone = h.zone; is = refl; seconds = h.seconds; in_time = h.in_time; offset = h.offset }))))
     refl)
-
-pub signed_is : (text : Bytes) (who : Signed) → signed_of text ≡ Some who → IsSigned text who
-unfolding signed_of
-signed_is text who e = person_in_is text who (if_ok_is (person_in text) who e)
-
-pub signed_read : (text : Bytes) (who : Signed) → IsSigned text who → signed_of text ≡ Some who
-unfolding signed_of
-signed_read text who h = ap if_ok (person_in_read text who h)
-
--- ---- a line of a word and of who and when
-
-module _ {A : Type 0} (word : Bytes) (made : Signed → A) where
-  abbrev pub signed_line_at : Bytes → Option (A × Bytes)
-  signed_line_at text = line_at text >>= λ l. behind (word ++ 32 ∷ []) l.0 >>= λ t. signed_of t >>= λ s. Some (made s, l.1)
-
-  pub signed_line_is : (text : Bytes) (x : A × Bytes) → signed_line_at text ≡ Some x → (who : Signed) × (made who ≡ x.0) × IsSignedLine word text who x.1
-  signed_line_is text x e =
-      let l = bind_some (line_at text) (λ l. behind (word ++ 32 ∷ []) l.0 >>= λ t. signed_of t >>= λ s. Some (made s, l.1)) x e in
-      let t = bind_some (behind (word ++ 32 ∷ []) l.0.0) (λ t. signed_of t >>= λ s. Some (made s, l.0.1)) x l.2 in
-      let s = bind_some (signed_of t.0) (λ s. Some (made s, l.0.1)) x t.2 in
-      let pair = same_Some {A = A × Bytes} (made s.0, l.0.1) x s.2 in (
-        s.0,
-        ap (λ (q : A × Bytes). q.0) pair,
-        record {
-          spelled = t.0;
-          line = subst (λ (line : Bytes). IsLine text line x.1) (append_assoc word (32 ∷ []) t.0) (word_line_is text l.0.0 l.0.1 (word ++ 32 ∷ []) t.0 x.1 l.1 t.1 (ap (λ (q : A × Bytes). q.1) pair));
-          signed = signed_is t.0 s.0 s.1;
-        },
-      )
-
-  pub signed_line_read : (text : Bytes) (who : Signed) (rest : Bytes) → IsSignedLine word text who rest → signed_line_at text ≡ Some (made who, rest)
-  signed_line_read text who rest h =
-      let all : A × Bytes = (made who, rest) in
-      some_then (line_at text) (λ l. behind (word ++ 32 ∷ []) l.0 >>= λ t. signed_of t >>= λ s. Some (made s, l.1)) (word ++ 32 ∷ h.spelled, rest) (Some all) (line_read text (word ++ 32 ∷ h.spelled) rest h.line)
-      (some_then (behind (word ++ 32 ∷ []) (word ++ 32 ∷ h.spelled)) (λ t. signed_of t >>= λ s. Some (made s, rest)) h.spelled (Some all) (subst (λ (l : Bytes). behind (word ++ 32 ∷ []) l ≡ Some h.spelled) (append_assoc word (32 ∷ []) h.spelled) (behind_read (word ++ 32 ∷ []) h.spelled))
-      (some_then (signed_of h.spelled) (λ s. Some (made s, rest)) who (Some all) (signed_read h.spelled who h.signed) refl))
-
-pub signed_line_takes : (word text : Bytes) (who : Signed) (rest : Bytes) → IsSignedLine word text who rest → length rest < length text
-signed_line_takes word text who rest h = line_takes text (word ++ 32 ∷ h.spelled) rest h.line

@@ -12,7 +12,7 @@ use Rattle.plain_model.specs.Marks.{IsMark}
 use Rattle.plain_model.specs.Names.{is_name_byte, is_name}
 use Rattle.plain_model.specs.Numbers.{IsNumeral, decimal_of, is_digit}
 use Rattle.plain_model.specs.People.{is_clean, IsNamePart, IsZone, IsSigned}
-use Rattle.plain_model.specs.Spelling.{has_no_lf, IsLine, begins, IsMarkLine, IsData, IsSignedLine, IsLastPath}
+use Rattle.plain_model.specs.Parts.{has_no_lf, IsLine, begins}
 use Rattle.plain_model.specs.Text.{line, data_block, zone, person, begins_quoted, quoted, last_path}
 use Rattle.field_laws.proofs.Decimals.{digit, numeral_of, value_push}
 use Rattle.field_laws.proofs.Lines.{eqb_turned}
@@ -76,29 +76,6 @@ plain_mark mark h = plain_number mark (omega arith)
 pub mark_numeral : (mark : ℕ) → IsMark mark → IsNumeral (decimal mark) mark
 mark_numeral mark h = numeral_written mark (omega arith)
 
--- a line of a word and a mark
-pub mark_written : (word rest : Bytes) (mark : ℕ) → has_no_lf (word ++ codes " :") ≡ true → IsMark mark → IsMarkLine word (line (word ++ codes " :" ++ decimal mark) ++ rest) mark rest
-mark_written word rest mark plain h = record {
-  digits = decimal mark;
-  line = line_written (word ++ codes " :" ++ decimal mark) rest (plain_join (word ++ codes " :") (decimal mark) plain (plain_mark mark h));
-  numeral = mark_numeral mark h;
-  is_mark = h;
-}
-
--- a block of data gives its bytes back, and its LF is passed over
-pub data_written : (bytes rest : Bytes) → IsData (data_block bytes ++ rest) bytes rest
-data_written bytes rest =
-    let head = codes "data " ++ decimal_of (length bytes) in
-    record {
-      digits = decimal_of (length bytes);
-      block = line bytes ++ rest;
-      behind = 10 ∷ rest;
-      line = subst (λ (t : Bytes). IsLine t head (line bytes ++ rest)) (sym (append_assoc (line head) (line bytes) rest)) (line_written head (line bytes ++ rest) (plain_numeral (decimal_of (length bytes)) (length bytes) (numeral_of (length bytes))));
-      count = numeral_of (length bytes);
-      is = append_assoc bytes (10 ∷ []) rest;
-      passes = inl (refl, refl);
-    }
-
 -- ---- people
 
 -- who and when, as a line can say it
@@ -130,11 +107,6 @@ zone_written : (minus : Bool) (offset : ℕ) → offset ≤ 9999 → IsZone (zon
 zone_written true offset h = record { sign = 45; digits = zone offset; is = refl; signed = inr (refl, refl); four = refl; numeral = zone_digits offset h }
 zone_written false offset h = record { sign = 43; digits = zone offset; is = refl; signed = inl (refl, refl); four = refl; numeral = zone_digits offset h }
 
--- a sign and four digits have no LF
-plain_zone : (minus : Bool) (offset : ℕ) → offset ≤ 9999 → has_no_lf (zone_text minus offset) ≡ true
-plain_zone true offset h = plain_digits (zone offset) (zone_digits offset h).all
-plain_zone false offset h = plain_digits (zone offset) (zone_digits offset h).all
-
 -- what stands before an email
 name_part : Bytes → Bytes
 name_part name = name ++ cond (nat_lt 0 (length name)) (codes " ") []
@@ -144,15 +116,6 @@ part_written : (name : Bytes) → IsNamePart (name_part name) name
 unfolding name_part
 part_written [] = inl (refl, refl)
 part_written (b ∷ bs) = inr (ap (λ (s : Bytes). (b ∷ bs) ++ s) (cond-true (nat_lt 0 (length (b ∷ bs))) (codes " ") [] (lt-ltb 0 (length (b ∷ bs)) (omega arith))))
-
--- what stands before an email has no LF
-plain_part : (name : Bytes) → has_no_lf name ≡ true → has_no_lf (name_part name) ≡ true
-unfolding name_part
-plain_part name h = plain_join name (cond (nat_lt 0 (length name)) (codes " ") []) h (go (nat_lt 0 (length name)))
-  where
-    go : (t : Bool) → has_no_lf (cond t (codes " ") []) ≡ true
-    go true = refl
-    go false = refl
 
 -- the parts of such a text, grouped from the end
 person_grouped : (a b c d e f : Bytes) → a ++ b ++ 60 ∷ [] ++ c ++ 62 ∷ 32 ∷ [] ++ d ++ 32 ∷ [] ++ e ++ f ≡ (a ++ b) ++ 60 ∷ (c ++ 62 ∷ 32 ∷ (d ++ 32 ∷ (e ++ f)))
@@ -176,24 +139,6 @@ person_written who h = record {
   seconds = numeral_written who.when.seconds (let time = h.in_time in omega arith);
   in_time = h.in_time;
   offset = zone_written who.when.minus who.when.offset h.four_digits;
-}
-
--- the text of who and when has no LF
-plain_person : (who : Signed) → SignedFits who → has_no_lf (person who) ≡ true
-plain_person who h =
-    let tail = zone_text who.when.minus who.when.offset in
-    ap has_no_lf (person_is who)
-    ∙ plain_join (name_part who.person.name) (60 ∷ (who.person.email ++ 62 ∷ 32 ∷ (decimal who.when.seconds ++ 32 ∷ tail))) (plain_part who.person.name h.plain_name)
-    (plain_join who.person.email (62 ∷ 32 ∷ (decimal who.when.seconds ++ 32 ∷ tail)) h.plain_email
-    (plain_join (decimal who.when.seconds) (32 ∷ tail) (plain_number who.when.seconds (let time = h.in_time in omega arith))
-    (plain_zone who.when.minus who.when.offset h.four_digits)))
-
--- a line of a word and of who and when
-pub signed_written : (word rest : Bytes) (who : Signed) → has_no_lf word ≡ true → SignedFits who → IsSignedLine word (line (word ++ 32 ∷ person who) ++ rest) who rest
-signed_written word rest who plain h = record {
-  spelled = person who;
-  line = line_written (word ++ 32 ∷ person who) rest (plain_join word (32 ∷ person who) plain (plain_person who h));
-  signed = person_written who h;
 }
 
 -- ---- paths
@@ -224,10 +169,6 @@ no_lf_any (b ∷ bs) h =
 path_same : (path : Bytes) → PathFits path → last_path path ≡ path
 path_same path h =
     cond-false (begins_quoted path || list_any (λ b. b == 10) path) (quoted path) path (or_from (begins_quoted path) (list_any (λ b. b == 10) path) (begins_same path ∙ h.unquoted) (no_lf_any path h.plain))
-
--- a path is written as it is
-pub path_written : (path : Bytes) → PathFits path → IsLastPath (last_path path) path
-path_written path h = (path_same path h, h.is_path, h.unquoted)
 
 -- a path that is written has no LF
 pub plain_path : (path : Bytes) → PathFits path → has_no_lf (last_path path) ≡ true

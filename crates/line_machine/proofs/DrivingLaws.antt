@@ -4,7 +4,7 @@ use Rattle.std.specs.Prelude.{count_by, flat_map, fold}
 use Rattle.std.proofs.lemmas.Bool.{and_parts, not-true}
 use Rattle.plain_model.specs.Paths.{Bytes}
 use Rattle.plain_model.specs.Parts.{is_lf, has_no_lf}
-use Rattle.plain_model.specs.Spelling.{IsLine}
+use Rattle.plain_model.specs.Parts.{IsLine}
 use Rattle.line_machine.specs.Machine.{Automaton, Machine, number_past, answered, compared, moved, run, closed, verdict, outcome_from}
 use Rattle.line_machine.specs.Machine.Mode.{InLine, InBlock, Behind, InDelimited}
 use Rattle.line_machine.specs.Machine.Machine.{At}

@@ -8,7 +8,7 @@ use Rattle.std.proofs.lemmas.List.Sums.{sum_by-cons}
 use Rattle.std.proofs.lemmas.Option.{same_Some, none-some}
 use Rattle.plain_model.specs.Paths.{Bytes}
 use Rattle.plain_model.specs.Parts.{is_lf, has_no_lf, line_at, line_cut, skip_lf}
-use Rattle.plain_model.specs.Spelling.{IsLine}
+use Rattle.plain_model.specs.Parts.{IsLine}
 use Rattle.line_machine.specs.Lines.{line_count, number_behind}
 use Rattle.line_machine.proofs.FirstLines.{inside_after}
 

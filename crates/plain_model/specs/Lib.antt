@@ -10,11 +10,8 @@ pub mod Objects
 pub mod Parts
 pub mod Paths
 pub mod People
-pub mod Reading
-pub mod Replay
 pub mod Snapshots
 pub mod Soundness
-pub mod Spelling
 pub mod Statuses
 pub mod Streams
 pub mod Text

@@ -1,5 +1,5 @@
 -- Parts of a text, each cut off where it is there: lines, words, numbers, and who and when.
-use Rattle.std.specs.Prelude.{ℕ, ◌+◌, ◌-◌, ◌*◌, ◌==◌, ◌&&◌, ◌||◌, not, nat_le, nat_eq, Bool, true, false, [], ◌∷◌, length, take, drop, get_or, Option, Some, None, codes, if◌then◌else◌}
+use Rattle.std.specs.Prelude.{◌≡◌, ◌⊎◌, ◌≤◌, ◌++◌, IsTrue, ℕ, ◌+◌, ◌-◌, ◌*◌, ◌==◌, ◌&&◌, ◌||◌, not, nat_le, nat_eq, Bool, true, false, [], ◌∷◌, length, take, drop, get_or, Option, Some, None, codes, if◌then◌else◌}
 use Rattle.std.specs.List.{position, list_all}
 use Rattle.std.specs.Cmp.Lexicographic.{pointwise}
 use Rattle.plain_model.specs.declared.limit.TheConstants.{MAX_MARK, MAX_SECONDS}
@@ -45,6 +45,10 @@ line_cut text None = (text, [])
 unfoldable pub line_at : Bytes → Option (Bytes × Bytes)
 line_at [] = None
 line_at (b ∷ bs) = Some (line_cut (b ∷ bs) (position is_lf (b ∷ bs)))
+
+-- a text begins with a line: an LF ends it, or the text does; what follows is the rest
+abbrev pub IsLine : Bytes → Bytes → Bytes → Type 0
+IsLine text line rest = IsTrue (has_no_lf line) × ((text ≡ line ++ 10 ∷ rest) ⊎ ((text ≡ line) × (rest ≡ []) × (1 ≤ length line)))
 
 -- what stands behind a word
 unfoldable pub behind : Bytes → Bytes → Option Bytes

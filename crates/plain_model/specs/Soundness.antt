@@ -19,7 +19,7 @@ use Rattle.plain_model.specs.Names.{is_name}
 use Rattle.plain_model.specs.Objects.{is_object}
 use Rattle.plain_model.specs.Paths.{Bytes, IsPath}
 use Rattle.plain_model.specs.People.{is_clean}
-use Rattle.plain_model.specs.Spelling.{begins, has_no_lf}
+use Rattle.plain_model.specs.Parts.{begins, has_no_lf}
 use Rattle.plain_model.specs.Streams.{is_marked}
 
 -- ---- referents

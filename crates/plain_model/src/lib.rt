@@ -30,7 +30,7 @@ pub use object::ObjectId;
 pub use operation::{Content, Entry, EntryList, FileOp, Mode, OpList};
 pub use path::{Path, PathFault};
 pub use person::{Person, Signed, When};
-pub use raw::{CutOp, CutOpList, Place, RawContent, RawEvent, RawList, RawOp};
+pub use raw::{Place, RawContent, RawOp};
 pub use status::Status;
 pub use steps::Steps;
 

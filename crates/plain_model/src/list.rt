@@ -3,8 +3,8 @@ ghost use Rattle.std.specs.Prelude.{◌≡◌, [], ◌∷◌, ◌++◌, take, On
 ghost use Rattle.std.specs.Fmt.{decimal};
 ghost use Rattle.plain_model.specs.declared.list.NoMemory.{NoMemory};
 
+use itoa::Buffer;
 use std::alloc::{AllocError, AllocFailed, Global};
-use std::fmt::Display;
 use std::marker::Model;
 
 /// Want of memory, and nothing else.
@@ -27,11 +27,28 @@ impl<T: Drop> From<AllocFailed<T>> for NoMemory {
 pub trait Copied {
     fn copied(&self, alloc: Global) -> Result<Self, NoMemory>
         ensures { IfOk result (λ made. made ≡ self.now) };
+
+    // Equal values of all of these.
+    fn all_copied(alloc: Global, items: &[Self]) -> Result<Vec<Self>, NoMemory>
+    where
+        Self: Drop + Sized,
+        ensures { IfOk result (λ made. made.items ≡ items.now) }
+    {
+        let mut made = Vec::with_capacity(alloc, items.len())?;
+        for item in items {
+            made.push(item.copied(alloc)?)?;
+        }
+        Ok(made)
+    }
 }
 
 impl Copied for u8 {
     fn copied(&self, _alloc: Global) -> Result<u8, NoMemory> {
         Ok(*self)
+    }
+
+    fn all_copied(alloc: Global, items: &[u8]) -> Result<Vec<u8>, NoMemory> {
+        Ok(Vec::from_slice(alloc, items)?)
     }
 }
 
@@ -117,6 +134,10 @@ impl<T: Drop> Items<T> {
         ensures ok { OnOk result (self.new ≡ self.old ++ item ∷ []) }
         ensures err { OnErr result (self.new ≡ self.old) }
     {
+        let len = self.items.len();
+        if len == self.items.capacity() {
+            self.items.reserve_exact(if len == 0 { 1 } else { len })?;
+        }
         self.items.push(item)?;
         Ok(())
     }
@@ -164,19 +185,9 @@ impl Items<u8> {
         ensures ok { OnOk result (self.new ≡ self.old ++ decimal number) }
         ensures err { OnErr result (self.new ≡ self.old) }
     {
-        let digits = number.to_string(self.alloc)?;
-        self.push_all(digits.as_bytes())
+        let mut buffer = Buffer::new();
+        self.push_all(buffer.format(number).as_bytes())
     }
-}
-
-fn copy_all<T: Copied + Drop>(alloc: Global, items: &[T]) -> Result<Vec<T>, NoMemory>
-    ensures { IfOk result (λ made. made.items ≡ items.now) }
-{
-    let mut made = Vec::new(alloc);
-    for item in items {
-        made.push(item.copied(alloc)?)?;
-    }
-    Ok(made)
 }
 
 impl<T: Copied + Drop> Items<T> {
@@ -184,7 +195,7 @@ impl<T: Copied + Drop> Items<T> {
     pub fn of(alloc: Global, items: &[T]) -> Result<Items<T>, NoMemory>
         ensures { IfOk result (λ made. made ≡ items.now) }
     {
-        let items = copy_all(alloc, items)?;
+        let items = T::all_copied(alloc, items)?;
         Ok(Items { alloc, items })
     }
 

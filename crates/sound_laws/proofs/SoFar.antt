@@ -19,7 +19,7 @@ use Rattle.plain_model.specs.Names.{is_name}
 use Rattle.plain_model.specs.Paths.{Bytes}
 use Rattle.plain_model.specs.Snapshots.{refs, refs_after}
 use Rattle.plain_model.specs.Soundness.{IsCommitOf, IsFormedOp, IsFormedSigned, RefersBack, are_distinct, has_id, is_passed_line}
-use Rattle.plain_model.specs.Spelling.{has_no_lf}
+use Rattle.plain_model.specs.Parts.{has_no_lf}
 use Rattle.plain_model.specs.Streams.{is_marked}
 use Rattle.plain_model.specs.Trees.{TreeOf, at, put, where_path}
 use Rattle.stream_grammar.specs.Known.{OpenCommit}

@@ -6,7 +6,7 @@ use Rattle.std.proofs.lemmas.List.{take-append-drop, take_rest}
 use Rattle.std.proofs.lemmas.List.Sums.{sum_by-append}
 use Rattle.plain_model.specs.Paths.{Bytes}
 use Rattle.plain_model.specs.Parts.{is_lf, line_at, skip_lf}
-use Rattle.plain_model.specs.Spelling.{IsLine}
+use Rattle.plain_model.specs.Parts.{IsLine}
 use Rattle.plain_model.specs.declared.fault.Why.{Why}
 use Rattle.plain_model.specs.Fields.{extent_in, block_behind, block_in}
 use Rattle.field_laws.proofs.FieldSteps.{ok_then}
