@@ -15,7 +15,7 @@ use Rattle.plain_model.specs.declared.event.PlainEvent.{PlainEvent}
 use Rattle.plain_model.specs.declared.event.PlainEvent.TheVariants as plain
 use Rattle.plain_model.specs.Histories.{Node, begun, folded, nodes, past, tree, tree_in}
 use Rattle.plain_model.specs.Lookups.{AreIdsBelow, id_number}
-use Rattle.plain_model.specs.Soundness.{AreSoundBehind, IsCommitOf, IsFormedEvent, IsFormedSigned, IsSound, IsSoundEvent, are_distinct, has_id}
+use Rattle.plain_model.specs.Soundness.{AreSoundAfter, IsCommitOf, IsFormedEvent, IsFormedSigned, IsSound, IsSoundEvent, are_distinct, has_id}
 use Rattle.plain_model.specs.Streams.{is_marked}
 use Rattle.plain_model.specs.Trees.{Tree}
 use Rattle.event_arena.proofs.SoundLemmas.{has_id-append, has_id-find, is_marked-append}
@@ -41,7 +41,7 @@ append-nil : {X : Type 0} (xs : List X) → xs ++ [] ≡ xs
 append-nil [] = refl
 append-nil (x ∷ xs) = ap (λ ys. x ∷ ys) (append-nil xs)
 
-sound-append : (earlier xs : List PlainEvent) (e : PlainEvent) → AreSoundBehind earlier xs → IsSoundEvent (earlier ++ xs) e → AreSoundBehind earlier (xs ++ e ∷ [])
+sound-append : (earlier xs : List PlainEvent) (e : PlainEvent) → AreSoundAfter earlier xs → IsSoundEvent (earlier ++ xs) e → AreSoundAfter earlier (xs ++ e ∷ [])
 sound-append earlier [] e h s = (subst (λ es. IsSoundEvent es e) (append-nil earlier) s, tt)
 sound-append earlier (x ∷ xs) e h s =
     (h.0, sound-append (earlier ++ x ∷ []) xs e h.1 (subst (λ es. IsSoundEvent es e) (sym (append_assoc earlier (x ∷ []) xs)) s))
@@ -78,7 +78,7 @@ one-op step o (inr (entry, e)) = rw e (record { mode = Plain; content = OfBlob (
 
 -- the events of so many steps
 pub record IsLine (step : ℕ) (events : List PlainEvent) : Type 0 where
-  pub formed : AreSoundBehind [] events
+  pub formed : AreSoundAfter [] events
   pub ids : (id : AnyId) → 2 * step < id_number id → has_id events id ≡ false
   pub marks : (m : ℕ) → 2 * step < m → is_marked events m ≡ false
   pub last : eqb step 0 ≡ false → has_id events (any.Commit (2 * step)) ≡ true

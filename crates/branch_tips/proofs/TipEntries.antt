@@ -44,7 +44,7 @@ module _ {A : Type 0} where
       go Equal h = refl
       go Greater h = ap (λ (l : TreeOf ℕ). (e.0.items, e.1) ∷ l) h
 
-  -- branches behind a lesser one are others
+  -- branches after a lesser one are others
   all_kept : (b : Bytes) (es : List (Vec ℕ A × ℕ)) → AllByRecursion (λ (k : Vec ℕ A). by_bytes b k.items ≡ Less) (keys_of es) → where_path (λ q. not (bytes_eq b q)) (tips_in es) ≡ tips_in es
   all_kept b [] h = refl
   all_kept b (e ∷ es) h =

@@ -3,7 +3,7 @@ use plain_model::Items;
 use std::test::*;
 
 #[test]
-fn dates_are_those_that_date_tells(rt: HostRuntime) -> Result<(), Fail> {
+fn dates_are_those_that_date_reports(rt: HostRuntime) -> Result<(), Fail> {
     let rows: [(&str, u64, &[u8]); 9] = [
         ("the beginning", 0, b"1970-01-01T00:00:00Z"),
         ("the last second of a day", 86_399, b"1970-01-01T23:59:59Z"),

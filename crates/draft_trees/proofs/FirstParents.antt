@@ -205,10 +205,10 @@ from_further events c at p from hangs = (from.0 ++ at ∷ [], goes_back events c
 -- the oldest commit that is left of a line
 pub oldest_left : (events : List PlainEvent) (line : List ℕ) (n m at : ℕ) (base made new : Option Tree) → n ≡ m + 1 → m < length line → at ≡ get_or line m at
     → along events line base ≡ along events (take n line) made → new ≡ folded (ops_at events at) made → along events line base ≡ along events (take m line) new
-oldest_left events line n m at base made new is within is_at so_far behind =
+oldest_left events line n m at base made new is within is_at so_far after =
     so_far
     ∙ ap (λ k. along events (take k line) made) is
     ∙ ap (λ (l : List ℕ). along events l made) (take_more line m at within)
     ∙ ap (λ k. along events (take m line ++ k ∷ []) made) (sym is_at)
     ∙ along_more events (take m line) at made
-    ∙ ap (along events (take m line)) (sym behind)
+    ∙ ap (along events (take m line)) (sym after)

@@ -11,8 +11,8 @@ use Rattle.draft_trees.specs.declared.line.Base.TheVariants as base
 
 -- all operations were applied and made this tree, or one was refused
 abbrev pub IsFolded : Bool → Tree → Result Tree Refusal → Type 0
-IsFolded true made due = due ≡ Ok made
-IsFolded false made due = if_ok due ≡ None
+IsFolded true made expected = expected ≡ Ok made
+IsFolded false made expected = if_ok expected ≡ None
 
 abbrev pub ops_in : Option Node → List FileOp
 ops_in None = []
@@ -22,7 +22,7 @@ ops_in (Some n) = n.ops
 abbrev pub ops_at : List PlainEvent → ℕ → List FileOp
 ops_at events c = ops_in (node_at (past events) c)
 
--- the tree behind the commits of a line, the newest first, from a tree on which the oldest hangs
+-- the tree after the commits of a line, the newest first, from a tree on which the oldest hangs
 abbrev pub along : List PlainEvent → List ℕ → Option Tree → Option Tree
 along events [] t = t
 along events (c ∷ line) t = folded (ops_at events c) (along events line t)

@@ -25,7 +25,7 @@ fn apply_all(tree: &mut PathTree, ops: &[FileOp]) -> Result<bool, NoMemory>
     Ok(true)
 }
 
-/// The tree behind the operations; none where there was none, or where one of them is refused.
+/// The tree after the operations; none where there was none, or where one of them is refused.
 pub fn folded(ops: &[FileOp], tree: Option<PathTree>) -> Result<Option<PathTree>, NoMemory>
     ensures { IfOk result (λ made. made ≡ folded ops.now tree) }
 {

@@ -24,7 +24,7 @@ fn up_to(known: &[KnownTree], count: usize, commit: CommitId) -> usize
 /// found where the known trees stand in the order of their commits; else there may be none, which is a matter of speed alone.
 pub fn nearest(drafts: &Drafts, known: &[KnownTree], commit: CommitId) -> Option<usize>
     ensures within { IfSome result (λ i. i < length known.now) }
-    ensures behind { IfSome result (λ i. (d : KnownTree) →
+    ensures after { IfSome result (λ i. (d : KnownTree) →
         IsFoldedFrom drafts.now commit (slice_index_or known.now i d).commit) }
 {
     let mut at = commit;

@@ -58,7 +58,7 @@ fn the_nearest_known_tree_is_found_on_its_line(rt: HostRuntime) -> Result<(), Fa
     let rows: [(&str, [u64; 2], u64, Option<usize>); 8] = [
         ("its own", [4, 5], 5, Some(1)),
         ("its parent's, before one beside it", [3, 4], 5, Some(0)),
-        ("its parent's, behind one beside it", [2, 3], 5, Some(1)),
+        ("its parent's, after one beside it", [2, 3], 5, Some(1)),
         ("the nearer one of two", [1, 3], 5, Some(1)),
         ("that of the root", [1, 4], 5, Some(0)),
         ("only one that hangs on it", [5, 6], 3, None),

@@ -1,7 +1,7 @@
 //! The tree of a commit.
 ghost use Rattle.std.specs.Prelude.{◌≡◌, IfOk, IfSome, option_map, option_and_then};
 ghost use Rattle.draft_trees.specs.Lines.{along, base_of, ops_at};
-ghost use Rattle.plain_model.specs.Histories.{folded as after};
+ghost use Rattle.plain_model.specs.Histories.{folded as tree_after};
 ghost use Rattle.plain_model.specs.Histories.{tree};
 
 use crate::folding::folded;
@@ -51,13 +51,13 @@ fn base_of(
     }
 }
 
-// The tree behind a commit, which hangs on another.
-fn folded_behind(
+// The tree after a commit, which hangs on another.
+fn folded_after(
     drafts: &Drafts,
     commit: CommitId,
     base: Option<PathTree>,
 ) -> Result<Option<PathTree>, NoMemory>
-    ensures { IfOk result (λ made. made ≡ after (ops_at drafts.now commit) base) }
+    ensures { IfOk result (λ made. made ≡ tree_after (ops_at drafts.now commit) base) }
 {
     match drafts.commit(commit) {
         Some(fields) => folded(fields.ops.as_slice(), base),
@@ -65,7 +65,7 @@ fn folded_behind(
     }
 }
 
-// The tree behind the commits of a line, the newest of them first.
+// The tree after the commits of a line, the newest of them first.
 fn folded_along(
     drafts: &Drafts,
     line: &[CommitId],
@@ -74,8 +74,8 @@ fn folded_along(
     ensures { IfOk result (λ made. made ≡ along drafts.now line.now base) }
 {
     let mut made = base;
-    for behind in 0..line.len() {
-        made = folded_behind(drafts, line[line.len() - 1 - behind], made)?;
+    for after in 0..line.len() {
+        made = folded_after(drafts, line[line.len() - 1 - after], made)?;
     }
     Ok(made)
 }

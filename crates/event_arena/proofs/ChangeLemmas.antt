@@ -187,11 +187,11 @@ listed-before (x ∷ ids) (suc i) id o h g = elim (cases_Bool (same_id id x)) [
 ]
 
 -- what was put in order has listed ids alone
-pub order-lacks : (ids : List AnyId) (es : List PlainEvent) (id : AnyId) → is_listed id ids ≡ false → find_event id (in_order ids es) ≡ None
-order-lacks [] es id h = refl
-order-lacks (x ∷ ids) es id h = elim (cases_Bool (same_id id x)) [
+pub order-misses : (ids : List AnyId) (es : List PlainEvent) (id : AnyId) → is_listed id ids ≡ false → find_event id (in_order ids es) ≡ None
+order-misses [] es id h = refl
+order-misses (x ∷ ids) es id h = elim (cases_Bool (same_id id x)) [
   | inl it ↦ absurd (true≢false (sym (rw it refl) ∙ h))
-  | inr no_it ↦ by (find_event x es) refl (order-lacks ids es id (rw no_it at h)) no_it
+  | inr no_it ↦ by (find_event x es) refl (order-misses ids es id (rw no_it at h)) no_it
 ]
   where
     by : (o : Option PlainEvent) → find_event x es ≡ o → find_event id (in_order ids es) ≡ None → same_id id x ≡ false →

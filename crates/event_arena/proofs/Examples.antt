@@ -9,7 +9,7 @@ use Rattle.plain_model.specs.declared.id.AnyId.TheVariants as any
 use Rattle.plain_model.specs.Histories.{tree}
 use Rattle.plain_model.specs.Lookups.{AreIdsBelow, next_number}
 use Rattle.plain_model.specs.Marks.{IsMark}
-use Rattle.plain_model.specs.Soundness.{AreSoundBehind, IsCommitOf, IsFormedEvent, IsFormedSigned, IsSound}
+use Rattle.plain_model.specs.Soundness.{AreSoundAfter, IsCommitOf, IsFormedEvent, IsFormedSigned, IsSound}
 use Rattle.event_arena.specs.Changes.{IsOrderOf, without}
 use Rattle.event_arena.specs.Examples.{example, front, other_order, reset, signed, tag}
 use Rattle.event_arena.proofs.MeasureLemmas.{ids-below}
@@ -17,9 +17,9 @@ use Rattle.event_arena.proofs.MeasureLemmas.{ids-below}
 signed-formed : (n : ℕ) → n ≤ 250000000000 → IsFormedSigned (signed n)
 signed-formed n h = (refl, h, lit≤ tt)
 
--- what stands soundly behind the commits
-behind : (rest : List PlainEvent) → AreSoundBehind front rest → AreSoundBehind [] (front ++ rest)
-behind rest h = (
+-- what stands soundly after the commits
+after : (rest : List PlainEvent) → AreSoundAfter front rest → AreSoundAfter [] (front ++ rest)
+after rest h = (
   (refl, refl),
   (
     (refl, refl, refl, signed-formed 2 (lit≤ tt), signed-formed 2 (lit≤ tt), tt, tt, refl, lit≤ tt, tt),
@@ -53,7 +53,7 @@ trees c h = elim (cases_Bool (eqb 2 c)) [
   ]
 ]
 
--- the fields of the first events are such as lines spell, whatever stands behind them
+-- the fields of the first events are such as lines spell, whatever stands after them
 spelled : (rest : List PlainEvent) → AllByRecursion IsFormedEvent rest → AllByRecursion IsFormedEvent (front ++ rest)
 spelled rest h = (a-mark 1 (lit≤ tt) (lit≤ tt), ((a-mark 2 (lit≤ tt) (lit≤ tt), tt), ((a-mark 3 (lit≤ tt) (lit≤ tt), tt), ((a-mark 4 (lit≤ tt) (lit≤ tt), tt), ((a-mark 5 (lit≤ tt) (lit≤ tt), tt), h)))))
   where
@@ -62,15 +62,15 @@ spelled rest h = (a-mark 1 (lit≤ tt) (lit≤ tt), ((a-mark 2 (lit≤ tt) (lit�
 
 pub example-sound : IsSound example
 unfolding example
-example-sound = record { formed = behind (tag 6 5 ∷ reset ∷ []) ((refl, refl, refl, tt), ((refl, refl, refl), tt)); spelled = spelled (tag 6 5 ∷ reset ∷ []) (tt, (tt, tt)); trees = trees }
+example-sound = record { formed = after (tag 6 5 ∷ reset ∷ []) ((refl, refl, refl, tt), ((refl, refl, refl), tt)); spelled = spelled (tag 6 5 ∷ reset ∷ []) (tt, (tt, tt)); trees = trees }
 
 pub untagged-sound : IsSound (without (any.Tag 6) example)
 unfolding example
-untagged-sound = record { formed = behind (reset ∷ []) ((refl, refl, refl), tt); spelled = spelled (reset ∷ []) (tt, tt); trees = trees }
+untagged-sound = record { formed = after (reset ∷ []) ((refl, refl, refl), tt); spelled = spelled (reset ∷ []) (tt, tt); trees = trees }
 
 pub retagged-sound : IsSound (without (any.Tag 6) example ++ tag 8 5 ∷ [])
 unfolding example
-retagged-sound = record { formed = behind (reset ∷ tag 8 5 ∷ []) ((refl, refl, refl), ((refl, refl, refl, tt), tt)); spelled = spelled (reset ∷ tag 8 5 ∷ []) (tt, (tt, tt)); trees = trees }
+retagged-sound = record { formed = after (reset ∷ tag 8 5 ∷ []) ((refl, refl, refl), ((refl, refl, refl, tt), tt)); spelled = spelled (reset ∷ tag 8 5 ∷ []) (tt, (tt, tt)); trees = trees }
 
 pub example-low : AreIdsBelow 4611686018427387904 example
 unfolding example

@@ -11,9 +11,9 @@ use Rattle.plain_model.specs.declared.id.AnyId.TheVariants as any
 use Rattle.plain_model.specs.declared.event.PlainEvent.{PlainEvent}
 use Rattle.plain_model.specs.declared.event.PlainEvent.TheVariants as plain
 use Rattle.plain_model.specs.Lookups.{children_of, event_parents, find_event, id_of, marks_of, own_child, own_mark, place_of, same_id}
-use Rattle.plain_model.specs.Soundness.{AreSoundBehind, IsCommitOf, IsSound, IsSoundEvent, are_distinct, has_id}
+use Rattle.plain_model.specs.Soundness.{AreSoundAfter, IsCommitOf, IsSound, IsSoundEvent, are_distinct, has_id}
 use Rattle.plain_model.specs.Streams.{is_marked}
-use Rattle.event_arena.specs.Once.{AreDistinct, AreMarkedOnce, AreParentsOnce, StandsOnce}
+use Rattle.event_arena.specs.Once.{AreDistinct, AreMarkedOnce, AreParentsOnce, OccursOnce}
 use Rattle.event_arena.proofs.Ids.{same_id-refl, same_id-true}
 use Rattle.event_arena.proofs.SpentLemmas.{absent-cons, cons-absent}
 
@@ -67,14 +67,14 @@ event-new earlier (plain.Reset id branch target) h = h.0
 event-new earlier (plain.Pass id line) h = h.0
 
 -- what is earlier isn't later
-apart : (earlier events : List PlainEvent) → AreSoundBehind earlier events → (id : AnyId) → has_id earlier id ≡ true → find_event id events ≡ None
+apart : (earlier events : List PlainEvent) → AreSoundAfter earlier events → (id : AnyId) → has_id earlier id ≡ true → find_event id events ≡ None
 apart earlier [] h id there = refl
 apart earlier (e ∷ es) h id there = elim (cases_Bool (same_id id (id_of e))) [
   | inl it ↦ absurd (true≢false (sym there ∙ ap (has_id earlier) (same_id-true id (id_of e) it) ∙ event-new earlier e h.0))
   | inr no_it ↦ cons-absent id e es no_it (apart (earlier ++ e ∷ []) es h.1 id (has_id-append earlier (e ∷ []) id ∙ ap (λ b. b || has_id (e ∷ []) id) there))
 ]
 
-distinct : (earlier events : List PlainEvent) → AreSoundBehind earlier events → AreDistinct events
+distinct : (earlier events : List PlainEvent) → AreSoundAfter earlier events → AreDistinct events
 distinct earlier [] h = tt
 distinct earlier (e ∷ es) h = (apart (earlier ++ e ∷ []) es h.1 (id_of e) own, distinct (earlier ++ e ∷ []) es h.1)
   where
@@ -119,7 +119,7 @@ event-other earlier (plain.Reset id branch target) h m there = refl
 event-other earlier (plain.Pass id line) h m there = refl
 
 -- a mark that is earlier isn't later
-unmarked : (earlier events : List PlainEvent) → AreSoundBehind earlier events → (m : ℕ) → is_marked earlier m ≡ true → lookup (λ n. eqb m n) (marks_of events) ≡ None
+unmarked : (earlier events : List PlainEvent) → AreSoundAfter earlier events → (m : ℕ) → is_marked earlier m ≡ true → lookup (λ n. eqb m n) (marks_of events) ≡ None
 unmarked earlier [] h m there = refl
 unmarked earlier (e ∷ es) h m there =
     lookup-none (own_mark e) (marks_of es) m (event-other earlier e h.0 m there)
@@ -128,7 +128,7 @@ unmarked earlier (e ∷ es) h m there =
 own-marked : (earlier : List PlainEvent) (e : PlainEvent) (m : ℕ) → is_marked (e ∷ []) m ≡ true → is_marked (earlier ++ e ∷ []) m ≡ true
 own-marked earlier e m own = is_marked-append earlier (e ∷ []) m ∙ ap (λ b. is_marked earlier m || b) own ∙ or_true (is_marked earlier m)
 
-marked-once : (earlier events : List PlainEvent) → AreSoundBehind earlier events → AreMarkedOnce (marks_of events)
+marked-once : (earlier events : List PlainEvent) → AreSoundAfter earlier events → AreMarkedOnce (marks_of events)
 marked-once earlier [] h = tt
 marked-once earlier (plain.Blob id mark bytes ∷ es) h =
     let e = plain.Blob id mark bytes in
@@ -142,7 +142,7 @@ marked-once earlier (plain.Pass id line ∷ es) h = marked-once (earlier ++ plai
 
 -- ---- parents
 
-parents-once : (earlier events : List PlainEvent) → AreSoundBehind earlier events → AreParentsOnce events
+parents-once : (earlier events : List PlainEvent) → AreSoundAfter earlier events → AreParentsOnce events
 parents-once earlier [] h = tt
 parents-once earlier (e ∷ es) h = (once e h.0, parents-once (earlier ++ e ∷ []) es h.1)
   where
@@ -174,14 +174,14 @@ find-front (x ∷ xs) ys id h =
     let rest = absent-cons id x (xs ++ ys) h in
     cons-absent id x xs rest.0 (find-front xs ys id rest.1)
 
-childless : (earlier events : List PlainEvent) → AreSoundBehind earlier events → (c : ℕ) → find_event (any.Commit c) (earlier ++ events) ≡ None → children_of c events ≡ []
+childless : (earlier events : List PlainEvent) → AreSoundAfter earlier events → (c : ℕ) → find_event (any.Commit c) (earlier ++ events) ≡ None → children_of c events ≡ []
 childless earlier [] h c none = refl
 childless earlier (e ∷ es) h c none =
     let absent = has_id-find earlier (any.Commit c) ∙ ap is_some (find-front earlier (e ∷ es) (any.Commit c) none) in
     rw (no-child earlier c absent e h.0)
     (childless (earlier ++ e ∷ []) es h.1 c (ap (find_event (any.Commit c)) (append_assoc earlier (e ∷ []) es) ∙ none))
 
-pub sound-once : (events : List PlainEvent) → IsSound events → StandsOnce events
+pub sound-once : (events : List PlainEvent) → IsSound events → OccursOnce events
 sound-once events h = record {
   ids = distinct [] events h.formed;
   marks = marked-once [] events h.formed;

@@ -25,7 +25,7 @@ without id (e ∷ events) = if same_id id (id_of e) then events else e ∷ witho
 abbrev pub without_all : List AnyId → List PlainEvent → List PlainEvent
 without_all ids events = filter (λ e. not (is_listed (id_of e) ids)) events
 
--- with one more event right behind the one that has the id
+-- with one more event right after the one that has the id
 abbrev pub put_after : AnyId → PlainEvent → List PlainEvent → List PlainEvent
 put_after id new [] = []
 put_after id new (e ∷ events) = if same_id id (id_of e) then e ∷ new ∷ events else e ∷ put_after id new events

@@ -23,7 +23,7 @@ abbrev pub AreParentsOnce : List PlainEvent → Type 0
 AreParentsOnce events = AllByRecursion (λ e. IsTrue (are_distinct (event_parents e))) events
 
 -- what the indices of a history take from its soundness
-pub record StandsOnce (events : List PlainEvent) : Type 0 where
+pub record OccursOnce (events : List PlainEvent) : Type 0 where
   pub ids : AreDistinct events
   pub marks : AreMarkedOnce (marks_of events)
   pub parents : AreParentsOnce events

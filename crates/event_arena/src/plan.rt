@@ -224,7 +224,7 @@ impl Plan {
         self.after.append(event)
     }
 
-    /// Puts an event right behind the one with the id, under an id that `unused` has given. The later ones
+    /// Puts an event right after the one with the id, under an id that `unused` has given. The later ones
     /// move down, which costs a move of each.
     pub fn insert_after(&mut self, id: AnyId, event: PlainEvent) -> Result<(), NoMemory>
         requires there { IsSome (find_event id self.old.after) }

@@ -189,7 +189,7 @@ impl EventTable {
         self.put(event)
     }
 
-    /// Puts an event right behind the one with the id.
+    /// Puts an event right after the one with the id.
     pub fn insert_after(&mut self, id: AnyId, event: PlainEvent) -> Result<(), NoMemory>
         requires there { IsSome (find_event id self.old) }
         requires unknown { find_event (id_of event) self.old ≡ None }

@@ -208,7 +208,7 @@ fn put_text(out: &mut Text, text: &Text) -> Result<(), NoMemory> {
     out.push_all(text.as_slice())
 }
 
-// The events in the order of their numbers, each with a comma behind it.
+// The events in the order of their numbers, each with a comma after it.
 fn shown(alloc: Global, plan: &Plan) -> Result<Text, Fail> {
     let mut out = Items::new(alloc)?;
     for number in 0..plan.count() {
@@ -294,7 +294,7 @@ fn put_place(out: &mut Text, events: &Events, id: &AnyId) -> Result<(), NoMemory
     }
 }
 
-// The children of the events 2 to 6, and behind each of these the first of them.
+// The children of the events 2 to 6, and after each of these the first of them.
 fn put_families(out: &mut Text, events: &Events) -> Result<(), NoMemory> {
     for number in 2..7 {
         for child in events.children(CommitId::new(number)) {

@@ -8,41 +8,41 @@ use Rattle.plain_model.specs.declared.fault.Why.TheVariants.{Truncated}
 use Rattle.plain_model.specs.Paths.{Bytes}
 use Rattle.plain_model.specs.Parts.{has_no_lf, number_of, number_within, at_most}
 use Rattle.plain_model.specs.Parts.{◌>>=◌ as ◌then_part◌}
-use Rattle.plain_model.specs.Fields.{due, extent_by, block_behind, delimited}
+use Rattle.plain_model.specs.Fields.{or_defect, extent_by, block_after, delimited}
 
 -- ---- counted
 
 -- a count that the text has
-pub counted_there : (digits text : Bytes) (n : ℕ) → number_within (length text) digits ≡ Some n → block_behind (extent_by digits (number_of digits)) text ≡ Ok (take n text, drop n text)
-unfolding number_within block_behind
+pub counted_there : (digits text : Bytes) (n : ℕ) → number_within (length text) digits ≡ Some n → block_after (extent_by digits (number_of digits)) text ≡ Ok (take n text, drop n text)
+unfolding number_within block_after
 counted_there digits text n e = go (number_of digits) e
   where
     parts : ℕ → Result (Bytes × Bytes) Why
     parts k = Ok (take k text, drop k text)
 
-    go : (o : Option ℕ) → (o then_part λ m. at_most (length text) m) ≡ Some n → block_behind (extent_by digits o) text ≡ parts n
+    go : (o : Option ℕ) → (o then_part λ m. at_most (length text) m) ≡ Some n → block_after (extent_by digits o) text ≡ parts n
     go None h = absurd (none-some n h)
     go (Some m) h =
         let b = cond_some (nat_le m (length text)) m n h in
-        ap (due Truncated) (cond-true (nat_le m (length text)) (Some (take m text, drop m text)) None b.0) ∙ ap parts b.1
+        ap (or_defect Truncated) (cond-true (nat_le m (length text)) (Some (take m text, drop m text)) None b.0) ∙ ap parts b.1
 
 -- a count that the text lacks
-pub counted_short : (digits text : Bytes) → is_some (number_of digits) ≡ true → number_within (length text) digits ≡ None → block_behind (extent_by digits (number_of digits)) text ≡ Err Truncated
-unfolding number_within block_behind
+pub counted_short : (digits text : Bytes) → is_some (number_of digits) ≡ true → number_within (length text) digits ≡ None → block_after (extent_by digits (number_of digits)) text ≡ Err Truncated
+unfolding number_within block_after
 counted_short digits text s e = go (number_of digits) s e
   where
-    short : (m : ℕ) (t : Bool) → cond t (Some m) None ≡ None → due {A = Bytes × Bytes} Truncated (cond t (Some (take m text, drop m text)) None) ≡ Err Truncated
+    short : (m : ℕ) (t : Bool) → cond t (Some m) None ≡ None → or_defect {A = Bytes × Bytes} Truncated (cond t (Some (take m text, drop m text)) None) ≡ Err Truncated
     short m true h = absurd (none-some m (sym h))
     short m false h = refl
 
-    go : (o : Option ℕ) → is_some o ≡ true → (o then_part λ m. at_most (length text) m) ≡ None → block_behind (extent_by digits o) text ≡ Err Truncated
+    go : (o : Option ℕ) → is_some o ≡ true → (o then_part λ m. at_most (length text) m) ≡ None → block_after (extent_by digits o) text ≡ Err Truncated
     go None h k = absurd (cc)
     go (Some m) h k = short m (nat_le m (length text)) k
 
 -- ---- delimited
 
 module _ (delimiter : Bytes) where
-  -- a whole line that goes on behind what has begun
+  -- a whole line that goes on after what has begun
   pub whole_line : (kept begun line more : Bytes) → has_no_lf line ≡ true
       → delimited delimiter kept begun (line ++ 10 ∷ more) ≡ cond (bytes_eq (begun ++ line) delimiter) (Some (kept, more)) (delimited delimiter (kept ++ (begun ++ line) ++ 10 ∷ []) [] more)
   unfolding delimited

@@ -1,7 +1,7 @@
 -- Fields that are looked at one after another.
 use Rattle.std.proofs.Common.{◌≡◌, Option, Some, None, Result, Ok, Err, refl, ap, ◌∙◌}
 use Rattle.plain_model.specs.declared.fault.Why.{Why}
-use Rattle.plain_model.specs.Fields.{◌>>=◌, due}
+use Rattle.plain_model.specs.Fields.{◌>>=◌, or_defect}
 
 -- the value of a field that had no defect, and what came of it
 pub bind_ok : {A B : Type 0} (r : Result A Why) (f : A → Result B Why) (y : B) → (r >>= f) ≡ Ok y → (x : A) × (r ≡ Ok x) × (f x ≡ Ok y)
@@ -16,12 +16,12 @@ ok_then r f x y e h = ap (λ q. q >>= f) e ∙ h
 pub err_then : {A B : Type 0} (r : Result A Why) (f : A → Result B Why) (why : Why) → r ≡ Err why → (r >>= f) ≡ Err why
 err_then r f why e = ap (λ q. q >>= f) e
 
-pub due_is : {A : Type 0} (why : Why) (o : Option A) (x : A) → due why o ≡ Ok x → o ≡ Some x
-due_is why (Some y) x e = cc
-due_is why None x e = absurd (cc)
+pub or_defect_is : {A : Type 0} (why : Why) (o : Option A) (x : A) → or_defect why o ≡ Ok x → o ≡ Some x
+or_defect_is why (Some y) x e = cc
+or_defect_is why None x e = absurd (cc)
 
-pub due_found : {A : Type 0} (why : Why) (o : Option A) (x : A) → o ≡ Some x → due why o ≡ Ok x
-due_found why o x e = ap (due why) e
+pub or_defect_found : {A : Type 0} (why : Why) (o : Option A) (x : A) → o ≡ Some x → or_defect why o ≡ Ok x
+or_defect_found why o x e = ap (or_defect why) e
 
 pub same_Ok : {A : Type 0} (x y : A) → ◌≡◌ {A = Result A Why} (Ok x) (Ok y) → x ≡ y
 same_Ok x y e = cc

@@ -23,21 +23,21 @@ use Rattle.plain_model.specs.Soundness.{IsFormedSigned}
 use Rattle.plain_model.specs.People.{is_clean}
 use Rattle.plain_model.specs.Parts.{has_no_lf}
 use Rattle.plain_model.specs.Text.{marked, person, raw_content_text, raw_op_text, last_path, source_path}
-use Rattle.plain_model.specs.Fields.{first_word, behind_space, due, mark_in, person_in, path_in, mode_in, content_in, marked_content, inline_content, is_any_hex, is_left_out_id, last_path_in, modify_in, paths_in, op_in, HasItsContent, ContentFits, OpFits, Extent, extent_by, extent_in, data_text, block_at, block_behind, block_in}
+use Rattle.plain_model.specs.Fields.{first_word, after_space, or_defect, mark_in, person_in, path_in, mode_in, content_in, marked_content, inline_content, is_any_hex, is_left_out_id, last_path_in, modify_in, paths_in, op_in, HasItsContent, ContentFits, OpFits, Extent, extent_by, extent_in, data_text, block_at, block_after, block_in}
 use Rattle.plain_model.specs.Fields.{◌>>=◌ as ◌then_field◌}
-use Rattle.field_laws.proofs.FieldSteps.{ok_then, due_found}
+use Rattle.field_laws.proofs.FieldSteps.{ok_then, or_defect_found}
 use Rattle.field_laws.proofs.Lines.{eqb_turned}
 use Rattle.field_laws.proofs.Numerals.{mark_read, numeral_read}
 use Rattle.field_laws.proofs.Persons.{all_pass, digit_isnt, person_in_read}
 use Rattle.field_laws.proofs.Written.{mark_numeral, person_written}
-use Rattle.field_laws.proofs.Words.{has_no_space, first_word-space, behind_space-space}
+use Rattle.field_laws.proofs.Words.{has_no_space, first_word-space, after_space-space}
 use Rattle.field_laws.proofs.PathsAgain.{path_again}
 
 -- ---- marks and people
 
 pub mark_again : (mark : ℕ) → IsMark mark → mark_in (marked mark) ≡ Ok mark
 unfolding mark_in
-mark_again mark h = due_found BadMark (mark_of (decimal mark)) mark (mark_read (decimal mark) mark (mark_numeral mark h) h)
+mark_again mark h = or_defect_found BadMark (mark_of (decimal mark)) mark (mark_read (decimal mark) mark (mark_numeral mark h) h)
 
 pub person_again : (who : Signed) → IsFormedSigned who → person_in (person who) ≡ Ok who
 person_again who (clean, time, digits) =
@@ -91,13 +91,13 @@ object_again mode (d ∷ ds) h =
     or_from ((length digits == 64) && list_all is_any_hex digits) ((length digits == 40) && list_all (λ b. b == 48) digits)
     (ap (λ t. t && list_all is_any_hex digits) (ne_eqb (length digits) 64 (λ e. absurd (omega (arith, e, size)))))
     ((λ j. b.0 j && not-true (list_all (λ b. b == 48) digits) a.1 j)) in
-    let found = due BadMark (as_object digits) then_field λ id. object id in
+    let found = or_defect BadMark (as_object digits) then_field λ id. object id in
     let rest = cond (is_left_out_id digits) (Err LeftOut) found in
     cond-false (begins (codes ":") digits) (mark_in digits then_field λ mark. marked_content mode mark) (cond (bytes_eq digits (codes "inline")) (inline_content mode) rest)
     (ap (λ t. t && true) (eqb_turned 58 d ∙ hex_isnt d 58 refl first))
     ∙ cond-false (bytes_eq digits (codes "inline")) (inline_content mode) rest (ap (λ t. t && bytes_eq ds (codes "nline")) (hex_isnt d 105 refl first))
     ∙ cond-false (is_left_out_id digits) (Err LeftOut) found kept
-    ∙ ok_then (due BadMark (as_object digits)) (λ id. object id) digits (object digits) (due_found BadMark (as_object digits) digits (cond-true (is_object digits) (Some digits) None h)) refl
+    ∙ ok_then (or_defect BadMark (as_object digits)) (λ id. object id) digits (object digits) (or_defect_found BadMark (as_object digits) digits (cond-true (is_object digits) (Some digits) None h)) refl
   where
     object : Bytes → Result RawContent Why
     object id = Ok (Object id)
@@ -128,20 +128,20 @@ spaceless Inline h = refl
 
 -- ---- whole operations
 
--- behind its mode
+-- after its mode
 content_and_path : (mode : Mode) (content : RawContent) (path : Bytes) → HasItsContent (Modify mode content path) → ContentFits content → IsPath path
     → (let fields = raw_content_text content ++ codes " " ++ last_path path in
-    (content_in mode (first_word fields) then_field λ c. last_path_in (behind_space fields) then_field λ p. modify mode c p) ≡ modify mode content path)
+    (content_in mode (first_word fields) then_field λ c. last_path_in (after_space fields) then_field λ p. modify mode c p) ≡ modify mode content path)
 content_and_path mode content path i h k =
     let text = raw_content_text content in
     let fields = text ++ codes " " ++ last_path path in
     let whole : fields ≡ text ++ 32 ∷ last_path path = append_assoc text (codes " ") (last_path path) in
     let plain = spaceless content h in
     let word : first_word fields ≡ text = ap first_word whole ∙ first_word-space text (last_path path) plain in
-    let behind : behind_space fields ≡ Some (last_path path) = ap behind_space whole ∙ behind_space-space text (last_path path) plain in
-    ok_then (content_in mode (first_word fields)) (λ c. last_path_in (behind_space fields) then_field λ p. modify mode c p) content (modify mode content path)
+    let after : after_space fields ≡ Some (last_path path) = ap after_space whole ∙ after_space-space text (last_path path) plain in
+    ok_then (content_in mode (first_word fields)) (λ c. last_path_in (after_space fields) then_field λ p. modify mode c p) content (modify mode content path)
     (ap (content_in mode) word ∙ content_again mode content path i h)
-    (ok_then (last_path_in (behind_space fields)) (λ p. modify mode content p) path (modify mode content path) (ap last_path_in behind ∙ last_path_again path k) refl)
+    (ok_then (last_path_in (after_space fields)) (λ p. modify mode content p) path (modify mode content path) (ap last_path_in after ∙ last_path_again path k) refl)
 
 modify_again : (mode : Mode) (content : RawContent) (path : Bytes) → HasItsContent (Modify mode content path) → ContentFits content → IsPath path → op_in (raw_op_text (Modify mode content path)) ≡ Ok (Modify mode content path)
 unfolding op_in modify_in mode_in
@@ -156,10 +156,10 @@ paths_again source target h k =
     let text = source_path source ++ codes " " ++ last_path target in
     let whole : text ≡ source_path source ++ 32 ∷ last_path target = append_assoc (source_path source) (codes " ") (last_path target) in
     let size = length (source_path source) in
-    ok_then (path_in Source text) (λ s. last_path_in (behind_space (drop s.1 text)) then_field λ t. both s.0 t) (source, size) (both source target)
+    ok_then (path_in Source text) (λ s. last_path_in (after_space (drop s.1 text)) then_field λ t. both s.0 t) (source, size) (both source target)
     (ap (path_in Source) whole ∙ path_again Source source (32 ∷ last_path target) h refl)
-    (ok_then (last_path_in (behind_space (drop size text))) (λ t. both source t) target (both source target)
-    (ap (λ (t : Bytes). last_path_in (behind_space t)) (ap (drop size) whole ∙ drop_at (source_path source) (32 ∷ last_path target) size refl) ∙ last_path_again target k)
+    (ok_then (last_path_in (after_space (drop size text))) (λ t. both source t) target (both source target)
+    (ap (λ (t : Bytes). last_path_in (after_space t)) (ap (drop size) whole ∙ drop_at (source_path source) (32 ∷ last_path target) size refl) ∙ last_path_again target k)
     refl)
 
 pub op_again : (op : RawOp) → OpFits op → HasItsContent op → op_in (raw_op_text op) ≡ Ok op
@@ -172,19 +172,19 @@ op_again DeleteAll h i = refl
 
 -- ---- data
 
--- a block, with its line and one LF behind it
+-- a block, with its line and one LF after it
 pub data_again : (bytes rest : Bytes) → block_in (codes "data " ++ decimal_of (length bytes)) (bytes ++ 10 ∷ rest) ≡ Ok (bytes, rest)
-unfolding block_in block_behind extent_in data_text
+unfolding block_in block_after extent_in data_text
 data_again bytes rest =
     let n = length bytes in
     let text = bytes ++ 10 ∷ rest in
     let fits : nat_le n (length text) ≡ true = le-leb n (length text) (omega (arith, length-append bytes (10 ∷ rest))) in
     ap (λ o. block_of (extent_by (decimal_of n) o) text) (numeral_read (decimal_of n) n (numeral_of n))
-    ∙ ap (λ o. due Truncated o then_field λ x. parts x.0 (skip_lf x.1)) (cond-true (nat_le n (length text)) (Some (take n text, drop n text)) None fits)
+    ∙ ap (λ o. or_defect Truncated o then_field λ x. parts x.0 (skip_lf x.1)) (cond-true (nat_le n (length text)) (Some (take n text, drop n text)) None fits)
     ∙ (λ i. parts (take_at bytes (10 ∷ rest) n refl i) (skip_lf (drop_at bytes (10 ∷ rest) n refl i)))
   where
     parts : Bytes → Bytes → Result (Bytes × Bytes) Why
     parts x y = Ok (x, y)
 
     block_of : Result Extent Why → Bytes → Result (Bytes × Bytes) Why
-    block_of extent text = (extent then_field λ e. due Truncated (block_at e text)) then_field λ x. parts x.0 (skip_lf x.1)
+    block_of extent text = (extent then_field λ e. or_defect Truncated (block_at e text)) then_field λ x. parts x.0 (skip_lf x.1)

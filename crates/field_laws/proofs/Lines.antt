@@ -9,7 +9,7 @@ use Rattle.std.proofs.lemmas.List.Quantifiers.{position-Some}
 use Rattle.std.proofs.lemmas.Option.{same_Some, none-some, cond_some, some_pair_parts}
 use Rattle.plain_model.specs.Paths.{Bytes}
 use Rattle.plain_model.specs.Parts.{IsLine, begins}
-use Rattle.plain_model.specs.Parts.{cut_parts, cut_at, is_lf, line_cut, line_at, behind, skip_lf}
+use Rattle.plain_model.specs.Parts.{cut_parts, cut_at, is_lf, line_cut, line_at, rest_after, skip_lf}
 use Rattle.field_laws.proofs.Steps.{is_some-cond}
 
 -- ---- the first byte that passes a test
@@ -27,11 +27,11 @@ before_first q (x ∷ xs) = go (q x) refl (before_first q xs)
     go false e h = refl
 
 -- so many bytes before it, where they are all of the bytes before it
-first_behind : (q : ℕ → Bool) (xs : Bytes) (y : ℕ) (rest : Bytes) → list_all q xs ≡ true → q y ≡ false → prefix_len q (xs ++ y ∷ rest) ≡ length xs
-first_behind q [] y rest h e = cond-false (q y) (1 + prefix_len q rest) 0 e
-first_behind q (x ∷ xs) y rest h e =
+first_after : (q : ℕ → Bool) (xs : Bytes) (y : ℕ) (rest : Bytes) → list_all q xs ≡ true → q y ≡ false → prefix_len q (xs ++ y ∷ rest) ≡ length xs
+first_after q [] y rest h e = cond-false (q y) (1 + prefix_len q rest) 0 e
+first_after q (x ∷ xs) y rest h e =
     let parts = and_parts (q x) (list_all q xs) h in
-    let more = first_behind q xs y rest parts.1 e in
+    let more = first_after q xs y rest parts.1 e in
     cond-true (q x) (1 + prefix_len q (xs ++ y ∷ rest)) 0 parts.0 ∙ (omega (arith, more))
 
 no_first : (q : ℕ → Bool) (xs : Bytes) → list_all q xs ≡ true → prefix_len q xs ≡ length xs
@@ -65,7 +65,7 @@ module _ (p : ℕ → Bool) where
   position_at : (xs : Bytes) (y : ℕ) (rest : Bytes) → list_all (λ x. not (p x)) xs ≡ true → p y ≡ true → position p (xs ++ y ∷ rest) ≡ Some (length xs)
   position_at xs y rest h e =
       let text = xs ++ y ∷ rest in
-      ap (λ n. cond (ltb n (length text)) (Some n) None) (first_behind (λ x. not (p x)) xs y rest h (ap not e))
+      ap (λ n. cond (ltb n (length text)) (Some n) None) (first_after (λ x. not (p x)) xs y rest h (ap not e))
       ∙ cond-true (ltb (length xs) (length text)) (Some (length xs)) None (lt-ltb (length xs) (length text) (omega (arith, length-append xs (y ∷ rest))))
 
   position_not : (xs : Bytes) → list_all (λ x. not (p x)) xs ≡ true → position p xs ≡ None
@@ -76,7 +76,7 @@ module _ (p : ℕ → Bool) where
 drop_past : (xs : Bytes) (y : ℕ) (rest : Bytes) → drop (length xs + 1) (xs ++ y ∷ rest) ≡ rest
 drop_past xs y rest = sym (drop-drop 1 (length xs) (xs ++ y ∷ rest)) ∙ ap (drop 1) (drop_at xs (y ∷ rest) (length xs) refl)
 
--- ---- what stands before and behind a byte
+-- ---- what stands before and after a byte
 
 -- the text is cut at its first such byte
 pub cut_is : (b : ℕ) (text x y : Bytes) → cut_at b text ≡ Some (x, y) → (list_all (λ c. not (c == b)) x ≡ true) × (text ≡ x ++ b ∷ y)
@@ -141,9 +141,9 @@ line_read text line rest (plain, inr e) =
 
 -- ---- words
 
-pub behind_is : (word text rest : Bytes) → behind word text ≡ Some rest → text ≡ word ++ rest
-unfolding behind
-behind_is word text rest e =
+pub after_is : (word text rest : Bytes) → rest_after word text ≡ Some rest → text ≡ word ++ rest
+unfolding rest_after
+after_is word text rest e =
     let c = cond_some (pointwise nat_eq (take (length word) text) word) (drop (length word) text) rest e in
     sym (take-append-drop (length word) text) ∙ (λ j. same_text (take (length word) text) word (sym c.0) j ++ c.1 j)
 
@@ -158,19 +158,19 @@ begins_same [] text = refl
 begins_same (w ∷ word) [] = refl
 begins_same (w ∷ word) (b ∷ text) = λ j. eqb_turned b w j && begins_same word text j
 
--- what begins with a word has something behind it
-pub is_some-behind : (word text : Bytes) → is_some (behind word text) ≡ begins word text
-unfolding behind
-is_some-behind word text =
+-- what begins with a word has something after it
+pub is_some-rest_after : (word text : Bytes) → is_some (rest_after word text) ≡ begins word text
+unfolding rest_after
+is_some-rest_after word text =
     is_some-cond (pointwise nat_eq (take (length word) text) word) (drop (length word) text) ∙ begins_same word text
 
 begins_own : (word rest : Bytes) → begins word (word ++ rest) ≡ true
 begins_own [] rest = refl
 begins_own (w ∷ word) rest = and_from (w == w) (begins word (word ++ rest)) (eq-eqb w w refl) (begins_own word rest)
 
-pub behind_read : (word rest : Bytes) → behind word (word ++ rest) ≡ Some rest
-unfolding behind
-behind_read word rest =
+pub after_read : (word rest : Bytes) → rest_after word (word ++ rest) ≡ Some rest
+unfolding rest_after
+after_read word rest =
     let text = word ++ rest in
     cond-true (pointwise nat_eq (take (length word) text) word) (Some (drop (length word) text)) None
     (begins_same word text ∙ begins_own word rest)

@@ -8,7 +8,7 @@ use Rattle.plain_model.specs.declared.limit.TheConstants.{MAX_MARK}
 use Rattle.plain_model.specs.Paths.{Bytes}
 use Rattle.plain_model.specs.Marks.{IsMark, as_mark}
 use Rattle.plain_model.specs.Numbers.{is_digit, value_after, IsNumeral}
-use Rattle.plain_model.specs.Parts.{◌>>=◌, behind, line_at, value_from, number_of, at_most, number_within, mark_of}
+use Rattle.plain_model.specs.Parts.{◌>>=◌, rest_after, line_at, value_from, number_of, at_most, number_within, mark_of}
 use Rattle.field_laws.proofs.Steps.{bind_some, some_then}
 
 -- ---- numbers

@@ -12,13 +12,13 @@ use Rattle.plain_model.specs.declared.person.When.{When}
 use Rattle.plain_model.specs.Paths.{Bytes}
 use Rattle.plain_model.specs.Numbers.{is_digit, value_after, IsNumeral}
 use Rattle.plain_model.specs.People.{is_clean_byte, is_clean, IsNamePart, IsZone, IsSigned}
-use Rattle.plain_model.specs.Parts.{◌>>=◌, behind, cut_at, line_at, number_within, name_of, zone_of, when_of, when_behind, person_parts}
+use Rattle.plain_model.specs.Parts.{◌>>=◌, rest_after, cut_at, line_at, number_within, name_of, zone_of, when_of, when_after, person_parts}
 use Rattle.plain_model.specs.declared.fault.Why.TheVariants.{BadPerson, BadWhen}
-use Rattle.plain_model.specs.Fields.{due, signed, person_in}
+use Rattle.plain_model.specs.Fields.{or_defect, signed, person_in}
 use Rattle.plain_model.specs.Fields.{◌>>=◌ as ◌then_field◌}
-use Rattle.field_laws.proofs.FieldSteps.{bind_ok, ok_then, due_is, due_found, same_Ok}
+use Rattle.field_laws.proofs.FieldSteps.{bind_ok, ok_then, or_defect_is, or_defect_found, same_Ok}
 use Rattle.field_laws.proofs.Steps.{bind_some, some_then, cond_step}
-use Rattle.field_laws.proofs.Lines.{cut_is, cut_read, behind_is, behind_read}
+use Rattle.field_laws.proofs.Lines.{cut_is, cut_read, after_is, after_read}
 use Rattle.field_laws.proofs.Numerals.{within_is, within_read}
 
 -- ---- the name before an email
@@ -30,9 +30,9 @@ name_is (b ∷ bs) name e =
     let part = b ∷ bs in
     let n = length part - 1 in
     let c = cond_some (get_or part n 0 == 32) (take n part) name e in
-    let behind_it : drop (n + 1) part ≡ [] = drop_all (n + 1) part (omega arith) in
+    let after_it : drop (n + 1) part ≡ [] = drop_all (n + 1) part (omega arith) in
     inr (sym (take-append-drop n part) ∙ ap (λ (t : Bytes). take n part ++ t) (drop_more part n 0 (omega arith))
-    ∙ (λ j. c.1 j ++ eqb-true (get_or part n 0) 32 c.0 j ∷ behind_it j))
+    ∙ (λ j. c.1 j ++ eqb-true (get_or part n 0) 32 c.0 j ∷ after_it j))
 
 name_by_end : (part : Bytes) → 1 ≤ length part → name_of part ≡ cond (get_or part (length part - 1) 0 == 32) (Some (take (length part - 1) part)) None
 unfolding name_of
@@ -214,21 +214,21 @@ person_read text name email tail h =
 
 -- ---- who and when
 
--- the moment behind a space
-when_behind_is : (tail : Bytes) (w : When) → when_behind tail ≡ Some w → (text : Bytes) × (tail ≡ 32 ∷ text) × (when_of text ≡ Some w)
-unfolding when_behind
-when_behind_is tail w e =
-    let t = bind_some (behind (codes " ") tail) (λ text. when_of text) w e in
-    (t.0, behind_is (codes " ") tail t.0 t.1, t.2)
+-- the moment after a space
+when_after_is : (tail : Bytes) (w : When) → when_after tail ≡ Some w → (text : Bytes) × (tail ≡ 32 ∷ text) × (when_of text ≡ Some w)
+unfolding when_after
+when_after_is tail w e =
+    let t = bind_some (rest_after (codes " ") tail) (λ text. when_of text) w e in
+    (t.0, after_is (codes " ") tail t.0 t.1, t.2)
 
-when_behind_read : (text : Bytes) (w : When) → when_of text ≡ Some w → when_behind (32 ∷ text) ≡ Some w
-unfolding when_behind
-when_behind_read text w e = some_then (behind (codes " ") (32 ∷ text)) (λ t. when_of t) text (Some w) (behind_read (codes " ") text) e
+when_after_read : (text : Bytes) (w : When) → when_of text ≡ Some w → when_after (32 ∷ text) ≡ Some w
+unfolding when_after
+when_after_read text w e = some_then (rest_after (codes " ") (32 ∷ text)) (λ t. when_of t) text (Some w) (after_read (codes " ") text) e
 
 -- the parts of a text that are found spell who and when
-parts_are : (text : Bytes) (p : Bytes × Bytes × Bytes) (w : When) → person_parts text ≡ Some p → when_behind p.2 ≡ Some w → IsSigned text (signed p w)
+parts_are : (text : Bytes) (p : Bytes × Bytes × Bytes) (w : When) → person_parts text ≡ Some p → when_after p.2 ≡ Some w → IsSigned text (signed p w)
 parts_are text p w e f =
-    let t = when_behind_is p.2 w f in
+    let t = when_after_is p.2 w f in
     let person = person_is text p e in
     let when = when_is t.0 w t.2 in
     record {
@@ -247,17 +247,17 @@ parts_are text p w e f =
 pub person_in_is : (text : Bytes) (who : Signed) → person_in text ≡ Ok who → IsSigned text who
 unfolding person_in
 person_in_is text who e =
-    let p = bind_ok (due BadPerson (person_parts text)) (λ p. due BadWhen (when_behind p.2) then_field λ when. Ok (signed p when)) who e in
-    let w = bind_ok (due BadWhen (when_behind p.0.2)) (λ when. Ok (signed p.0 when)) who p.2 in
-    subst (IsSigned text) (same_Ok (signed p.0 w.0) who w.2) (parts_are text p.0 w.0 (due_is BadPerson (person_parts text) p.0 p.1) (due_is BadWhen (when_behind p.0.2) w.0 w.1))
+    let p = bind_ok (or_defect BadPerson (person_parts text)) (λ p. or_defect BadWhen (when_after p.2) then_field λ when. Ok (signed p when)) who e in
+    let w = bind_ok (or_defect BadWhen (when_after p.0.2)) (λ when. Ok (signed p.0 when)) who p.2 in
+    subst (IsSigned text) (same_Ok (signed p.0 w.0) who w.2) (parts_are text p.0 w.0 (or_defect_is BadPerson (person_parts text) p.0 p.1) (or_defect_is BadWhen (when_after p.0.2) w.0 w.1))
 
 pub person_in_read : (text : Bytes) (who : Signed) → IsSigned text who → person_in text ≡ Ok who
 unfolding person_in
 person_in_read text who h =
     let when = h.digits ++ 32 ∷ h.zone in
     let p : Bytes × Bytes × Bytes = (who.person.name, who.person.email, 32 ∷ when) in
-    ok_then (due BadPerson (person_parts text)) (λ p. due BadWhen (when_behind p.2) then_field λ w. Ok (signed p w)) p (Ok who)
-    (due_found BadPerson (person_parts text) p (person_read text who.person.name who.person.email (32 ∷ when) (record { part = h.part; is = h.is; named = h.name; clean_name = h.clean_name; clean_email = h.clean_email })))
-    (ok_then (due BadWhen (when_behind (32 ∷ when))) (λ w. Ok (signed p w)) who.when (Ok who)
-    (due_found BadWhen (when_behind (32 ∷ when)) who.when (when_behind_read when who.when (when_read when who.when (record { digits = h.digits; zone = h.zone; is = refl; seconds = h.seconds; in_time = h.in_time; offset = h.offset }))))
+    ok_then (or_defect BadPerson (person_parts text)) (λ p. or_defect BadWhen (when_after p.2) then_field λ w. Ok (signed p w)) p (Ok who)
+    (or_defect_found BadPerson (person_parts text) p (person_read text who.person.name who.person.email (32 ∷ when) (record { part = h.part; is = h.is; named = h.name; clean_name = h.clean_name; clean_email = h.clean_email })))
+    (ok_then (or_defect BadWhen (when_after (32 ∷ when))) (λ w. Ok (signed p w)) who.when (Ok who)
+    (or_defect_found BadWhen (when_after (32 ∷ when)) who.when (when_after_read when who.when (when_read when who.when (record { digits = h.digits; zone = h.zone; is = refl; seconds = h.seconds; in_time = h.in_time; offset = h.offset }))))
     refl)

@@ -7,7 +7,7 @@ use Rattle.plain_model.specs.Fields.{Quoting, Turn, turn, unquoted, with_byte}
 use Rattle.plain_model.specs.Fields.Quoting.{Between}
 use Rattle.plain_model.specs.Fields.Turn.{Ends, Says, GoesOn, Unfit}
 
--- behind bytes that were read
+-- after bytes that were read
 abbrev pub with_front : Bytes → Option (Bytes × Bytes) → Option (Bytes × Bytes)
 with_front front found = option_map (λ x. (front ++ x.0, x.1)) found
 

@@ -111,7 +111,7 @@ zone_written false offset h = record { sign = 43; digits = zone offset; is = ref
 name_part : Bytes → Bytes
 name_part name = name ++ cond (nat_lt 0 (length name)) (codes " ") []
 
--- the name and the space behind it, if there is a name
+-- the name and the space after it, if there is a name
 part_written : (name : Bytes) → IsNamePart (name_part name) name
 unfolding name_part
 part_written [] = inl (refl, refl)

@@ -61,7 +61,7 @@ pub fn operations_are_read_again()
     ensures { (op : RawOp) → OpFits op → HasItsContent op → op_in (raw_op_text op) ≡ Ok op }
 {}
 
-/// A block of data is read again behind its line, whatever follows the LF behind it.
+/// A block of data is read again after its line, whatever follows the LF after it.
 pub fn data_is_read_again()
     ensures { (bytes rest : List ℕ) →
         block_in (codes "data " ++ decimal_of (length bytes)) (bytes ++ 10 ∷ rest)

@@ -3,7 +3,7 @@ use Rattle.std.proofs.Common.{◌≡◌, inl, inr, ℕ, zero, suc, List, [], ◌
 use Rattle.std.specs.Prelude.{IfSome, IsSome}
 use Rattle.std.proofs.lemmas.Option.{same_Some}
 use Rattle.plain_model.specs.Files.{Files}
-use Rattle.history_machine.specs.Machine.{World, Turn, Run, sent, after, PartSent, Stands, Completes, run_on}
+use Rattle.history_machine.specs.Machine.{World, Turn, Run, sent, after, PartSent, EndsAs, Completes, run_on}
 use Rattle.plain_model.specs.declared.fault.Fault.{Fault}
 use Rattle.plain_model.specs.declared.status.Status.{Status}
 use Rattle.plain_model.specs.declared.status.Status.TheVariants as status
@@ -20,10 +20,10 @@ pub joined : {P Q R : World → World → Type 0} (v0 v v' : Option World)
     → IfSome v (λ b. IfSome v' (λ c. Q b c))
     → ((a b c : World) → P a b → Q b c → R a c)
     → IfSome v0 (λ a. IfSome v' (λ c. R a c))
-joined None v v' tells p q f = tt
-joined (Some a) None v' tells p q f = absurd cc
-joined (Some a) (Some b) None tells p q f = tt
-joined (Some a) (Some b) (Some c) tells p q f = f a b c p q
+joined None v v' reports p q f = tt
+joined (Some a) None v' reports p q f = absurd cc
+joined (Some a) (Some b) None reports p q f = tt
+joined (Some a) (Some b) (Some c) reports p q f = f a b c p q
 
 pub mapped : {P Q : World → World → Type 0} (v v' : Option World) → ((a b : World) → P a b → Q a b) → IfSome v (λ a. IfSome v' (λ b. P a b)) → IfSome v (λ a. IfSome v' (λ b. Q a b))
 mapped None v' f h = tt
@@ -44,24 +44,24 @@ IsEnd status.BadScript = Unit {0}
 module _ {X : Type 0} (step : X → Files → List ℕ → Result (Turn X) Fault) (keep : Bool) (so_far : Status) (s s' : X) (w now : World) (item : ScriptItem) (items : List ScriptItem) where
   -- a command that is done, and the rest
   pub turn_done : Turns status.Done s w item.line (step s w.files item.text) s' now → (r : Status) (last : World)
-      → Stands (run_on step keep so_far s' now.files items) r now last
-      → Stands (run_on step keep so_far s w.files (item ∷ items)) r w last
+      → EndsAs (run_on step keep so_far s' now.files items) r now last
+      → EndsAs (run_on step keep so_far s w.files (item ∷ items)) r w last
   turn_done turned r last h = at (step s w.files item.text) refl turned
     where
-      at : (due : Result (Turn X) Fault) → step s w.files item.text ≡ due → Carries w due s' now → Stands (run_on step keep so_far s w.files (item ∷ items)) r w last
+      at : (expected : Result (Turn X) Fault) → step s w.files item.text ≡ expected → Carries w expected s' now → EndsAs (run_on step keep so_far s w.files (item ∷ items)) r w last
       at (Ok t) e c = done_more step keep so_far s w item items t r last e
-          (subst (λ (x : X). Stands (run_on step keep so_far x (after w t).files items) r (after w t) last) c.0 (subst (λ (v : World). Stands (run_on step keep so_far s' v.files items) r v last) c.1 h))
+          (subst (λ (x : X). EndsAs (run_on step keep so_far x (after w t).files items) r (after w t) last) c.0 (subst (λ (v : World). EndsAs (run_on step keep so_far s' v.files items) r v last) c.1 h))
       at (Err fault) e c = absurd c
 
   -- a command at which the run ends
   pub turn_ends : keep ≡ false → (r : Status) → IsEnd r → Turns r s w item.line (step s w.files item.text) s' now
-      → Stands (run_on step keep so_far s w.files (item ∷ items)) r w now
+      → EndsAs (run_on step keep so_far s w.files (item ∷ items)) r w now
   turn_ends stop status.Done e turned = absurd e
   turn_ends stop status.Refused e turned = at (step s w.files item.text) refl turned.1
     where
-      at : (due : Result (Turn X) Fault) → step s w.files item.text ≡ due → Refuses w item.line due now → Stands (run_on step keep so_far s w.files (item ∷ items)) status.Refused w now
+      at : (expected : Result (Turn X) Fault) → step s w.files item.text ≡ expected → Refuses w item.line expected now → EndsAs (run_on step keep so_far s w.files (item ∷ items)) status.Refused w now
       at (Ok t) is c = absurd c
-      at (Err fault) is c = subst (λ (v : World). Stands (run_on step keep so_far s w.files (item ∷ items)) status.Refused w v) (sym c) (refused_ends step keep so_far s w item items fault is stop)
+      at (Err fault) is c = subst (λ (v : World). EndsAs (run_on step keep so_far s w.files (item ∷ items)) status.Refused w v) (sym c) (refused_ends step keep so_far s w item items fault is stop)
   turn_ends stop status.SourceFault e turned = breaks_here step keep so_far s w item items status.SourceFault now tt turned.1
   turn_ends stop status.SinkFault e turned = breaks_here step keep so_far s w item items status.SinkFault now tt turned.1
   turn_ends stop status.Memory e turned = breaks_here step keep so_far s w item items status.Memory now tt turned.1
@@ -86,10 +86,10 @@ caused_later s m n k l o status.Usage later h = tt
 caused_later s m n k l o status.BadScript later h = tt
 caused_later s m n k l o status.Memory later h = tt
 
-tells_later : (v w u : Option World) → IfSome v (λ x. IsSome w) → IfSome w (λ x. IsSome u) → IfSome v (λ x. IsSome u)
-tells_later None w u a b = tt
-tells_later (Some x) None u a b = absurd cc
-tells_later (Some x) (Some y) u a b = b
+reports_later : (v w u : Option World) → IfSome v (λ x. IsSome w) → IfSome w (λ x. IsSome u) → IfSome v (λ x. IsSome u)
+reports_later None w u a b = tt
+reports_later (Some x) None u a b = absurd cc
+reports_later (Some x) (Some y) u a b = b
 
 pub later_later : (s m n : StoreState) (k l o : SinkState) → Later s k m l → Later m l n o → Later s k n o
 later_later s m n k l o a b = record {
@@ -97,7 +97,7 @@ later_later s m n k l o a b = record {
   write_faults = omega (arith, a.write_faults, b.write_faults);
   misses = omega (arith, a.misses, b.misses);
   faults = omega (arith, a.faults, b.faults);
-  tells = tells_later (world s k) (world m l) (world n o) a.tells b.tells;
+  reports = reports_later (world s k) (world m l) (world n o) a.reports b.reports;
 }
 
 -- bytes that are printed
@@ -123,12 +123,12 @@ pub some_printed_world : (s : StoreState) (k k' : SinkState) (bytes : List ℕ) 
     → IfSome (world s k) (λ w. IfSome (world s k') (λ now. PartSent None bytes w now))
 some_printed_world s k k' bytes h = some_printed_worlds s.files k.written k'.written bytes h
 
-tells_printed_worlds : (files : Option Files) (old new : Option (List ℕ)) (bytes : List ℕ) → IfSome old (λ w. (n : ℕ) × (new ≡ Some (w ++ take n bytes)))
+reports_printed_worlds : (files : Option Files) (old new : Option (List ℕ)) (bytes : List ℕ) → IfSome old (λ w. (n : ℕ) × (new ≡ Some (w ++ take n bytes)))
     → IfSome (world_of files old) (λ w. IsSome (world_of files new))
-tells_printed_worlds None old new bytes h = tt
-tells_printed_worlds (Some fs) None new bytes h = tt
-tells_printed_worlds (Some fs) (Some w) None bytes h = absurd cc
-tells_printed_worlds (Some fs) (Some w) (Some n) bytes h = refl
+reports_printed_worlds None old new bytes h = tt
+reports_printed_worlds (Some fs) None new bytes h = tt
+reports_printed_worlds (Some fs) (Some w) None bytes h = absurd cc
+reports_printed_worlds (Some fs) (Some w) (Some n) bytes h = refl
 
 -- what is printed only adds to a sink
 pub printed_later : (s : StoreState) (k k' : SinkState) (bytes : List ℕ) → PutsSome k bytes k' → k.faults ≤ k'.faults → Later s k s k'
@@ -137,7 +137,7 @@ printed_later s k k' bytes h faults = record {
   write_faults = omega arith;
   misses = omega arith;
   faults = faults;
-  tells = tells_printed_worlds s.files k.written k'.written bytes h;
+  reports = reports_printed_worlds s.files k.written k'.written bytes h;
 }
 
 -- any status but Done ends a run
@@ -151,7 +151,7 @@ is_end status.Usage e = tt
 is_end status.NoScript e = tt
 is_end status.BadScript e = tt
 
--- the item at a place, and those behind it
+-- the item at a place, and those after it
 pub item_next : {A : Type 0} (xs : List A) (i : ℕ) (x : A) → i < length xs → x ≡ get_or xs i x → drop i xs ≡ x ∷ drop (i + 1) xs
 item_next xs i x lt is =
     let k : suc i ≡ i + 1 = omega arith in
@@ -164,7 +164,7 @@ drop_past (x ∷ xs) zero le = absurd (omega (arith, le))
 drop_past (x ∷ xs) (suc i) le = drop_past xs i (omega (arith, le))
 
 completes : {X : Type 0} (run : Run X) (s s' : StoreState) (k k' : SinkState) (r : Status) (w now : World) → CausedEnd s k r s' k' → NoFaults s k s' k' → r ≢ status.Memory
-    → Stands run r w now → Completes run r w now
+    → EndsAs run r w now → Completes run r w now
 completes run s s' k k' status.SourceFault w now caused quiet enough h = absurd (quiet.0 caused)
 completes run s s' k k' status.SinkFault w now caused quiet enough h = absurd (elim caused [ inl x ↦ quiet.1 x | inr x ↦ quiet.2 x ])
 completes run s s' k k' status.Memory w now caused quiet enough h = absurd (enough refl)
@@ -176,6 +176,6 @@ completes run s s' k k' status.BadScript w now caused quiet enough h = h
 
 -- with memory and no fault of the outside, a run comes to its end
 pub all_completes : {X : Type 0} (run : World → Run X) (s s' : StoreState) (k k' : SinkState) (r : Status) → CausedEnd s k r s' k' → NoFaults s k s' k' → r ≢ status.Memory
-    → IfSome (world s k) (λ w. IfSome (world s' k') (λ now. Stands (run w) r w now))
+    → IfSome (world s k) (λ w. IfSome (world s' k') (λ now. EndsAs (run w) r w now))
     → IfSome (world s k) (λ w. IfSome (world s' k') (λ now. Completes (run w) r w now))
 all_completes run s s' k k' r caused quiet enough h = mapped (world s k) (world s' k') (λ w now. completes (run w) s s' k k' r w now caused quiet enough) h

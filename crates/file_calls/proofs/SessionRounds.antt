@@ -2,7 +2,7 @@
 use Rattle.std.proofs.Common.{◌≡◌, ℕ, zero, suc, List, [], ◌∷◌, Bool, true, false, not, Result, Ok, Err, refl, sym, subst}
 use Rattle.std.specs.Prelude.{if◌then◌else◌}
 use Rattle.plain_model.specs.Files.{Files}
-use Rattle.history_machine.specs.Machine.{World, Turn, Run, after, PartSent, SessionBreaks, SessionStands, Stands, turn_of, goes_on, status_after, stops, so_far_after, with_first, run_on, files_after}
+use Rattle.history_machine.specs.Machine.{World, Turn, Run, after, PartSent, SessionBreaks, SessionEndsAs, EndsAs, turn_of, goes_on, status_after, stops, so_far_after, with_first, run_on, files_after}
 use Rattle.plain_model.specs.declared.fault.Fault.{Fault}
 use Rattle.plain_model.specs.declared.status.Status.{Status}
 use Rattle.plain_model.specs.declared.status.Status.TheVariants as status
@@ -11,7 +11,7 @@ use Rattle.history_machine.proofs.Runs.{IsBreak}
 use Rattle.file_calls.specs.Calls.{Carries, Refuses, Turns, CausedEnd}
 use Rattle.surgeon_store.specs.Outside.{StoreState, SinkState}
 
-session_first : {X : Type 0} (t : Turn X) (run : Run X) (r : Status) (s s' : X) (w now : World) → SessionStands run r t.session (after w t) s' now → SessionStands (with_first t run) r s w s' now
+session_first : {X : Type 0} (t : Turn X) (run : Run X) (r : Status) (s s' : X) (w now : World) → SessionEndsAs run r t.session (after w t) s' now → SessionEndsAs (with_first t run) r s w s' now
 session_first t run status.SourceFault s s' w now h = (suc h.0, h.1, h.2)
 session_first t run status.SinkFault s s' w now h = (suc h.0, h.1, h.2)
 session_first t run status.Memory s s' w now h = (suc h.0, h.1, h.2)
@@ -21,7 +21,7 @@ session_first t run status.Usage s s' w now h = h
 session_first t run status.NoScript s s' w now h = h
 session_first t run status.BadScript s s' w now h = h
 
-session_broken : {X : Type 0} (run : Run X) (r : Status) (s s' : X) (w now : World) → IsBreak r → SessionBreaks run s w s' now → SessionStands run r s w s' now
+session_broken : {X : Type 0} (run : Run X) (r : Status) (s s' : X) (w now : World) → IsBreak r → SessionBreaks run s w s' now → SessionEndsAs run r s w s' now
 session_broken run status.SourceFault s s' w now b h = h
 session_broken run status.SinkFault s s' w now b h = h
 session_broken run status.Memory s s' w now b h = h
@@ -40,7 +40,7 @@ off_of true e = absurd cc
 off_of false e = refl
 
 -- what holds of a run and its session holds of the run
-pub forget_session : {X : Type 0} (run : Run X) (r : Status) (s s' : X) (w now : World) → SessionStands run r s w s' now → Stands run r w now
+pub forget_session : {X : Type 0} (run : Run X) (r : Status) (s s' : X) (w now : World) → SessionEndsAs run r s w s' now → EndsAs run r w now
 forget_session run status.SourceFault s s' w now h = (h.0, h.2)
 forget_session run status.SinkFault s s' w now h = (h.0, h.2)
 forget_session run status.Memory s s' w now h = (h.0, h.2)
@@ -51,7 +51,7 @@ forget_session run status.NoScript s s' w now h = h.1
 forget_session run status.BadScript s s' w now h = h.1
 
 -- a run without further lines
-pub no_lines : {X : Type 0} (r : Status) (s : X) (w : World) → SessionStands {X = X} (record { turns = []; status = r }) r s w s w
+pub no_lines : {X : Type 0} (r : Status) (s : X) (w : World) → SessionEndsAs {X = X} (record { turns = []; status = r }) r s w s w
 no_lines status.SourceFault s w = (zero, refl, refl)
 no_lines status.SinkFault s w = (zero, refl, refl)
 no_lines status.Memory s w = (zero, refl, refl)
@@ -95,33 +95,33 @@ caused_quiet s s' k k' status.BadScript q = absurd q
 module _ {X : Type 0} (step : X → Files → List ℕ → Result (Turn X) Fault) (keep : Bool) (so_far : Status) (s s' : X) (w now : World) (item : ScriptItem) (items : List ScriptItem) where
   -- the run from here, by what the first line does
   abbrev from : Result (Turn X) Fault → Run X
-  from due =
-      let t = turn_of s item.line due in
-      with_first t (if goes_on keep due then run_on step keep (status_after so_far due) t.session (files_after t.to t.bytes w.files) items else record { turns = []; status = status.Refused })
+  from expected =
+      let t = turn_of s item.line expected in
+      with_first t (if goes_on keep expected then run_on step keep (status_after so_far expected) t.session (files_after t.to t.bytes w.files) items else record { turns = []; status = status.Refused })
 
-  -- the run goes on behind a command
+  -- the run goes on after a command
   pub session_goes_on : (e : Status) → stops keep e ≡ false → Turns e s w item.line (step s w.files item.text) s' now
       → (r : Status) (s'' : X) (last : World)
-      → SessionStands (run_on step keep (so_far_after so_far e) s' now.files items) r s' now s'' last
-      → SessionStands (run_on step keep so_far s w.files (item ∷ items)) r s w s'' last
+      → SessionEndsAs (run_on step keep (so_far_after so_far e) s' now.files items) r s' now s'' last
+      → SessionEndsAs (run_on step keep so_far s w.files (item ∷ items)) r s w s'' last
   session_goes_on status.Done stop turned r s'' last h = at (step s w.files item.text) refl turned
     where
-      at : (due : Result (Turn X) Fault) → step s w.files item.text ≡ due → Carries w due s' now → SessionStands (run_on step keep so_far s w.files (item ∷ items)) r s w s'' last
-      at (Ok t) e c = subst (λ due. SessionStands (from due) r s w s'' last) (sym e)
+      at : (expected : Result (Turn X) Fault) → step s w.files item.text ≡ expected → Carries w expected s' now → SessionEndsAs (run_on step keep so_far s w.files (item ∷ items)) r s w s'' last
+      at (Ok t) e c = subst (λ expected. SessionEndsAs (from expected) r s w s'' last) (sym e)
           (session_first t (run_on step keep so_far t.session (after w t).files items) r s s'' w last
-          (subst (λ (x : X). SessionStands (run_on step keep so_far x (after w t).files items) r x (after w t) s'' last) c.0 (subst (λ (v : World). SessionStands (run_on step keep so_far s' v.files items) r s' v s'' last) c.1 h)))
+          (subst (λ (x : X). SessionEndsAs (run_on step keep so_far x (after w t).files items) r x (after w t) s'' last) c.0 (subst (λ (v : World). SessionEndsAs (run_on step keep so_far s' v.files items) r s' v s'' last) c.1 h)))
       at (Err fault) e c = absurd c
   session_goes_on status.Refused stop turned r s'' last h = at (step s w.files item.text) refl turned.1
     where
-      at : (due : Result (Turn X) Fault) → step s w.files item.text ≡ due → Refuses w item.line due now → SessionStands (run_on step keep so_far s w.files (item ∷ items)) r s w s'' last
+      at : (expected : Result (Turn X) Fault) → step s w.files item.text ≡ expected → Refuses w item.line expected now → SessionEndsAs (run_on step keep so_far s w.files (item ∷ items)) r s w s'' last
       at (Ok t) e c = absurd c
       at (Err fault) e c =
           let on : keep ≡ true = kept keep stop in
           let t = turn_of s item.line (Err fault) in
-          subst (λ due. SessionStands (from due) r s w s'' last) (sym e)
-          (subst (λ k. SessionStands (with_first t (if k then run_on step keep status.Refused s w.files items else record { turns = []; status = status.Refused })) r s w s'' last) (sym on)
+          subst (λ expected. SessionEndsAs (from expected) r s w s'' last) (sym e)
+          (subst (λ k. SessionEndsAs (with_first t (if k then run_on step keep status.Refused s w.files items else record { turns = []; status = status.Refused })) r s w s'' last) (sym on)
           (session_first t (run_on step keep status.Refused s w.files items) r s s'' w last
-          (subst (λ (x : X). SessionStands (run_on step keep status.Refused x w.files items) r x (after w t) s'' last) turned.0 (subst (λ (v : World). SessionStands (run_on step keep status.Refused s' v.files items) r s' v s'' last) c h))))
+          (subst (λ (x : X). SessionEndsAs (run_on step keep status.Refused x w.files items) r x (after w t) s'' last) turned.0 (subst (λ (v : World). SessionEndsAs (run_on step keep status.Refused s' v.files items) r s' v s'' last) c h))))
   session_goes_on status.SourceFault stop turned r s'' last h = absurd cc
   session_goes_on status.SinkFault stop turned r s'' last h = absurd cc
   session_goes_on status.Memory stop turned r s'' last h = absurd cc
@@ -130,22 +130,22 @@ module _ {X : Type 0} (step : X → Files → List ℕ → Result (Turn X) Fault
   session_goes_on status.BadScript stop turned r s'' last h = absurd turned
 
   session_breaks : (r : Status) → IsBreak r → (s' ≡ s) × PartSent (turn_of s item.line (step s w.files item.text)).to (turn_of s item.line (step s w.files item.text)).bytes w now
-      → SessionStands (run_on step keep so_far s w.files (item ∷ items)) r s w s' now
+      → SessionEndsAs (run_on step keep so_far s w.files (item ∷ items)) r s w s' now
   session_breaks r b h = session_broken (run_on step keep so_far s w.files (item ∷ items)) r s s' w now b (zero, h.0, h.1)
 
   -- a command at which the run ends
   pub session_stops : (e : Status) → stops keep e ≡ true → Turns e s w item.line (step s w.files item.text) s' now
-      → SessionStands (run_on step keep so_far s w.files (item ∷ items)) e s w s' now
+      → SessionEndsAs (run_on step keep so_far s w.files (item ∷ items)) e s w s' now
   session_stops status.Done stop turned = absurd cc
   session_stops status.Refused stop turned = at (step s w.files item.text) refl turned.1
     where
-      at : (due : Result (Turn X) Fault) → step s w.files item.text ≡ due → Refuses w item.line due now → SessionStands (run_on step keep so_far s w.files (item ∷ items)) status.Refused s w s' now
+      at : (expected : Result (Turn X) Fault) → step s w.files item.text ≡ expected → Refuses w item.line expected now → SessionEndsAs (run_on step keep so_far s w.files (item ∷ items)) status.Refused s w s' now
       at (Ok t) e c = absurd c
       at (Err fault) e c =
           let off : keep ≡ false = off_of keep stop in
           let t = turn_of s item.line (Err fault) in
-          subst (λ due. SessionStands (from due) status.Refused s w s' now) (sym e)
-          (subst (λ k. SessionStands (with_first t (if k then run_on step keep status.Refused s w.files items else record { turns = []; status = status.Refused })) status.Refused s w s' now) (sym off)
+          subst (λ expected. SessionEndsAs (from expected) status.Refused s w s' now) (sym e)
+          (subst (λ k. SessionEndsAs (with_first t (if k then run_on step keep status.Refused s w.files items else record { turns = []; status = status.Refused })) status.Refused s w s' now) (sym off)
           (turned.0, (refl, c)))
   session_stops status.SourceFault stop turned = session_breaks status.SourceFault tt turned
   session_stops status.SinkFault stop turned = session_breaks status.SinkFault tt turned

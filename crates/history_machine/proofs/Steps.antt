@@ -13,7 +13,7 @@ use Rattle.renumbering.specs.Renumbered.{renumbered}
 use Rattle.history_machine.specs.Kept.{KeepsTrees, KeepTrees}
 use Rattle.history_machine.specs.Loading.{◌>>=◌}
 use Rattle.history_machine.specs.Machine.{Turn}
-use Rattle.history_machine.specs.Sessions.{Repo, Session, changes, chosen, chosen_by, find_repo, or_no_repo, quiet, renumber_due, sends, step, tells, with_history}
+use Rattle.history_machine.specs.Sessions.{Repo, Session, changes, chosen, chosen_by, find_repo, or_no_repo, quiet, after_renumber, sends, step, reports, with_history}
 
 -- a `write` that is done
 pub write_sends : (s : Session) (files : Files) (to : Option Bytes) (t : Turn Session) → step s files (command.Write to) ≡ Ok t
@@ -21,7 +21,7 @@ pub write_sends : (s : Session) (files : Files) (to : Option Bytes) (t : Turn Se
 unfolding step
 write_sends s files to t h = go (chosen s) refl h
   where
-    go : (r : Result Repo Fault) → chosen s ≡ r → tells s to (r >>= λ repo. Ok (text repo.history)) ≡ Ok t
+    go : (r : Result Repo Fault) → chosen s ≡ r → reports s to (r >>= λ repo. Ok (text repo.history)) ≡ Ok t
         → (repo : Repo) × (chosen s ≡ Ok repo) × (t ≡ sends s to (text repo.history))
     go (Ok repo) e h = (repo, e, cc)
     go (Err why) e h = absurd cc
@@ -76,7 +76,7 @@ module _
 
     -- a `renumber` that is done
     pub renumber_keeps : (s : Session) (files : Files) (t : Turn Session) → step s files command.Renumber ≡ Ok t → KeepTrees s.repos t.session.repos
-    unfolding step renumber_due
+    unfolding step after_renumber
     renumber_keeps s files t h = go (chosen s) refl h
       where
         go : (r : Result Repo Fault) → chosen s ≡ r

@@ -80,13 +80,13 @@ Breaks run w now = (k : ℕ) × BreaksAfter k run.turns w now
 abbrev pub Completes : {X : Type 0} → Run X → Status → World → World → Type 0
 Completes run answer w now = (answer ≡ run.status) × (now ≡ after_all w run.turns)
 
--- how things stand when a run answers a status: a fault of the outside or want of memory broke it off, or it came to
+-- how things stand when a run answers a status: a fault of the outside or out of memory broke it off, or it came to
 -- its end
-abbrev pub Stands : {X : Type 0} → Run X → Status → World → World → Type 0
-Stands run status.SourceFault w now = Breaks run w now
-Stands run status.SinkFault w now = Breaks run w now
-Stands run status.Memory w now = Breaks run w now
-Stands run answer w now = Completes run answer w now
+abbrev pub EndsAs : {X : Type 0} → Run X → Status → World → World → Type 0
+EndsAs run status.SourceFault w now = Breaks run w now
+EndsAs run status.SinkFault w now = Breaks run w now
+EndsAs run status.Memory w now = Breaks run w now
+EndsAs run answer w now = Completes run answer w now
 
 -- the run breaks off, and the session is as the commands before have left it
 abbrev pub SessionBreaks : {X : Type 0} → Run X → X → World → X → World → Type 0
@@ -97,11 +97,11 @@ abbrev pub SessionCompletes : {X : Type 0} → Run X → Status → X → World 
 SessionCompletes run answer s w s' now = (s' ≡ session_after s run.turns) × Completes run answer w now
 
 -- how things and the session stand when a run answers a status
-abbrev pub SessionStands : {X : Type 0} → Run X → Status → X → World → X → World → Type 0
-SessionStands run status.SourceFault s w s' now = SessionBreaks run s w s' now
-SessionStands run status.SinkFault s w s' now = SessionBreaks run s w s' now
-SessionStands run status.Memory s w s' now = SessionBreaks run s w s' now
-SessionStands run answer s w s' now = SessionCompletes run answer s w s' now
+abbrev pub SessionEndsAs : {X : Type 0} → Run X → Status → X → World → X → World → Type 0
+SessionEndsAs run status.SourceFault s w s' now = SessionBreaks run s w s' now
+SessionEndsAs run status.SinkFault s w s' now = SessionBreaks run s w s' now
+SessionEndsAs run status.Memory s w s' now = SessionBreaks run s w s' now
+SessionEndsAs run answer s w s' now = SessionCompletes run answer s w s' now
 
 -- ---- one command, done or refused
 
@@ -115,12 +115,12 @@ abbrev pub goes_on : {X : Type 0} → Bool → Result (Turn X) Fault → Bool
 goes_on keep (Ok t) = true
 goes_on keep (Err fault) = keep
 
--- how a run ends that has such a status so far, if nothing else is refused behind this command
+-- how a run ends that has such a status so far, if nothing else is refused after this command
 abbrev pub status_after : {X : Type 0} → Status → Result (Turn X) Fault → Status
 status_after so_far (Ok t) = so_far
 status_after so_far (Err fault) = status.Refused
 
--- whether a run stops behind a command that ends so
+-- whether a run stops after a command that ends so
 abbrev pub stops : Bool → Status → Bool
 stops keep status.Done = false
 stops keep status.Refused = not keep

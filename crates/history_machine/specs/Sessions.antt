@@ -83,14 +83,14 @@ chosen s = chosen_by s.repos s.choice
 -- ---- what each command does
 
 -- `read <FILE`: the history of the file is loaded last, and chosen
-unfoldable pub read_due : Session → Files → Bytes → Bytes → Result Session Fault
-read_due s files file name =
+unfoldable pub after_read : Session → Files → Bytes → Bytes → Result Session Fault
+after_read s files file name =
     room s.repos >>= λ repos. unused name (find_repo name repos) >>= λ free. loaded files file >>= λ history.
     Ok (record { repos = repos ++ record { name = free; history = history } ∷ []; choice = Some free })
 
 -- `choose NAME`
-unfoldable pub choose_due : Session → Bytes → Result Session Fault
-choose_due s name = there name (find_repo name s.repos) >>= λ history. Ok (record { repos = s.repos; choice = Some name })
+unfoldable pub after_choose : Session → Bytes → Result Session Fault
+after_choose s name = there name (find_repo name s.repos) >>= λ history. Ok (record { repos = s.repos; choice = Some name })
 
 -- the choice, unless it is of this name
 abbrev pub unless : Bytes → Option Bytes → Option Bytes
@@ -98,17 +98,17 @@ unless name None = None
 unless name (Some choice) = if bytes_eq name choice then None else Some choice
 
 -- `drop NAME`: the repository is forgotten; if it was chosen, none is from then on
-unfoldable pub drop_due : Session → Bytes → Result Session Fault
-drop_due s name =
+unfoldable pub after_drop : Session → Bytes → Result Session Fault
+after_drop s name =
     there name (find_repo name s.repos) >>= λ history. Ok (record { repos = without_repo name s.repos; choice = unless name s.choice })
 
 -- `drop`: the same of the chosen repository
-unfoldable pub drop_chosen_due : Session → Result Session Fault
-drop_chosen_due s = chosen s >>= λ repo. drop_due s repo.name
+unfoldable pub after_drop_chosen : Session → Result Session Fault
+after_drop_chosen s = chosen s >>= λ repo. after_drop s repo.name
 
 -- `renumber`: blobs and commits have the marks 1, 2, 3 and so on
-unfoldable pub renumber_due : Session → Result Session Fault
-renumber_due s =
+unfoldable pub after_renumber : Session → Result Session Fault
+after_renumber s =
     chosen s >>= λ repo. Ok (record { repos = with_history repo.name (renumbered repo.history) s.repos; choice = s.choice })
 
 -- the line of a repository, by the name that is chosen
@@ -121,8 +121,8 @@ unfoldable pub repos_text : Session → Bytes
 repos_text s = flat_map (repo_line s.choice) s.repos
 
 -- a command that tells a text of the chosen history
-abbrev pub told : Session → (List PlainEvent → Bytes) → Result Bytes Fault
-told s text_of = chosen s >>= λ repo. Ok (text_of repo.history)
+abbrev pub of_chosen : Session → (List PlainEvent → Bytes) → Result Bytes Fault
+of_chosen s text_of = chosen s >>= λ repo. Ok (text_of repo.history)
 
 -- `list` and `index` tell of all events
 abbrev pub list_all : List PlainEvent → Bytes
@@ -143,23 +143,23 @@ sends s to bytes = record { session = s; to = to; bytes = bytes }
 
 -- a change of the session
 abbrev pub changes : Result Session Fault → Result (Turn Session) Fault
-changes due = due >>= λ after. Ok (quiet after)
+changes expected = expected >>= λ after. Ok (quiet after)
 
 -- a text that is sent
-abbrev pub tells : Session → Option Bytes → Result Bytes Fault → Result (Turn Session) Fault
-tells s to due = due >>= λ bytes. Ok (sends s to bytes)
+abbrev pub reports : Session → Option Bytes → Result Bytes Fault → Result (Turn Session) Fault
+reports s to expected = expected >>= λ bytes. Ok (sends s to bytes)
 
 unfoldable pub step : Session → Files → Command → Result (Turn Session) Fault
-step s files (command.Read file name) = changes (read_due s files file name)
-step s files (command.Write to) = tells s to (told s text)
-step s files (command.Choose name) = changes (choose_due s name)
-step s files command.ShowRepos = tells s None (Ok (repos_text s))
-step s files (command.Drop name) = changes (drop_due s name)
-step s files command.DropChosen = changes (drop_chosen_due s)
-step s files command.Renumber = changes (renumber_due s)
-step s files (command.List to) = tells s to (told s list_all)
-step s files (command.Index to) = tells s to (told s index_all)
-step s files (command.Names to) = tells s to (told s names_text)
+step s files (command.Read file name) = changes (after_read s files file name)
+step s files (command.Write to) = reports s to (of_chosen s text)
+step s files (command.Choose name) = changes (after_choose s name)
+step s files command.ShowRepos = reports s None (Ok (repos_text s))
+step s files (command.Drop name) = changes (after_drop s name)
+step s files command.DropChosen = changes (after_drop_chosen s)
+step s files command.Renumber = changes (after_renumber s)
+step s files (command.List to) = reports s to (of_chosen s list_all)
+step s files (command.Index to) = reports s to (of_chosen s index_all)
+step s files (command.Names to) = reports s to (of_chosen s names_text)
 
 -- one line of a script: its command, or why it is none, and then what that does
 unfoldable pub line_step : Session → Files → Bytes → Result (Turn Session) Fault

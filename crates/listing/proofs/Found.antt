@@ -12,7 +12,7 @@ use Rattle.plain_model.specs.Lookups.{find_event, id_of, same_id}
 use Rattle.plain_model.specs.Snapshots.{commit_mark}
 use Rattle.plain_model.specs.declared.limit.TheConstants.{MAX_SECONDS}
 use Rattle.plain_model.specs.declared.person.Signed.{Signed}
-use Rattle.plain_model.specs.Soundness.{AreSoundBehind, IsFormedSigned, IsSoundEvent, has_id}
+use Rattle.plain_model.specs.Soundness.{AreSoundAfter, IsFormedSigned, IsSoundEvent, has_id}
 use Rattle.listing.specs.Finding.{IsDated, own_commit_mark}
 
 turned : (a b : ℕ) → eqb a b ≡ eqb b a
@@ -66,7 +66,7 @@ new_id earlier (plain.Reset id branch target) h = h.0
 new_id earlier (plain.Pass id line) h = h.0
 
 -- an event is found by its own id, and none of the earlier ones has that
-own_found : (earlier events : List PlainEvent) (k : ℕ) (e : PlainEvent) → AreSoundBehind earlier events
+own_found : (earlier events : List PlainEvent) (k : ℕ) (e : PlainEvent) → AreSoundAfter earlier events
     → slice_get events k ≡ Some e → (find_event (id_of e) events ≡ Some e) × (has_id earlier (id_of e) ≡ false)
 own_found earlier [] k e h at = absurd (none-some e at)
 own_found earlier (x ∷ es) zero e h at =
@@ -81,7 +81,7 @@ own_found earlier (x ∷ es) (suc k) e h at =
     (rw other later.0, new)
 
 -- the event with the id that stands at a place is the one there
-pub found_at : (events : List PlainEvent) (k : ℕ) (id : AnyId) → AreSoundBehind [] events
+pub found_at : (events : List PlainEvent) (k : ℕ) (id : AnyId) → AreSoundAfter [] events
     → option_map id_of (slice_get events k) ≡ Some id → find_event id events ≡ slice_get events k
 found_at events k id h at = go (slice_get events k) refl at
   where
@@ -103,7 +103,7 @@ dated_event earlier (plain.Tag id name target tagger comment) h = dated_tagger t
 dated_event earlier (plain.Reset id branch target) h = tt
 dated_event earlier (plain.Pass id line) h = tt
 
-pub dated : (earlier events : List PlainEvent) (id : AnyId) → AreSoundBehind earlier events
+pub dated : (earlier events : List PlainEvent) (id : AnyId) → AreSoundAfter earlier events
     → IfSome (find_event id events) IsDated
 dated earlier [] id h = tt
 dated earlier (e ∷ es) id h = elim (cases_Bool (same_id id (id_of e))) [

@@ -76,7 +76,7 @@ padded count into new few is =
     let more : 6 - count ≡ suc (6 - (count + 1)) = omega arith in
     rw (is, more) (append_assoc into (32 ∷ []) (replicate (6 - (count + 1)) 32))
 
--- the branches behind one more event
+-- the branches after one more event
 noted : (tips : TreeOf ℕ) (e : PlainEvent) (events : List PlainEvent)
     → refs_after tips (e ∷ events) ≡ refs_after (refs_after tips (e ∷ [])) events
 noted tips (Blob id mark bytes) events = refl

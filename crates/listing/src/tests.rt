@@ -280,7 +280,7 @@ fn an_export_is_listed_byte_for_byte(rt: HostRuntime) -> Result<(), Fail> {
 }
 
 #[test]
-fn the_events_of_an_export_are_told_byte_for_byte(rt: HostRuntime) -> Result<(), Fail> {
+fn the_events_of_an_export_are_reported_byte_for_byte(rt: HostRuntime) -> Result<(), Fail> {
     let alloc = rt.alloc();
     let events = exported_history(alloc)?;
     let ids = all(alloc, &events)?;
@@ -301,7 +301,7 @@ fn the_events_of_an_export_are_told_byte_for_byte(rt: HostRuntime) -> Result<(),
 }
 
 #[test]
-fn the_names_of_an_export_are_told_byte_for_byte(rt: HostRuntime) -> Result<(), Fail> {
+fn the_names_of_an_export_are_reported_byte_for_byte(rt: HostRuntime) -> Result<(), Fail> {
     let alloc = rt.alloc();
     let events = exported_history(alloc)?;
     let named = named(alloc, &events)?;
@@ -332,7 +332,7 @@ fn rarer_events_are_listed_byte_for_byte(rt: HostRuntime) -> Result<(), Fail> {
 }
 
 #[test]
-fn rarer_events_are_told_byte_for_byte(rt: HostRuntime) -> Result<(), Fail> {
+fn rarer_events_are_reported_byte_for_byte(rt: HostRuntime) -> Result<(), Fail> {
     let alloc = rt.alloc();
     let events = rarer_history(alloc)?;
     let ids = all(alloc, &events)?;

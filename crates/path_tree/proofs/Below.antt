@@ -9,7 +9,7 @@ use Rattle.std.specs.Cmp.{tied_itself, nat_cmp_total}
 use Rattle.std.proofs.lemmas.Cmp.{ranked}
 use Rattle.plain_model.specs.Paths.{Bytes, is_below}
 use Rattle.plain_model.specs.Trees.{TreeOf, where_path}
-use Rattle.plain_laws.proofs.TreeLaws.{by_bytes}
+use Rattle.history_laws.proofs.TreeLaws.{by_bytes}
 use Rattle.path_tree.specs.PathMaps.{tree_in}
 
 -- from the path with a slash on, and before the path with a zero

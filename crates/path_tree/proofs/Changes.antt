@@ -8,7 +8,7 @@ use Rattle.std.specs.FinMap.Entries as entries
 use Rattle.std.proofs.lemmas.Bool.{and_from, not_from_false}
 use Rattle.plain_model.specs.Paths.{Bytes}
 use Rattle.plain_model.specs.Trees.{TreeOf, at, has, put, where_path}
-use Rattle.plain_laws.proofs.TreeLaws.{by_bytes, same_path, at_where, at_put}
+use Rattle.history_laws.proofs.TreeLaws.{by_bytes, same_path, at_where, at_put}
 use Rattle.path_tree.specs.Exchanges.{DiffersAt, with_none, has_alone}
 use Rattle.path_tree.specs.PathMaps.{IsInOrder, Becomes, with_those}
 use Rattle.path_tree.proofs.Orders.{first, second, none_before, same_tree, tied_bytes, turned_bytes}
@@ -116,14 +116,14 @@ module _ {X : Type 0} where
   -- one more entry put that the one tree has and the other lacks
   pub differs_put : (coming gone first last : TreeOf X) (p : Bytes) (x : X) → has coming p ≡ true → has gone p ≡ false
       → DiffersAt (has_alone coming gone) first last → DiffersAt (has_alone coming gone) first (put p x last)
-  differs_put coming gone first last p x there lacked so_far = record {
+  differs_put coming gone first last p x there missed so_far = record {
     others = λ q h. at_put p q x last ∙ by q h (eq_by_cmp by_bytes q p) refl;
     in_order = λ h. entries.is_sorted-put by_bytes nat_list_cmp_total p x last (so_far.in_order h);
   }
     where
       by : (q : Bytes) → has_alone coming gone q ≡ false → (t : Bool) → eq_by_cmp by_bytes q p ≡ t → cond t (Some x) (at last q) ≡ at first q
       by q h true e =
-          let alone : has_alone coming gone p ≡ true = and_from (has coming p) (not (has gone p)) there (not_from_false (has gone p) lacked) in
+          let alone : has_alone coming gone p ≡ true = and_from (has coming p) (not (has gone p)) there (not_from_false (has gone p) missed) in
           absurd (true≢false (sym alone ∙ ap (has_alone coming gone) (sym (same_path q p e)) ∙ h))
       by q h false e = so_far.others q h
 

@@ -7,7 +7,7 @@ use Rattle.std.specs.FinMap.Entries as entries
 use Rattle.std.proofs.lemmas.Bool.{and_parts, not-true}
 use Rattle.plain_model.specs.Paths.{Bytes}
 use Rattle.plain_model.specs.Trees.{TreeOf, at, has, put_all, where_path}
-use Rattle.plain_laws.proofs.TreeLaws.{by_bytes, at_where, at_put}
+use Rattle.history_laws.proofs.TreeLaws.{by_bytes, at_where, at_put}
 use Rattle.path_tree.specs.Exchanges.{CanExchange, DiffersAt, exchanged, has_alone, with_none}
 use Rattle.path_tree.specs.PathMaps.{IsInOrder, Becomes, with_those}
 use Rattle.path_tree.proofs.Orders.{first, second, none_before, same_tree}
@@ -119,11 +119,11 @@ module _ {X : Type 0} (gone coming tree : TreeOf X) (can : CanExchange gone comi
   steps_back one two a b = same_tree two tree (b.in_order (a.in_order o)) o (λ q. b.at_each q ∙ by q (has coming q && not (has gone q)) refl)
     where
       by : (q : Bytes) (t : Bool) → (has coming q && not (has gone q)) ≡ t → cond t None (at one q) ≡ at tree q
-      by q true h = lacked (at tree q) refl
+      by q true h = missed (at tree q) refl
         where
-          lacked : (w : Option X) → at tree q ≡ w → None ≡ w
-          lacked None e = refl
-          lacked (Some x) e =
+          missed : (w : Option X) → at tree q ≡ w → None ≡ w
+          missed None e = refl
+          missed (Some x) e =
               let parts = and_parts (has coming q) (not (has gone q)) h in
               absurd (true≢false (sym (can.makes_way q parts.0 (ap is_some e)) ∙ not-true (has gone q) parts.1))
       by q false h = a.others q h

@@ -8,7 +8,7 @@ use Rattle.std.specs.BTreeMap.{insert_entry, is_at}
 use Rattle.std.specs.Cmp.Lexicographic.{texts_ties}
 use Rattle.plain_model.specs.Paths.{Bytes}
 use Rattle.plain_model.specs.Trees.{TreeOf, at, has, put, where_path}
-use Rattle.plain_laws.proofs.TreeLaws.{by_bytes, same_path}
+use Rattle.history_laws.proofs.TreeLaws.{by_bytes, same_path}
 use Rattle.path_tree.specs.PathMaps.{tree_in, IsInOrder}
 use Rattle.path_tree.proofs.Orders.{is_before, first, second, before_all, none_before, all_kept}
 

@@ -7,7 +7,7 @@ use Rattle.std.proofs.lemmas.Bool.{or_left}
 use Rattle.plain_model.specs.Paths.{Bytes, is_below, is_at_or_below, do_conflict, is_in_the_way}
 use Rattle.plain_model.specs.Trees.{Tree, TreeOf, Refusal, at, has, moved, where_path, without, cleared_for, has_long_path, within_paths, put_all, placed, ◌>>=◌}
 use Rattle.plain_model.specs.Trees.Refusal.{PathBytes}
-use Rattle.plain_laws.proofs.TreeLaws.{by_bytes, at_where, has_where}
+use Rattle.history_laws.proofs.TreeLaws.{by_bytes, at_where, has_where}
 use Rattle.path_tree.specs.Answers.{TellsOf}
 use Rattle.path_tree.specs.Exchanges.{CanExchange, has_alone, with_none}
 use Rattle.path_tree.specs.Moves.{moved_if_short}
@@ -120,7 +120,7 @@ module _ {X : Type 0} where
       by false = refl
 
 -- a fault that tells of a refusal, also of what would come after
-pub tells_on : (due : Result Tree Refusal) (next : Tree → Result Tree Refusal) (fault : _) → TellsOf due fault → TellsOf (due >>= next) fault
-tells_on due next fault (inl memory) = inl memory
-tells_on (Ok t) next fault (inr h) = absurd h
-tells_on (Err r) next fault (inr h) = inr h
+pub reports_on : (expected : Result Tree Refusal) (next : Tree → Result Tree Refusal) (fault : _) → TellsOf expected fault → TellsOf (expected >>= next) fault
+reports_on expected next fault (inl memory) = inl memory
+reports_on (Ok t) next fault (inr h) = absurd h
+reports_on (Err r) next fault (inr h) = inr h

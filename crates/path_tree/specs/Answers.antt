@@ -13,15 +13,15 @@ fault_of MissingSource = fault.MissingSource
 fault_of PathBytes = fault.Limit which.PathBytes MAX_PATH_BYTES
 fault_of Paths = fault.Limit which.Paths MAX_PATHS
 
--- the fault tells of want of memory, or of what is refused
+-- the fault tells of out of memory, or of what is refused
 abbrev pub TellsOf : Result Tree Refusal → ApplyFault → Type 0
-TellsOf due f = (f ≡ fault.Memory) ⊎ IsErrAnd due (λ refusal. f ≡ fault_of refusal)
+TellsOf expected f = (f ≡ fault.Memory) ⊎ IsErrAnd expected (λ refusal. f ≡ fault_of refusal)
 
 abbrev pub Answer : Type 0
 Answer = Result (Unit {0}) ApplyFault
 
 -- the answer of a call that makes the new tree of the old one, where this is due
-pub record IsAnswer (due : Result Tree Refusal) (old : Tree) (answer : Answer) (new : Tree) : Type 0 where
-  pub done : OnOk answer (due ≡ Ok new)
-  pub refused : IfErr answer (TellsOf due)
+pub record IsAnswer (expected : Result Tree Refusal) (old : Tree) (answer : Answer) (new : Tree) : Type 0 where
+  pub done : OnOk answer (expected ≡ Ok new)
+  pub refused : IfErr answer (TellsOf expected)
   pub unchanged : OnErr answer (new ≡ old)

@@ -17,8 +17,8 @@ IsInOrder tree = T (entries.is_sorted (slice_cmp nat_cmp) tree)
 
 module _ {X : Type 0} where
   -- the new tree has at each path what is due there, and is in order if the old one is
-  pub record Becomes (due : Bytes → Option X) (old new : TreeOf X) : Type 0 where
-    pub at_each : (q : Bytes) → at new q ≡ due q
+  pub record Becomes (expected : Bytes → Option X) (old new : TreeOf X) : Type 0 where
+    pub at_each : (q : Bytes) → at new q ≡ expected q
     pub in_order : IsInOrder old → IsInOrder new
 
   -- what is due where the entries of one tree whose paths pass the test are put into another

@@ -5,7 +5,7 @@ ghost use Rattle.path_tree.specs.Answers.{TellsOf};
 
 use crate::fault::ApplyFault;
 use crate::path_map::PathMap;
-use plain_laws::operations_keep_trees;
+use history_laws::operations_keep_trees;
 use plain_model::{Entry, EntryList, FileOp, NoMemory, Path, Steps};
 use std::alloc::Global;
 use std::marker::Model;
@@ -42,7 +42,7 @@ impl PathTree {
     pub fn apply<L>(&mut self, op: &FileOp, steps: &mut Steps<L>) -> Result<(), ApplyFault>
         ensures done { OnOk result (apply op.now self.old ≡ Ok self.new) }
 
-        // A fault tells of want of memory, or of the refusal that is due.
+        // A fault tells of out of memory, or of the refusal that is due.
         ensures refused { IfErr result (TellsOf (apply op.now self.old)) }
         ensures unchanged { OnErr result (self.new ≡ self.old) }
         ensures counted { steps.new ≡ min (steps.old + 1) (2 ^ 64 - 1) }

@@ -20,7 +20,7 @@ use Rattle.plain_model.specs.Marks.{IsMark}
 use Rattle.plain_model.specs.Names.{is_name}
 use Rattle.plain_model.specs.Objects.{is_hex, is_object, as_object}
 use Rattle.plain_model.specs.Paths.{Bytes, IsPath, is_empty, path_fault}
-use Rattle.plain_model.specs.Parts.{begins, skip_lf, number_of, mark_of, person_parts, when_behind}
+use Rattle.plain_model.specs.Parts.{begins, skip_lf, number_of, mark_of, person_parts, when_after}
 
 -- the next field is looked at where this one has no defect
 infixl 10 ◌>>=◌
@@ -29,9 +29,9 @@ abbrev pub ◌>>=◌ : {A B : Type 0} → Result A Why → (A → Result B Why) 
 (Err why) >>= f = Err why
 
 -- what was found, or this defect
-abbrev pub due : {A : Type 0} → Why → Option A → Result A Why
-due why (Some x) = Ok x
-due why None = Err why
+abbrev pub or_defect : {A : Type 0} → Why → Option A → Result A Why
+or_defect why (Some x) = Ok x
+or_defect why None = Err why
 
 -- ---- words
 
@@ -40,17 +40,17 @@ abbrev pub first_word : Bytes → Bytes
 first_word [] = []
 first_word (b ∷ bs) = if b == 32 then [] else b ∷ first_word bs
 
--- what stands behind the first space, if there is one
-abbrev pub behind_space : Bytes → Option Bytes
-behind_space [] = None
-behind_space (b ∷ bs) = if b == 32 then Some bs else behind_space bs
+-- what stands after the first space, if there is one
+abbrev pub after_space : Bytes → Option Bytes
+after_space [] = None
+after_space (b ∷ bs) = if b == 32 then Some bs else after_space bs
 
 -- ---- marks, names, people
 
 -- a colon and a mark
 unfoldable pub mark_in : Bytes → Result ℕ Why
 mark_in [] = Err BadMark
-mark_in (c ∷ digits) = if c == 58 then due BadMark (mark_of digits) else Err BadMark
+mark_in (c ∷ digits) = if c == 58 then or_defect BadMark (mark_of digits) else Err BadMark
 
 -- the name of a branch or a tag
 unfoldable pub name_in : Bytes → Result Bytes Why
@@ -59,9 +59,9 @@ name_in text = if is_name text then Ok text else Err BadName
 abbrev pub signed : Bytes × Bytes × Bytes → When → Signed
 signed p when = record { person = record { name = p.0; email = p.1 }; when = when }
 
--- who, up to the `>`, and when, behind it
+-- who, up to the `>`, and when, after it
 unfoldable pub person_in : Bytes → Result Signed Why
-person_in text = due BadPerson (person_parts text) >>= λ p. due BadWhen (when_behind p.2) >>= λ when. Ok (signed p when)
+person_in text = or_defect BadPerson (person_parts text) >>= λ p. or_defect BadWhen (when_after p.2) >>= λ when. Ok (signed p when)
 
 -- ---- paths
 
@@ -81,7 +81,7 @@ escaped c =
 abbrev pub is_octal : ℕ → Bool
 is_octal d = nat_le 48 d && nat_le d 55
 
--- where a quoted text stands: between spellings of bytes, behind a backslash, or behind one or two octal digits
+-- where a quoted text stands: between spellings of bytes, after a backslash, or after one or two octal digits
 pub data Quoting : Type 0 where
   Between : Quoting
   Escaping : Quoting
@@ -110,7 +110,7 @@ abbrev pub with_byte : ℕ → Option (Bytes × Bytes) → Option (Bytes × Byte
 with_byte b None = None
 with_byte b (Some x) = Some (b ∷ x.0, x.1)
 
--- a quoted text behind its first quote: the bytes that it stands for, and what follows the quote that ends it
+-- a quoted text after its first quote: the bytes that it stands for, and what follows the quote that ends it
 abbrev pub unquoted : Quoting → Bytes → Option (Bytes × Bytes)
 unquoted q [] = None
 unquoted q (b ∷ bs) = elim (turn q b) [
@@ -129,7 +129,7 @@ judged_path bytes (Some fault) = Err BadPath
 unfoldable pub path_by : Bytes → Result Bytes Why
 path_by bytes = judged_path bytes (path_fault bytes)
 
--- behind a quoted path nothing follows at the end of a line, and a space before another path
+-- after a quoted path nothing follows at the end of a line, and a space before another path
 abbrev pub may_follow : Place → Bytes → Bool
 may_follow Last rest = is_empty rest
 may_follow Source rest = is_empty rest || begins (codes " ") rest
@@ -184,9 +184,9 @@ unfoldable pub content_in : Mode → Bytes → Result RawContent Why
 content_in mode text =
     if begins (codes ":") text then (mark_in text >>= λ mark. marked_content mode mark) else
     if bytes_eq text (codes "inline") then inline_content mode else
-    if is_left_out_id text then Err LeftOut else (due BadMark (as_object text) >>= λ digits. Ok (Object digits))
+    if is_left_out_id text then Err LeftOut else (or_defect BadMark (as_object text) >>= λ digits. Ok (Object digits))
 
--- a path that ends its line, behind a space
+-- a path that ends its line, after a space
 unfoldable pub last_path_in : Option Bytes → Result Bytes Why
 last_path_in None = Err BadPath
 last_path_in (Some text) = path_in Last text >>= λ p. Ok p.0
@@ -195,16 +195,16 @@ last_path_in (Some text) = path_in Last text >>= λ p. Ok p.0
 unfoldable pub modify_in : Bytes → Result RawOp Why
 modify_in text =
     mode_in (first_word text) >>= λ mode.
-    due BadMark (behind_space text) >>= λ fields.
+    or_defect BadMark (after_space text) >>= λ fields.
     content_in mode (first_word fields) >>= λ content.
-    last_path_in (behind_space fields) >>= λ path.
+    last_path_in (after_space fields) >>= λ path.
     Ok (Modify mode content path)
 
 -- `SOURCE TARGET`
 unfoldable pub paths_in : Bytes → Result (Bytes × Bytes) Why
 paths_in text =
     path_in Source text >>= λ source.
-    last_path_in (behind_space (drop source.1 text)) >>= λ target.
+    last_path_in (after_space (drop source.1 text)) >>= λ target.
     Ok (source.0, target)
 
 -- a line whose first word has a meaning elsewhere that is left out
@@ -219,10 +219,10 @@ unfoldable pub op_in : Bytes → Result RawOp Why
 op_in line =
     let word = first_word line in
     if bytes_eq line (codes "deleteall") then Ok DeleteAll else
-    if bytes_eq word (codes "M") then (due BadMode (behind_space line) >>= λ text. modify_in text) else
-    if bytes_eq word (codes "D") then (last_path_in (behind_space line) >>= λ path. Ok (Delete path)) else
-    if bytes_eq word (codes "C") then (due BadPath (behind_space line) >>= λ text. paths_in text >>= λ p. Ok (Copy p.0 p.1)) else
-    if bytes_eq word (codes "R") then (due BadPath (behind_space line) >>= λ text. paths_in text >>= λ p. Ok (Rename p.0 p.1)) else
+    if bytes_eq word (codes "M") then (or_defect BadMode (after_space line) >>= λ text. modify_in text) else
+    if bytes_eq word (codes "D") then (last_path_in (after_space line) >>= λ path. Ok (Delete path)) else
+    if bytes_eq word (codes "C") then (or_defect BadPath (after_space line) >>= λ text. paths_in text >>= λ p. Ok (Copy p.0 p.1)) else
+    if bytes_eq word (codes "R") then (or_defect BadPath (after_space line) >>= λ text. paths_in text >>= λ p. Ok (Rename p.0 p.1)) else
     if is_left_out_word word then Err LeftOut else Err UnknownLine
 
 -- ---- data
@@ -232,7 +232,7 @@ pub data Extent : Type 0 where
   Counted : ℕ → Extent
   Delimited : Bytes → Extent
 
--- a delimiter of one byte or more, behind `<<`
+-- a delimiter of one byte or more, after `<<`
 abbrev pub delimiter_in : Bytes → Result Bytes Why
 delimiter_in (a ∷ b ∷ c ∷ cs) = if (a == 60) && (b == 60) then Ok (c ∷ cs) else Err BadData
 delimiter_in other = Err BadData
@@ -241,15 +241,15 @@ abbrev pub extent_by : Bytes → Option ℕ → Result Extent Why
 extent_by text (Some n) = Ok (Counted n)
 extent_by text None = delimiter_in text >>= λ delimiter. Ok (Delimited delimiter)
 
--- what stands behind the word `data` and a space
+-- what stands after the word `data` and a space
 unfoldable pub data_text : Bytes → Option Bytes
-data_text line = if bytes_eq (first_word line) (codes "data") then behind_space line else None
+data_text line = if bytes_eq (first_word line) (codes "data") then after_space line else None
 
 -- the line `data COUNT` or `data <<DELIMITER`
 unfoldable pub extent_in : Bytes → Result Extent Why
-extent_in line = due BadData (data_text line) >>= λ text. extent_by text (number_of text)
+extent_in line = or_defect BadData (data_text line) >>= λ text. extent_by text (number_of text)
 
--- The lines up to the first that equals the delimiter, and what stands behind it. Kept are the lines so far, and
+-- The lines up to the first that equals the delimiter, and what stands after it. Kept are the lines so far, and
 -- what has begun of the next one.
 unfoldable pub delimited : Bytes → Bytes → Bytes → Bytes → Option (Bytes × Bytes)
 delimited delimiter kept begun [] = if bytes_eq begun delimiter then Some (kept, []) else None
@@ -257,18 +257,18 @@ delimited delimiter kept begun (b ∷ bs) =
     if b == 10 then (if bytes_eq begun delimiter then Some (kept, bs) else delimited delimiter (kept ++ begun ++ 10 ∷ []) [] bs)
     else delimited delimiter kept (begun ++ b ∷ []) bs
 
--- a block at the front of a text, and what stands behind it, if the text has all of it
+-- a block at the front of a text, and what stands after it, if the text has all of it
 abbrev pub block_at : Extent → Bytes → Option (Bytes × Bytes)
 block_at (Counted n) text = if nat_le n (length text) then Some (take n text, drop n text) else None
 block_at (Delimited delimiter) text = delimited delimiter [] [] text
 
 -- a block of this extent
-unfoldable pub block_behind : Result Extent Why → Bytes → Result (Bytes × Bytes) Why
-block_behind extent text = extent >>= λ e. due Truncated (block_at e text)
+unfoldable pub block_after : Result Extent Why → Bytes → Result (Bytes × Bytes) Why
+block_after extent text = extent >>= λ e. or_defect Truncated (block_at e text)
 
--- the block behind its line, and what stands behind it and the LF that may follow
+-- the block after its line, and what stands after it and the LF that may follow
 unfoldable pub block_in : Bytes → Bytes → Result (Bytes × Bytes) Why
-block_in head text = block_behind (extent_in head) text >>= λ x. Ok (x.0, skip_lf x.1)
+block_in head text = block_after (extent_in head) text >>= λ x. Ok (x.0, skip_lf x.1)
 
 -- ---- what can be spelled
 

@@ -30,7 +30,7 @@ abbrev pub cut_parts : Bytes → Option ℕ → Option (Bytes × Bytes)
 cut_parts text (Some i) = Some (take i text, drop (i + 1) text)
 cut_parts text None = None
 
--- what stands before the first such byte, and what stands behind it
+-- what stands before the first such byte, and what stands after it
 unfoldable pub cut_at : ℕ → Bytes → Option (Bytes × Bytes)
 cut_at byte text = cut_parts text (position (λ b. b == byte) text)
 
@@ -50,9 +50,9 @@ line_at (b ∷ bs) = Some (line_cut (b ∷ bs) (position is_lf (b ∷ bs)))
 abbrev pub IsLine : Bytes → Bytes → Bytes → Type 0
 IsLine text line rest = IsTrue (has_no_lf line) × ((text ≡ line ++ 10 ∷ rest) ⊎ ((text ≡ line) × (rest ≡ []) × (1 ≤ length line)))
 
--- what stands behind a word
-unfoldable pub behind : Bytes → Bytes → Option Bytes
-behind word text = if pointwise nat_eq (take (length word) text) word then Some (drop (length word) text) else None
+-- what stands after a word
+unfoldable pub rest_after : Bytes → Bytes → Option Bytes
+rest_after word text = if pointwise nat_eq (take (length word) text) word then Some (drop (length word) text) else None
 
 abbrev pub skip_lf : Bytes → Bytes
 skip_lf [] = []
@@ -60,7 +60,7 @@ skip_lf (b ∷ bs) = if b == 10 then bs else b ∷ bs
 
 -- ---- numbers and marks
 
--- the number that digits say behind others, which say n
+-- the number that digits say after others, which say n
 abbrev pub value_from : ℕ → Bytes → Option ℕ
 value_from n [] = Some n
 value_from n (d ∷ ds) = if is_digit d then value_from (10 * n + (d - 48)) ds else None
@@ -86,7 +86,7 @@ mark_of digits = number_within MAX_MARK digits >>= λ m. as_mark m
 unfoldable pub name_of : Bytes → Option Bytes
 name_of part = if is_empty part then Some [] else if get_or part (length part - 1) 0 == 32 then Some (take (length part - 1) part) else None
 
--- a sign and four digits behind seconds
+-- a sign and four digits after seconds
 unfoldable pub zone_of : ℕ → Bytes → Option When
 zone_of seconds [] = None
 zone_of seconds (sign ∷ zone) =
@@ -96,9 +96,9 @@ zone_of seconds (sign ∷ zone) =
 unfoldable pub when_of : Bytes → Option When
 when_of text = cut_at 32 text >>= λ c. number_within MAX_SECONDS c.0 >>= λ seconds. zone_of seconds c.1
 
--- the moment behind an email and a space
-unfoldable pub when_behind : Bytes → Option When
-when_behind tail = behind (codes " ") tail >>= λ text. when_of text
+-- the moment after an email and a space
+unfoldable pub when_after : Bytes → Option When
+when_after tail = rest_after (codes " ") tail >>= λ text. when_of text
 
 -- a name, an email and what follows the email
 unfoldable pub person_parts : Bytes → Option (Bytes × Bytes × Bytes)

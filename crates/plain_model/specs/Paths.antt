@@ -46,7 +46,7 @@ abbrev pub begins_with_slash : Bytes → Bool
 begins_with_slash [] = false
 begins_with_slash (b ∷ bs) = b == 47
 
--- the second path is the first with a slash and more behind it
+-- the second path is the first with a slash and more after it
 abbrev pub is_below : Bytes → Bytes → Bool
 is_below [] q = begins_with_slash q
 is_below (b ∷ p) [] = false

@@ -91,7 +91,7 @@ IsFormedEvent (Tag id name target tagger comment) = Unit {0}
 IsFormedEvent (Reset id branch target) = Unit {0}
 IsFormedEvent (Pass id line) = Unit {0}
 
--- ---- an event behind earlier ones
+-- ---- an event after earlier ones
 
 abbrev pub IsSoundEvent : List PlainEvent → PlainEvent → Type 0
 IsSoundEvent earlier (Blob id mark bytes) = IsFalse (has_id earlier (any.Blob id)) × IsFalse (is_marked earlier mark)
@@ -106,12 +106,12 @@ IsSoundEvent earlier (Reset id branch target) =
     IsFalse (has_id earlier (any.Reset id)) × IsTrue (is_name branch) × IfSome target (IsCommitOf earlier)
 IsSoundEvent earlier (Pass id line) = IsFalse (has_id earlier (any.Pass id)) × IsTrue (is_passed_line line)
 
-abbrev pub AreSoundBehind : List PlainEvent → List PlainEvent → Type 0
-AreSoundBehind earlier [] = Unit {0}
-AreSoundBehind earlier (e ∷ events) = IsSoundEvent earlier e × AreSoundBehind (earlier ++ e ∷ []) events
+abbrev pub AreSoundAfter : List PlainEvent → List PlainEvent → Type 0
+AreSoundAfter earlier [] = Unit {0}
+AreSoundAfter earlier (e ∷ events) = IsSoundEvent earlier e × AreSoundAfter (earlier ++ e ∷ []) events
 
 -- the whole history
 pub record IsSound (events : List PlainEvent) : Type 0 where
-  pub formed : AreSoundBehind [] events
+  pub formed : AreSoundAfter [] events
   pub spelled : AllByRecursion IsFormedEvent events
   pub trees : (c : ℕ) → IsCommitOf events c → IsSome (tree events c)

@@ -53,7 +53,7 @@ pub enum PlainEvent {
     },
 }
 
-/// A history: events, each behind those that it refers to.
+/// A history: events, each after those that it refers to.
 pub type EventList = Items<PlainEvent>;
 
 impl PlainEvent {

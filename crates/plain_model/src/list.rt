@@ -7,7 +7,7 @@ use itoa::Buffer;
 use std::alloc::{AllocError, AllocFailed, Global};
 use std::marker::Model;
 
-/// Want of memory, and nothing else.
+/// Out of memory, and nothing else.
 #[derive(Clone, Copy, Debug, PartialEq, Eq)]
 pub struct NoMemory;
 
@@ -162,7 +162,7 @@ impl<T> Items<T> {
 }
 
 impl<T: Drop> Items<T> {
-    /// Takes away what stands behind so many items.
+    /// Takes away what stands after so many items.
     pub fn truncate(&mut self, len: usize)
         ensures { self.new ≡ take len self.old }
     {

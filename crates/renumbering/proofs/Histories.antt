@@ -4,7 +4,7 @@ use Rattle.std.proofs.lemmas.Bool.{cases_Bool, eqb-true, true≢false}
 use Rattle.std.specs.Prelude.{IsSome}
 use Rattle.plain_model.specs.Histories.{tree}
 use Rattle.plain_model.specs.Lookups.{AreIdsBelow}
-use Rattle.plain_model.specs.Soundness.{AreSoundBehind, IsCommitOf, IsFormedSigned, IsSound}
+use Rattle.plain_model.specs.Soundness.{AreSoundAfter, IsCommitOf, IsFormedSigned, IsSound}
 use Rattle.event_arena.proofs.MeasureLemmas.{ids-below}
 use Rattle.renumbering.specs.Worked.{ann, counted, falling}
 use Rattle.renumbering.proofs.Sound.{sound_again}
@@ -12,7 +12,7 @@ use Rattle.renumbering.proofs.Sound.{sound_again}
 ann-formed : IsFormedSigned ann
 ann-formed = (refl, lit≤ tt, lit≤ tt)
 
-formed : AreSoundBehind [] falling
+formed : AreSoundAfter [] falling
 formed = (
   (refl, refl),
   (

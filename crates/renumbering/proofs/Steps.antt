@@ -21,12 +21,12 @@ use Rattle.renumbering.proofs.Kept.{has_id_same}
 -- ---- one event
 
 -- an event without a mark takes none
-pub unmarked : (due : ℕ) (e : PlainEvent) → map (λ (m : ℕ × AnyId). m.0) (own_mark e) ≡ [] → (with_mark due e ≡ e) × (length (own_mark e) ≡ 0)
-unmarked due (Blob id mark bytes) h = absurd cc
-unmarked due (Commit id mark branch author committer encoding comment parents ops) h = absurd cc
-unmarked due (Tag id name target tagger comment) h = (refl, refl)
-unmarked due (Reset id branch target) h = (refl, refl)
-unmarked due (Pass id line) h = (refl, refl)
+pub unmarked : (expected : ℕ) (e : PlainEvent) → map (λ (m : ℕ × AnyId). m.0) (own_mark e) ≡ [] → (with_mark expected e ≡ e) × (length (own_mark e) ≡ 0)
+unmarked expected (Blob id mark bytes) h = absurd cc
+unmarked expected (Commit id mark branch author committer encoding comment parents ops) h = absurd cc
+unmarked expected (Tag id name target tagger comment) h = (refl, refl)
+unmarked expected (Reset id branch target) h = (refl, refl)
+unmarked expected (Pass id line) h = (refl, refl)
 
 -- one that has a mark stays as it is, where it gets this mark
 pub record IsMarked (mark : ℕ) (e : PlainEvent) : Type 0 where
@@ -60,19 +60,19 @@ changed-same id f (x ∷ events) e h same = elim (cases_Bool (same_id id (id_of 
 
 -- ---- an event between others
 
--- it is found behind events that lack its id
-find-behind : (xs ys : List PlainEvent) (e : PlainEvent) → find_event (id_of e) xs ≡ None → find_event (id_of e) (xs ++ e ∷ ys) ≡ Some e
-find-behind [] ys e h = rw same_id-refl refl
-find-behind (x ∷ xs) ys e h =
+-- it is found after events that lack its id
+find-after : (xs ys : List PlainEvent) (e : PlainEvent) → find_event (id_of e) xs ≡ None → find_event (id_of e) (xs ++ e ∷ ys) ≡ Some e
+find-after [] ys e h = rw same_id-refl refl
+find-after (x ∷ xs) ys e h =
     let rest = absent-cons (id_of e) x xs h in
-    rw rest.0 (find-behind xs ys e rest.1)
+    rw rest.0 (find-after xs ys e rest.1)
 
 -- and changed there
-changed-behind : (f : PlainEvent → PlainEvent) (xs ys : List PlainEvent) (e : PlainEvent) → find_event (id_of e) xs ≡ None → changed (id_of e) f (xs ++ e ∷ ys) ≡ xs ++ f e ∷ ys
-changed-behind f [] ys e h = rw same_id-refl refl
-changed-behind f (x ∷ xs) ys e h =
+changed-after : (f : PlainEvent → PlainEvent) (xs ys : List PlainEvent) (e : PlainEvent) → find_event (id_of e) xs ≡ None → changed (id_of e) f (xs ++ e ∷ ys) ≡ xs ++ f e ∷ ys
+changed-after f [] ys e h = rw same_id-refl refl
+changed-after f (x ∷ xs) ys e h =
     let rest = absent-cons (id_of e) x xs h in
-    rw rest.0 (ap (λ zs. x ∷ zs) (changed-behind f xs ys e rest.1))
+    rw rest.0 (ap (λ zs. x ∷ zs) (changed-after f xs ys e rest.1))
 
 -- what isn't there isn't there under other marks
 absent-renumbered : (n : ℕ) (events : List PlainEvent) (id : AnyId) → find_event id events ≡ None → find_event id (renumbered_from n events) ≡ None
@@ -112,34 +112,34 @@ abbrev pub so_far : ℕ → List PlainEvent → List PlainEvent
 so_far k events = renumbered (take k events) ++ drop k events
 
 -- the mark that is due there
-abbrev pub due_at : ℕ → List PlainEvent → ℕ
-due_at k events = 1 + length (marks_of (take k events))
+abbrev pub next_at : ℕ → List PlainEvent → ℕ
+next_at k events = 1 + length (marks_of (take k events))
 
 module _ (events : List PlainEvent) (k : ℕ) (e : PlainEvent) (is : slice_get events k ≡ Some e) where
   parts : events ≡ take k events ++ e ∷ drop (suc k) events
   parts = sym (take-append-drop k events) ∙ ap (λ ys. take k events ++ ys) (drop-item events k e is)
 
-  pub due-more : due_at (suc k) events ≡ due_at k events + length (own_mark e)
-  due-more = let more = ap length (flat-take-item own_mark events k e is) in let both = length-append (marks_of (take k events)) (own_mark e) in omega arith
+  pub expected-more : next_at (suc k) events ≡ next_at k events + length (own_mark e)
+  expected-more = let more = ap length (flat-take-item own_mark events k e is) in let both = length-append (marks_of (take k events)) (own_mark e) in omega arith
 
   module _ (once : AreDistinct events) where
     absent : find_event (id_of e) (renumbered (take k events)) ≡ None
     absent = absent-renumbered 1 (take k events) (id_of e) (distinct-absent (take k events) (drop (suc k) events) e (subst AreDistinct parts once))
 
     pub found-so-far : find_event (id_of e) (so_far k events) ≡ Some e
-    found-so-far = ap (λ ys. find_event (id_of e) (renumbered (take k events) ++ ys)) (drop-item events k e is) ∙ find-behind (renumbered (take k events)) (drop (suc k) events) e absent
+    found-so-far = ap (λ ys. find_event (id_of e) (renumbered (take k events) ++ ys)) (drop-item events k e is) ∙ find-after (renumbered (take k events)) (drop (suc k) events) e absent
 
-    pub changed-so-far : changed (id_of e) (with_mark (due_at k events)) (so_far k events) ≡ so_far (suc k) events
+    pub changed-so-far : changed (id_of e) (with_mark (next_at k events)) (so_far k events) ≡ so_far (suc k) events
     changed-so-far =
-        ap (λ ys. changed (id_of e) (with_mark (due_at k events)) (renumbered (take k events) ++ ys)) (drop-item events k e is)
-        ∙ changed-behind (with_mark (due_at k events)) (renumbered (take k events)) (drop (suc k) events) e absent
-        ∙ sym (append_assoc (renumbered (take k events)) (with_mark (due_at k events) e ∷ []) (drop (suc k) events))
+        ap (λ ys. changed (id_of e) (with_mark (next_at k events)) (renumbered (take k events) ++ ys)) (drop-item events k e is)
+        ∙ changed-after (with_mark (next_at k events)) (renumbered (take k events)) (drop (suc k) events) e absent
+        ∙ sym (append_assoc (renumbered (take k events)) (with_mark (next_at k events) e ∷ []) (drop (suc k) events))
         ∙ ap (λ xs. xs ++ drop (suc k) events) (sym (renumbered-push 1 (take k events) e) ∙ ap renumbered (sym (take-item events k e is)))
 
     -- an event is found by its id
     pub found-there : find_event (id_of e) events ≡ Some e
     found-there =
-        ap (find_event (id_of e)) parts ∙ find-behind (take k events) (drop (suc k) events) e (distinct-absent (take k events) (drop (suc k) events) e (subst AreDistinct parts once))
+        ap (find_event (id_of e)) parts ∙ find-after (take k events) (drop (suc k) events) e (distinct-absent (take k events) (drop (suc k) events) e (subst AreDistinct parts once))
 
 -- ---- the event with a number, from 1
 

@@ -5,13 +5,13 @@ use Rattle.plain_model.specs.declared.event.PlainEvent.TheVariants.{Blob, Commit
 
 -- the events, whose marks go on from the one that is due
 abbrev pub renumbered_from : ℕ → List PlainEvent → List PlainEvent
-renumbered_from due [] = []
-renumbered_from due (Blob id mark bytes ∷ events) = Blob id due bytes ∷ renumbered_from (due + 1) events
-renumbered_from due (Commit id mark branch author committer encoding comment parents ops ∷ events) =
-    Commit id due branch author committer encoding comment parents ops ∷ renumbered_from (due + 1) events
-renumbered_from due (Tag id name target tagger comment ∷ events) = Tag id name target tagger comment ∷ renumbered_from due events
-renumbered_from due (Reset id branch target ∷ events) = Reset id branch target ∷ renumbered_from due events
-renumbered_from due (Pass id line ∷ events) = Pass id line ∷ renumbered_from due events
+renumbered_from expected [] = []
+renumbered_from expected (Blob id mark bytes ∷ events) = Blob id expected bytes ∷ renumbered_from (expected + 1) events
+renumbered_from expected (Commit id mark branch author committer encoding comment parents ops ∷ events) =
+    Commit id expected branch author committer encoding comment parents ops ∷ renumbered_from (expected + 1) events
+renumbered_from expected (Tag id name target tagger comment ∷ events) = Tag id name target tagger comment ∷ renumbered_from expected events
+renumbered_from expected (Reset id branch target ∷ events) = Reset id branch target ∷ renumbered_from expected events
+renumbered_from expected (Pass id line ∷ events) = Pass id line ∷ renumbered_from expected events
 
 -- the whole history
 abbrev pub renumbered : List PlainEvent → List PlainEvent

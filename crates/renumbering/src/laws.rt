@@ -7,7 +7,7 @@ ghost use Rattle.plain_model.specs.Histories.{tree};
 ghost use Rattle.plain_model.specs.Lookups.{id_of, marks_of};
 ghost use Rattle.plain_model.specs.Snapshots.{refs, shown_tree};
 ghost use Rattle.plain_model.specs.Soundness.{IsSound};
-ghost use Rattle.written_laws.specs.AsRead.{IsAsRead};
+ghost use Rattle.round_trip_laws.specs.AsRead.{IsAsRead};
 ghost use Rattle.renumbering.specs.Renumbered.{renumbered};
 
 /// Blobs and commits, in the order of the list, have the marks 1, 2, 3, ..

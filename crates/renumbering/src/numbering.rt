@@ -45,22 +45,22 @@ fn mark_of(event: &PlainEvent) -> Option<Mark>
     }
 }
 
-// Gives a blob or a commit the mark that is due, and tells the one that is due behind it.
-fn give_mark(plan: &mut Plan, event: &PlainEvent, due: u64) -> Result<u64, NoMemory>
+// Gives a blob or a commit the mark that is due, and tells the one that is due after it.
+fn give_mark(plan: &mut Plan, event: &PlainEvent, expected: u64) -> Result<u64, NoMemory>
     requires there { find_event (id_of event.now) plan.old.after ≡ Some event.now }
-    requires fits { IsMark due }
+    requires fits { IsMark expected }
     ensures given { OnOk result (plan.new ≡ record plan.old {
-      after = changed (id_of event.now) (with_mark due) plan.old.after;
+      after = changed (id_of event.now) (with_mark expected) plan.old.after;
     }) }
-    ensures next { IfOk result (λ next. next ≡ due + length (own_mark event.now)) }
+    ensures next { IfOk result (λ next. next ≡ expected + length (own_mark event.now)) }
 {
     let Some(mark) = mark_of(event) else {
-        return Ok(due);
+        return Ok(expected);
     };
-    if mark.number() != due {
-        plan.set_mark(event.id(), Mark::new(due).unwrap())?;
+    if mark.number() != expected {
+        plan.set_mark(event.id(), Mark::new(expected).unwrap())?;
     }
-    Ok(due + 1)
+    Ok(expected + 1)
 }
 
 // Goes over the events once, and gives each blob and each commit its mark.
@@ -71,9 +71,9 @@ fn give_marks(events: &Events, plan: &mut Plan) -> Result<(), NoMemory>
         (plan.new ≡ record plan.old { after = renumbered events.now.list }) }
     ensures sound { OnOk result (IsSound plan.new.after) }
 {
-    let mut due: u64 = 1;
+    let mut expected: u64 = 1;
     for place in 0..events.count() {
-        due = give_mark(plan, numbered(events, place + 1), due)?;
+        expected = give_mark(plan, numbered(events, place + 1), expected)?;
     }
     Ok(())
 }

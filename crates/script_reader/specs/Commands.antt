@@ -5,7 +5,7 @@ use Rattle.plain_model.specs.declared.fault.Fault.{Fault}
 use Rattle.plain_model.specs.declared.fault.Fault.TheVariants as fault
 use Rattle.script_reader.specs.Names.{repo_name, is_repo_name}
 use Rattle.script_reader.specs.Redirections.{begins_with_sign, redirected}
-use Rattle.script_reader.specs.Words.{head_of, behind_head, words_of, text_of}
+use Rattle.script_reader.specs.Words.{head_of, after_head, words_of, text_of}
 use Rattle.script_reader.specs.declared.command.Command.{Command}
 use Rattle.script_reader.specs.declared.command.Command.TheVariants as command
 use Rattle.script_reader.specs.declared.keyword.Keyword.{Keyword}
@@ -14,7 +14,7 @@ use Rattle.script_reader.specs.declared.redirection.Direction.TheVariants.{Input
 use Rattle.script_reader.specs.declared.word.Word.{Word}
 use Rattle.script_reader.specs.declared.word.Word.TheVariants.{Plain, Quoted, Broken}
 
--- a step behind one that may be refused
+-- a step after one that may be refused
 infixl 10 ◌>>=◌
 abbrev pub ◌>>=◌ : {A B : Type 0} → Result A Fault → (A → Result B Fault) → Result B Fault
 Ok x >>= f = f x
@@ -39,7 +39,7 @@ name_in (Plain text) = if begins_with_sign text then None else Some text
 name_in (Quoted text) = Some text
 name_in (Broken rest) = None
 
--- a value behind which no word stands
+-- a value after which no word stands
 abbrev pub alone : {A : Type 0} → A → List Word → Result A Fault
 alone x [] = Ok x
 alone x (word ∷ words) = at_fault word
@@ -107,7 +107,7 @@ index_form words = output_in words >>= λ to. Ok (command.Index to)
 unfoldable pub names_form : List Word → Result Command Fault
 names_form words = output_in words >>= λ to. Ok (command.Names to)
 
--- the command of a command word and the words behind it
+-- the command of a command word and the words after it
 abbrev pub form_of : Keyword → List Word → Result Command Fault
 form_of keyword.Read words = read_form words
 form_of keyword.Write words = write_form words
@@ -140,4 +140,4 @@ command_in head (Some word) words = form_of word words
 -- The command of a line that was trimmed: its command word goes up to the first blank. A line that doesn't begin with
 -- a letter has none of these words.
 unfoldable pub command_of : Bytes → Result Command Fault
-command_of line = command_in (head_of line) (keyword_of (head_of line)) (words_of (behind_head line))
+command_of line = command_in (head_of line) (keyword_of (head_of line)) (words_of (after_head line))

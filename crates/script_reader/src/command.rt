@@ -53,10 +53,10 @@ impl Command {
     pub fn read(alloc: Global, line: &str) -> Result<Command, Halt>
         ensures { Answers (λ command. command) result (command_of line.now) }
     {
-        let (head, behind) = cut_head(line);
+        let (head, after) = cut_head(line);
         match Keyword::of(head.as_bytes()) {
             Some(keyword) => {
-                let words = words_in(alloc, behind)?;
+                let words = words_in(alloc, after)?;
                 form(alloc, keyword, words.as_slice())
             }
             None => Err(unknown(alloc, head)),

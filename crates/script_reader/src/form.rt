@@ -1,4 +1,4 @@
-//! The forms of the commands: what may stand behind each command word.
+//! The forms of the commands: what may stand after each command word.
 ghost use Rattle.std.specs.Prelude.{◌≡◌, IfOk, Some};
 ghost use Rattle.plain_model.specs.declared.fault.Fault.TheVariants.{BadWords};
 ghost use Rattle.script_reader.specs.Answering.{Answers, Refuses};
@@ -193,7 +193,7 @@ fn names(alloc: Global, words: &[Word]) -> Result<Command, Halt>
     Ok(Command::Names { to })
 }
 
-/// The command of a command word and the words behind it.
+/// The command of a command word and the words after it.
 pub fn form(alloc: Global, keyword: Keyword, words: &[Word]) -> Result<Command, Halt>
     ensures { Answers (λ command. command) result (form_of keyword words.now) }
 {

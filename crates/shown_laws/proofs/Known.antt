@@ -12,7 +12,7 @@ use Rattle.plain_model.specs.declared.event.PlainEvent.{PlainEvent}
 use Rattle.plain_model.specs.declared.event.PlainEvent.TheVariants.{Blob, Commit, Tag, Reset, Pass}
 use Rattle.plain_model.specs.Names.{is_name}
 use Rattle.plain_model.specs.Trees.{TreeOf, has, put}
-use Rattle.plain_model.specs.Soundness.{AreSoundBehind, IsCommitOf, IsFormedEvent, IsFormedSigned, IsSoundEvent, RefersBack, has_id, is_passed_line}
+use Rattle.plain_model.specs.Soundness.{AreSoundAfter, IsCommitOf, IsFormedEvent, IsFormedSigned, IsSoundEvent, RefersBack, has_id, is_passed_line}
 use Rattle.plain_model.specs.Streams.{is_marked}
 use Rattle.shown_laws.specs.AsWritten.{reset_from}
 use Rattle.shown_laws.proofs.Tips.{without_branch}
@@ -61,7 +61,7 @@ module _ (earlier more : List PlainEvent) where
   ops_known [] h = tt
   ops_known (op ∷ ops) h = (op_known op h.0, ops_known ops h.1)
 
--- an event behind earlier ones, and before others
+-- an event after earlier ones, and before others
 event_known : (earlier : List PlainEvent) (e : PlainEvent) (events : List PlainEvent) → IsSoundEvent earlier e → IsKnown (earlier ++ e ∷ events) e
 event_known earlier (Blob id mark bytes) events h = tt
 event_known earlier (Commit id mark branch author committer encoding comment parents ops) events h = (
@@ -74,16 +74,16 @@ event_known earlier (Reset id branch None) events h = tt
 event_known earlier (Reset id branch (Some c)) events h = has_id_still earlier (Reset id branch (Some c) ∷ events) (any.Commit c) h.2
 event_known earlier (Pass id line) events h = tt
 
-known_behind : (earlier events : List PlainEvent) → AreSoundBehind earlier events → AreKnown (earlier ++ events) events
-known_behind earlier [] h = tt
-known_behind earlier (e ∷ events) h = (
+known_after : (earlier events : List PlainEvent) → AreSoundAfter earlier events → AreKnown (earlier ++ events) events
+known_after earlier [] h = tt
+known_after earlier (e ∷ events) h = (
   event_known earlier e events h.0,
-  subst (λ (w : List PlainEvent). AreKnown w events) (append_assoc earlier (e ∷ []) events) (known_behind (earlier ++ e ∷ []) events h.1),
+  subst (λ (w : List PlainEvent). AreKnown w events) (append_assoc earlier (e ∷ []) events) (known_after (earlier ++ e ∷ []) events h.1),
 )
 
 -- in a sound history each referent is there
-pub all_known : (events : List PlainEvent) → AreSoundBehind [] events → AreKnown events events
-all_known events h = known_behind [] events h
+pub all_known : (events : List PlainEvent) → AreSoundAfter [] events → AreKnown events events
+all_known events h = known_after [] events h
 
 -- ---- a property of each event stays, if a reset has it where a commit on its branch has
 
@@ -118,9 +118,9 @@ IsFitEvent earlier (Tag id name target tagger comment) = IsTrue (is_name name) �
 IsFitEvent earlier (Reset id branch target) = IsTrue (is_name branch) × IfSome target (IsCommitOf earlier)
 IsFitEvent earlier (Pass id line) = IsTrue (is_passed_line line)
 
-abbrev pub AreFitBehind : List PlainEvent → List PlainEvent → Type 0
-AreFitBehind earlier [] = Unit {0}
-AreFitBehind earlier (e ∷ events) = IsFitEvent earlier e × AreFitBehind (earlier ++ e ∷ []) events
+abbrev pub AreFitAfter : List PlainEvent → List PlainEvent → Type 0
+AreFitAfter earlier [] = Unit {0}
+AreFitAfter earlier (e ∷ events) = IsFitEvent earlier e × AreFitAfter (earlier ++ e ∷ []) events
 
 -- the two have the same blobs, commits and marks
 record AreAlike (old new : List PlainEvent) : Type 0 where
@@ -179,38 +179,38 @@ module _ (old new : List PlainEvent) (a : AreAlike old new) where
   event_fit (Reset id branch (Some c)) h = (h.1, sym (a.commits c) ∙ h.2)
   event_fit (Pass id line) h = h.1
 
-fit_behind : (old new : List PlainEvent) → AreAlike old new → (tips : TreeOf ℕ) (events : List PlainEvent) → AreSoundBehind old events → AreFitBehind new (reset_from tips events)
-fit_behind old new a tips [] h = tt
-fit_behind old new a tips (Commit id mark branch author committer encoding comment [] ops ∷ events) h =
-    go (has tips branch) (λ new a. fit_behind (old ++ Commit id mark branch author committer encoding comment [] ops ∷ []) (new ++ Commit id mark branch author committer encoding comment [] ops ∷ []) (alike_more old new _ a) (put branch id tips) events h.1)
+fit_after : (old new : List PlainEvent) → AreAlike old new → (tips : TreeOf ℕ) (events : List PlainEvent) → AreSoundAfter old events → AreFitAfter new (reset_from tips events)
+fit_after old new a tips [] h = tt
+fit_after old new a tips (Commit id mark branch author committer encoding comment [] ops ∷ events) h =
+    go (has tips branch) (λ new a. fit_after (old ++ Commit id mark branch author committer encoding comment [] ops ∷ []) (new ++ Commit id mark branch author committer encoding comment [] ops ∷ []) (alike_more old new _ a) (put branch id tips) events h.1)
   where
     e : PlainEvent
     e = Commit id mark branch author committer encoding comment [] ops
 
-    go : (b : Bool) → ((new : List PlainEvent) → AreAlike old new → AreFitBehind (new ++ e ∷ []) (reset_from (put branch id tips) events))
-        → AreFitBehind new ((if b then Reset 0 branch None ∷ [] else []) ++ e ∷ reset_from (put branch id tips) events)
+    go : (b : Bool) → ((new : List PlainEvent) → AreAlike old new → AreFitAfter (new ++ e ∷ []) (reset_from (put branch id tips) events))
+        → AreFitAfter new ((if b then Reset 0 branch None ∷ [] else []) ++ e ∷ reset_from (put branch id tips) events)
     go true rest =
         let alike = alike_reset old new branch a in
         ((h.0.2, tt), (event_fit old (new ++ Reset 0 branch None ∷ []) alike e h.0, rest (new ++ Reset 0 branch None ∷ []) alike))
     go false rest = (event_fit old new a e h.0, rest new a)
-fit_behind old new a tips (Commit id mark branch author committer encoding comment (p ∷ ps) ops ∷ events) h =
+fit_after old new a tips (Commit id mark branch author committer encoding comment (p ∷ ps) ops ∷ events) h =
     let e : PlainEvent = Commit id mark branch author committer encoding comment (p ∷ ps) ops in
-    (event_fit old new a e h.0, fit_behind (old ++ e ∷ []) (new ++ e ∷ []) (alike_more old new e a) (put branch id tips) events h.1)
-fit_behind old new a tips (Blob id mark bytes ∷ events) h =
+    (event_fit old new a e h.0, fit_after (old ++ e ∷ []) (new ++ e ∷ []) (alike_more old new e a) (put branch id tips) events h.1)
+fit_after old new a tips (Blob id mark bytes ∷ events) h =
     let e : PlainEvent = Blob id mark bytes in
-    (event_fit old new a e h.0, fit_behind (old ++ e ∷ []) (new ++ e ∷ []) (alike_more old new e a) tips events h.1)
-fit_behind old new a tips (Tag id name target tagger comment ∷ events) h =
+    (event_fit old new a e h.0, fit_after (old ++ e ∷ []) (new ++ e ∷ []) (alike_more old new e a) tips events h.1)
+fit_after old new a tips (Tag id name target tagger comment ∷ events) h =
     let e : PlainEvent = Tag id name target tagger comment in
-    (event_fit old new a e h.0, fit_behind (old ++ e ∷ []) (new ++ e ∷ []) (alike_more old new e a) tips events h.1)
-fit_behind old new a tips (Reset id branch None ∷ events) h =
+    (event_fit old new a e h.0, fit_after (old ++ e ∷ []) (new ++ e ∷ []) (alike_more old new e a) tips events h.1)
+fit_after old new a tips (Reset id branch None ∷ events) h =
     let e : PlainEvent = Reset id branch None in
-    (event_fit old new a e h.0, fit_behind (old ++ e ∷ []) (new ++ e ∷ []) (alike_more old new e a) (without_branch branch tips) events h.1)
-fit_behind old new a tips (Reset id branch (Some c) ∷ events) h =
+    (event_fit old new a e h.0, fit_after (old ++ e ∷ []) (new ++ e ∷ []) (alike_more old new e a) (without_branch branch tips) events h.1)
+fit_after old new a tips (Reset id branch (Some c) ∷ events) h =
     let e : PlainEvent = Reset id branch (Some c) in
-    (event_fit old new a e h.0, fit_behind (old ++ e ∷ []) (new ++ e ∷ []) (alike_more old new e a) (put branch c tips) events h.1)
-fit_behind old new a tips (Pass id line ∷ events) h =
+    (event_fit old new a e h.0, fit_after (old ++ e ∷ []) (new ++ e ∷ []) (alike_more old new e a) (put branch c tips) events h.1)
+fit_after old new a tips (Pass id line ∷ events) h =
     let e : PlainEvent = Pass id line in
-    (event_fit old new a e h.0, fit_behind (old ++ e ∷ []) (new ++ e ∷ []) (alike_more old new e a) tips events h.1)
+    (event_fit old new a e h.0, fit_after (old ++ e ∷ []) (new ++ e ∷ []) (alike_more old new e a) tips events h.1)
 
-pub fit_with_resets : (tips : TreeOf ℕ) (events : List PlainEvent) → AreSoundBehind [] events → AreFitBehind [] (reset_from tips events)
-fit_with_resets tips events h = fit_behind [] [] (record { blobs = λ b. refl; commits = λ c. refl; marks = λ m. refl }) tips events h
+pub fit_with_resets : (tips : TreeOf ℕ) (events : List PlainEvent) → AreSoundAfter [] events → AreFitAfter [] (reset_from tips events)
+fit_with_resets tips events h = fit_after [] [] (record { blobs = λ b. refl; commits = λ c. refl; marks = λ m. refl }) tips events h

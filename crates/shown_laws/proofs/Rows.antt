@@ -2,21 +2,21 @@
 use Rattle.std.proofs.Common.{IsSome, ◌≡◌, ◌==◌, ◌||◌, Bool, true, false, Some, None, cond, refl, arith}
 use Rattle.std.specs.Fmt.{digits}
 use Rattle.plain_model.specs.Numbers.{decimal_of}
-use Rattle.plain_model.specs.Parts.{cut_at, number_of, number_within, mark_of, name_of, zone_of, when_of, when_behind, person_parts, behind}
+use Rattle.plain_model.specs.Parts.{cut_at, number_of, number_within, mark_of, name_of, zone_of, when_of, when_after, person_parts, rest_after}
 use Rattle.plain_model.specs.Fields.{mark_in, name_in, person_in, turn, path_by, quoted_path, path_in, mode_in, content_in, last_path_in, extent_in, data_text}
 use Rattle.plain_model.specs.Text.{text}
 use Rattle.plain_model.specs.Trees.{Tree}
 use Rattle.stream_grammar.specs.Lines.{history_in}
 use Rattle.stream_grammar.specs.Worked.{lines}
 use Rattle.plain_model.specs.Soundness.{IsSound}
-use Rattle.shown_laws.specs.Worked.{root_behind_a_reset, root_on_a_tip, root_on_a_tip_lines}
+use Rattle.shown_laws.specs.Worked.{root_after_a_reset, root_on_a_tip, root_on_a_tip_lines}
 
 pub is_written : text root_on_a_tip ≡ lines root_on_a_tip_lines
 unfolding digits decimal_of
 is_written = refl
 
-pub is_read : history_in (lines root_on_a_tip_lines) ≡ Some root_behind_a_reset
-unfolding cut_at number_of number_within mark_of name_of zone_of when_of when_behind person_parts behind mark_in name_in person_in turn path_by quoted_path path_in mode_in content_in last_path_in extent_in data_text
+pub is_read : history_in (lines root_on_a_tip_lines) ≡ Some root_after_a_reset
+unfolding cut_at number_of number_within mark_of name_of zone_of when_of when_after person_parts rest_after mark_in name_in person_in turn path_by quoted_path path_in mode_in content_in last_path_in extent_in data_text
 is_read = refl
 
 -- each of the three commits has a tree

@@ -13,12 +13,12 @@ use Rattle.plain_model.specs.declared.event.PlainEvent.{PlainEvent}
 use Rattle.plain_model.specs.declared.event.PlainEvent.TheVariants.{Blob, Commit, Tag, Reset, Pass}
 use Rattle.plain_model.specs.Lookups.{id_of, id_number, place_of, same_id}
 use Rattle.plain_model.specs.Snapshots.{refs, refs_after}
-use Rattle.plain_model.specs.Soundness.{AreSoundBehind, IsCommitOf, IsFormedEvent, IsFormedOp, IsSoundEvent, RefersBack, are_distinct, has_id}
+use Rattle.plain_model.specs.Soundness.{AreSoundAfter, IsCommitOf, IsFormedEvent, IsFormedOp, IsSoundEvent, RefersBack, are_distinct, has_id}
 use Rattle.plain_model.specs.Trees.{TreeOf, put}
-use Rattle.written_laws.specs.AsRead.{AreRootedBehind, IsRooted}
+use Rattle.round_trip_laws.specs.AsRead.{AreRootedAfter, IsRooted}
 use Rattle.shown_laws.specs.AsWritten.{place, renamed, renamed_from, renamed_op}
 use Rattle.shown_laws.proofs.Ids.{has_id_step, id_below, same_id-refl}
-use Rattle.shown_laws.proofs.Known.{AreFitBehind, IsFitEvent}
+use Rattle.shown_laws.proofs.Known.{AreFitAfter, IsFitEvent}
 use Rattle.shown_laws.proofs.Places.{Agree, agree_front, append_under, blob_under, commit_under, length_under, marks_under, one_place, placed}
 use Rattle.shown_laws.proofs.Resets.{AreRootedOn, IsRootedOn}
 
@@ -82,31 +82,31 @@ module _ (whole : List PlainEvent) where
   abbrev commit_in : ℕ → ℕ
   commit_in c = place whole (any.Commit c)
 
-  agree_behind : (earlier events : List PlainEvent) (k : ℕ) → whole ≡ earlier ++ events → k ≡ length earlier + 1 → AreFitBehind earlier events → Agree blob_in commit_in k events
-  agree_behind earlier [] k w is h = tt
-  agree_behind earlier (Blob id mark bytes ∷ events) k w is h =
+  agree_after : (earlier events : List PlainEvent) (k : ℕ) → whole ≡ earlier ++ events → k ≡ length earlier + 1 → AreFitAfter earlier events → Agree blob_in commit_in k events
+  agree_after earlier [] k w is h = tt
+  agree_after earlier (Blob id mark bytes ∷ events) k w is h =
       let e : PlainEvent = Blob id mark bytes in (
         ap (λ (l : List PlainEvent). place l (any.Blob id)) w ∙ place_is earlier events e k is h.0.0,
-        agree_behind (earlier ++ e ∷ []) events (suc k) (w ∙ sym (append_assoc earlier (e ∷ []) events)) (more earlier e k is) h.1,
+        agree_after (earlier ++ e ∷ []) events (suc k) (w ∙ sym (append_assoc earlier (e ∷ []) events)) (more earlier e k is) h.1,
       )
-  agree_behind earlier (Commit id mark branch author committer encoding comment parents ops ∷ events) k w is h =
+  agree_after earlier (Commit id mark branch author committer encoding comment parents ops ∷ events) k w is h =
       let e : PlainEvent = Commit id mark branch author committer encoding comment parents ops in (
         ap (λ (l : List PlainEvent). place l (any.Commit id)) w ∙ place_is earlier events e k is h.0.0,
-        agree_behind (earlier ++ e ∷ []) events (suc k) (w ∙ sym (append_assoc earlier (e ∷ []) events)) (more earlier e k is) h.1,
+        agree_after (earlier ++ e ∷ []) events (suc k) (w ∙ sym (append_assoc earlier (e ∷ []) events)) (more earlier e k is) h.1,
       )
-  agree_behind earlier (Tag id name target tagger comment ∷ events) k w is h =
+  agree_after earlier (Tag id name target tagger comment ∷ events) k w is h =
       let e : PlainEvent = Tag id name target tagger comment in
-      agree_behind (earlier ++ e ∷ []) events (suc k) (w ∙ sym (append_assoc earlier (e ∷ []) events)) (more earlier e k is) h.1
-  agree_behind earlier (Reset id branch target ∷ events) k w is h =
+      agree_after (earlier ++ e ∷ []) events (suc k) (w ∙ sym (append_assoc earlier (e ∷ []) events)) (more earlier e k is) h.1
+  agree_after earlier (Reset id branch target ∷ events) k w is h =
       let e : PlainEvent = Reset id branch target in
-      agree_behind (earlier ++ e ∷ []) events (suc k) (w ∙ sym (append_assoc earlier (e ∷ []) events)) (more earlier e k is) h.1
-  agree_behind earlier (Pass id line ∷ events) k w is h =
+      agree_after (earlier ++ e ∷ []) events (suc k) (w ∙ sym (append_assoc earlier (e ∷ []) events)) (more earlier e k is) h.1
+  agree_after earlier (Pass id line ∷ events) k w is h =
       let e : PlainEvent = Pass id line in
-      agree_behind (earlier ++ e ∷ []) events (suc k) (w ∙ sym (append_assoc earlier (e ∷ []) events)) (more earlier e k is) h.1
+      agree_after (earlier ++ e ∷ []) events (suc k) (w ∙ sym (append_assoc earlier (e ∷ []) events)) (more earlier e k is) h.1
 
 -- the ids of blobs and commits become their places
-pub places_agree : (events : List PlainEvent) → AreFitBehind [] events → Agree (λ b. place events (any.Blob b)) (λ c. place events (any.Commit c)) 1 events
-places_agree events h = agree_behind events [] events 1 refl refl h
+pub places_agree : (events : List PlainEvent) → AreFitAfter [] events → Agree (λ b. place events (any.Blob b)) (λ c. place events (any.Commit c)) 1 events
+places_agree events h = agree_after events [] events 1 refl refl h
 
 -- ---- soundness
 
@@ -182,16 +182,16 @@ module _ (blob commit : ℕ → ℕ) where
     event_sound k is (Reset id branch (Some c)) h = (fresh k (any.Reset k) is refl, h.0, commit_under blob commit 1 c old agree h.1)
     event_sound k is (Pass id line) h = (fresh k (any.Pass k) is refl, h)
 
-  sound_behind : (old events : List PlainEvent) (k : ℕ) → Agree blob commit 1 (old ++ events) → k ≡ 1 + length old → AreFitBehind old events → AreSoundBehind (under 1 old) (under k events)
-  sound_behind old [] k a is h = tt
-  sound_behind old (e ∷ events) k a is h = (
+  sound_after : (old events : List PlainEvent) (k : ℕ) → Agree blob commit 1 (old ++ events) → k ≡ 1 + length old → AreFitAfter old events → AreSoundAfter (under 1 old) (under k events)
+  sound_after old [] k a is h = tt
+  sound_after old (e ∷ events) k a is h = (
     event_sound old (agree_front blob commit 1 old (e ∷ events) a) k is e h.0,
-    subst (λ (l : List PlainEvent). AreSoundBehind l (under (suc k) events)) (append_under blob commit 1 k old (e ∷ []) is)
-        (sound_behind (old ++ e ∷ []) events (suc k) (subst (λ (l : List PlainEvent). Agree blob commit 1 l) (sym (append_assoc old (e ∷ []) events)) a) (one_more old e k is) h.1),
+    subst (λ (l : List PlainEvent). AreSoundAfter l (under (suc k) events)) (append_under blob commit 1 k old (e ∷ []) is)
+        (sound_after (old ++ e ∷ []) events (suc k) (subst (λ (l : List PlainEvent). Agree blob commit 1 l) (sym (append_assoc old (e ∷ []) events)) a) (one_more old e k is) h.1),
   )
 
-  pub sound_under : (events : List PlainEvent) → Agree blob commit 1 events → AreFitBehind [] events → AreSoundBehind [] (under 1 events)
-  sound_under events a h = sound_behind [] events 1 a refl h
+  pub sound_under : (events : List PlainEvent) → Agree blob commit 1 events → AreFitAfter [] events → AreSoundAfter [] (under 1 events)
+  sound_under events a h = sound_after [] events 1 a refl h
 
   -- ---- commits by their new ids
 
@@ -259,9 +259,9 @@ event_rooted earlier (Tag id name target tagger comment) h = tt
 event_rooted earlier (Reset id branch target) h = tt
 event_rooted earlier (Pass id line) h = tt
 
-pub rooted_behind : (earlier events : List PlainEvent) → AreRootedOn (refs earlier) events → AreRootedBehind earlier events
-rooted_behind earlier [] h = tt
-rooted_behind earlier (e ∷ events) h = (
+pub rooted_after : (earlier events : List PlainEvent) → AreRootedOn (refs earlier) events → AreRootedAfter earlier events
+rooted_after earlier [] h = tt
+rooted_after earlier (e ∷ events) h = (
   event_rooted earlier e h.0,
-  rooted_behind (earlier ++ e ∷ []) events (subst (λ (t : TreeOf ℕ). AreRootedOn t events) (sym (refs_append [] earlier (e ∷ []))) h.1),
+  rooted_after (earlier ++ e ∷ []) events (subst (λ (t : TreeOf ℕ). AreRootedOn t events) (sym (refs_append [] earlier (e ∷ []))) h.1),
 )

@@ -11,15 +11,15 @@ use Rattle.plain_model.specs.Snapshots.{commit_mark, map_tree, refs, shown, show
 use Rattle.plain_model.specs.Soundness.{IsCommitOf, IsSound}
 use Rattle.plain_model.specs.Text.{end_text, line, text, text_from}
 use Rattle.stream_grammar.specs.Lines.{history_in}
-use Rattle.stream_replay.specs.Replay.{replay_in}
-use Rattle.written_laws.specs.AsRead.{IsAsRead}
+use Rattle.replay_laws.specs.Replay.{replay_in}
+use Rattle.round_trip_laws.specs.AsRead.{IsAsRead}
 use Rattle.shown_laws.specs.AsWritten.{as_written, place, with_resets}
 use Rattle.shown_laws.specs.Showing.{IsShownBy}
-use Rattle.shown_laws.proofs.Known.{AreFitBehind, AreKnown, all_known, fit_with_resets, formed_with_resets, known_with_resets}
+use Rattle.shown_laws.proofs.Known.{AreFitAfter, AreKnown, all_known, fit_with_resets, formed_with_resets, known_with_resets}
 use Rattle.shown_laws.proofs.Places.{Agree, blob_mark_under, bytes_under, commit_mark_under, one_place, placed, promise_under}
 use Rattle.shown_laws.proofs.Resets.{blob_mark_same, blob_same, bytes_same, commit_mark_same, commit_same, commits_same, nodes_same, promise_same, refs_same, resets_root, tags_same, text_from_same}
 use Rattle.shown_laws.proofs.Seen.{IsSeenAlike, commits_alike, nodes_under, refs_alike, rooted_alike, shown_alike, tags_alike, text_alike, under_node}
-use Rattle.shown_laws.proofs.Sound.{came_from, formed_under, places_agree, rooted_behind, sound_under}
+use Rattle.shown_laws.proofs.Sound.{came_from, formed_under, places_agree, rooted_after, sound_under}
 
 module _ (h : List PlainEvent) (sound : IsSound h) where
   abbrev g : List PlainEvent
@@ -31,7 +31,7 @@ module _ (h : List PlainEvent) (sound : IsSound h) where
   abbrev commit_to : ℕ → ℕ
   commit_to c = place g (any.Commit c)
 
-  fit : AreFitBehind [] g
+  fit : AreFitAfter [] g
   fit = fit_with_resets [] h sound.formed
 
   agree : Agree blob_to commit_to 1 g
@@ -106,7 +106,7 @@ pub is_as_read : (h : List PlainEvent) → IsSound h → IsAsRead (as_written h)
 is_as_read h w = record {
   sound = sound_is h w;
   placed = placed (blob_to h w) (commit_to h w) 1 (g h w);
-  rooted = rooted_behind [] (as_written h)
+  rooted = rooted_after [] (as_written h)
       (rooted_alike (blob_to h w) (commit_to h w) h (as_written h) (alike h w) [] [] refl 1 (g h w) (agree h w) (known h w) (resets_root [] h tt));
 }
 

@@ -5,12 +5,12 @@ ghost use Rattle.plain_model.specs.Snapshots.{snapshot};
 ghost use Rattle.plain_model.specs.Soundness.{IsSound};
 ghost use Rattle.plain_model.specs.Text.{text};
 ghost use Rattle.stream_grammar.specs.Lines.{history_in};
-ghost use Rattle.written_laws.specs.AsRead.{IsAsRead};
+ghost use Rattle.round_trip_laws.specs.AsRead.{IsAsRead};
 ghost use Rattle.shown_laws.specs.AsWritten.{as_written};
 ghost use Rattle.shown_laws.specs.Showing.{IsShownBy};
 
-use stream_replay::replay_shows_the_history;
-use written_laws::what_is_written_is_read_again;
+use replay_laws::replay_shows_the_history;
+use round_trip_laws::what_is_written_is_read_again;
 
 /// Other ids and put-in resets change neither the text of a sound history nor what it shows.
 pub fn ids_and_resets_are_not_shown()

@@ -76,7 +76,7 @@ begun events old current trees left ops b none empty minds = record {
   within = b.within;
 }
 
--- an event that is no commit stands behind the others
+-- an event that is no commit stands after the others
 pub beside : (events new : List PlainEvent) (e : PlainEvent) (current : Open) (trees : Trees) (ops : ℕ) → IsBuilt events current trees ops → new ≡ with_event events e
     → nodes (e ∷ []) ≡ [] → ops_in_event e ≡ 0 → IsBuilt new current trees ops
 beside events new e current trees ops b is none no_ops = record {
@@ -97,15 +97,15 @@ merged_first events old new trees left ops count b all_go is fits minds none = r
   within = fits;
 }
 
--- an event without operations is over, and stands behind the others
+-- an event without operations is over, and stands after the others
 module _ (events new : List PlainEvent) (e : PlainEvent) (trees : Trees) (ops : ℕ) (is : new ≡ with_event events e) (none : nodes (e ∷ []) ≡ []) (no_ops : ops_in_event e ≡ 0) where
   emptied_of : (old : Open) → parents_in old ≡ [] → ops_in old ≡ [] → IsBuilt events old trees ops → IsBuilt new Nothing trees ops
   emptied_of old no_parents empty b =
-      let behind = beside events new e old trees ops b is none no_ops in
+      let after = beside events new e old trees ops b is none no_ops in
       record {
-        minds = subst (λ (l : List FileOp). Minds trees new [] l) empty (subst (λ (l : List ℕ). Minds trees new l (ops_in old)) no_parents behind.minds);
-        counted = let all = behind.counted in let own = open_count old in let zero : length (ops_in old) ≡ 0 = (λ i. length (empty i)) in omega (arith, all, own, zero);
-        within = behind.within;
+        minds = subst (λ (l : List FileOp). Minds trees new [] l) empty (subst (λ (l : List ℕ). Minds trees new l (ops_in old)) no_parents after.minds);
+        counted = let all = after.counted in let own = open_count old in let zero : length (ops_in old) ≡ 0 = (λ i. length (empty i)) in omega (arith, all, own, zero);
+        within = after.within;
       }
 
   pub blob_over : (old : Open) (mark : Option ℕ) → old ≡ Blob mark → IsBuilt events old trees ops → IsBuilt new Nothing trees ops

@@ -1,4 +1,4 @@
--- What is known of the trees behind one more event, and at the beginning of a commit.
+-- What is known of the trees after one more event, and at the beginning of a commit.
 use Rattle.std.proofs.Common.{◌≡◌, ℕ, ◌+◌, ◌<◌, Bool, true, false, cond, List, [], ◌∷◌, ◌++◌, length, Option, Some, None, refl, sym, ap, slice_index_or, subst, ◌∙◌, arith, ne_eqb, eq-eqb}
 use Rattle.std.specs.Prelude.{◌==◌}
 use Rattle.plain_model.specs.declared.event.PlainEvent.{PlainEvent}
@@ -12,7 +12,7 @@ use Rattle.stream_builder.specs.declared.known.OpenTree.{OpenTree}
 use Rattle.stream_builder.specs.declared.known.OpenTree.TheVariants.{NotFolded}
 use Rattle.stream_builder.specs.declared.known.Trees.{Trees}
 use Rattle.stream_builder.specs.Minding.{AreEarlier, HasAtMost, IsEarlier, IsOpened, Minds, open_tree}
-use Rattle.stream_builder.proofs.TreesBehind.{tree_beside, tree_behind}
+use Rattle.stream_builder.proofs.TreesAfter.{tree_beside, tree_after}
 
 -- what a commit begins with has no more paths than any tree
 pub begun_within : (most : ℕ) (events : List PlainEvent) → ((c : ℕ) → HasAtMost most (tree events c)) → (parents : List ℕ) → HasAtMost most (open_tree events parents [])
@@ -41,7 +41,7 @@ module _ (t : Trees) (events : List PlainEvent) (e : PlainEvent) where
       go : (k : KnownTree) → IsEarlier events k → IsEarlier (with_event events e) k
       go k h = (h.0 ∙ sym (same k.commit h.1), let before = h.1 in let more = next_more events e in omega (arith, before, more))
 
-  -- an event that is no commit stands behind the others
+  -- an event that is no commit stands after the others
   pub one_beside : nodes (e ∷ []) ≡ [] → (parents : List ℕ) (ops : List FileOp) → Minds t events parents ops → Minds t (with_event events e) parents ops
   one_beside none parents ops m =
       let same = tree_beside events e none in
@@ -57,32 +57,32 @@ module _ (t : Trees) (events : List PlainEvent) (e : PlainEvent) where
       go [] same = refl
       go (p ∷ ps) same = same p
 
-  -- a commit stands behind the others
+  -- a commit stands after the others
   module _ (commit : ℕ) (parents : List ℕ) (ops : List FileOp) (m : Minds t events [] []) (within : HasAtMost t.most (open_tree events parents ops))
       (one : nodes (e ∷ []) ≡ record { id = commit; parents = parents; ops = ops } ∷ []) (is : commit ≡ next_id events) where
     there : (c : ℕ) → tree (with_event events e) c ≡ cond (commit == c) (open_tree events parents ops) (tree events c)
-    there c = tree_behind events e (record { id = commit; parents = parents; ops = ops }) one c
+    there c = tree_after events e (record { id = commit; parents = parents; ops = ops }) one c
 
     before : (c : ℕ) → c < next_id events → tree (with_event events e) c ≡ tree events c
     before c less = there c ∙ ap (λ b. cond b (open_tree events parents ops) (tree events c)) (ne_eqb commit c (λ same. omega (arith, same, is, less)))
 
-    all_behind : (c : ℕ) → HasAtMost t.most (tree (with_event events e) c)
-    all_behind c = subst (HasAtMost t.most) (sym (there c)) (go (commit == c))
+    all_after : (c : ℕ) → HasAtMost t.most (tree (with_event events e) c)
+    all_after c = subst (HasAtMost t.most) (sym (there c)) (go (commit == c))
       where
         go : (b : Bool) → HasAtMost t.most (cond b (open_tree events parents ops) (tree events c))
         go true = within
         go false = m.all c
 
-    pub one_behind : Minds t (with_event events e) [] []
-    one_behind = record {
+    pub one_after : Minds t (with_event events e) [] []
+    one_after = record {
       earlier = earlier_beside before t.kept.items m.earlier;
       is_opened = m.is_opened;
-      all = all_behind;
+      all = all_after;
       own = m.own;
     }
 
-    pub earlier_behind : AreEarlier (with_event events e) t.kept.items
-    earlier_behind = earlier_beside before t.kept.items m.earlier
+    pub earlier_after : AreEarlier (with_event events e) t.kept.items
+    earlier_after = earlier_beside before t.kept.items m.earlier
 
     -- its own tree is known
     pub own_earlier : (made : Option Tree) → made ≡ open_tree events parents ops → IsEarlier (with_event events e) (record { commit = commit; tree = made })
@@ -92,11 +92,11 @@ module _ (t : Trees) (events : List PlainEvent) (e : PlainEvent) where
     )
 
     -- other trees are kept
-    pub own_behind : (new : Trees) → AreEarlier (with_event events e) new.kept.items → new.opened ≡ t.opened → new.most ≡ t.most → Minds new (with_event events e) [] []
-    own_behind new earlier opened most = record {
+    pub own_after : (new : Trees) → AreEarlier (with_event events e) new.kept.items → new.opened ≡ t.opened → new.most ≡ t.most → Minds new (with_event events e) [] []
+    own_after new earlier opened most = record {
       earlier = earlier;
       is_opened = subst (λ (o : OpenTree). IsOpened o (open_tree events [] [])) (sym opened) m.is_opened;
-      all = λ c. subst (λ n. HasAtMost n (tree (with_event events e) c)) (sym most) (all_behind c);
+      all = λ c. subst (λ n. HasAtMost n (tree (with_event events e) c)) (sym most) (all_after c);
       own = subst (λ n. HasAtMost n (open_tree events [] [])) (sym most) m.own;
     }
 

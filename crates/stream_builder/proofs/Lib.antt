@@ -1,5 +1,5 @@
 mod TreeSizes
-mod TreesBehind
+mod TreesAfter
 mod Pushed
 mod Kept
 mod Counting

@@ -9,7 +9,7 @@ use Rattle.plain_model.specs.declared.limit.TheConstants.{MAX_EVENTS, MAX_OPERAT
 use Rattle.plain_model.specs.declared.operation.FileOp.{FileOp}
 use Rattle.plain_model.specs.Histories.{begun, folded, tree}
 use Rattle.plain_model.specs.Trees.{Tree}
-use Rattle.line_machine.specs.Limits.{Cause}
+use Rattle.line_automaton.specs.Limits.{Cause}
 use Rattle.stream_grammar.specs.Known.{Known, OpenCommit as KnownCommit, Open as KnownOpen}
 use Rattle.stream_grammar.specs.Known.Open.{Nothing as NoEvent, ABlob, ACommit, ATag, AReset}
 use Rattle.stream_grammar.specs.Limits.{limit_if, limit_on, last_limit, op_limit, op_count, within_limit, ops_in as count_in}
@@ -23,7 +23,7 @@ use Rattle.stream_builder.specs.declared.open.OpenCommit.{OpenCommit}
 use Rattle.stream_builder.specs.Building.{commit_of, known_of, open_of, with_op}
 use Rattle.stream_builder.specs.Minding.{open_tree}
 use Rattle.stream_builder.specs.Operating.{PutsLast}
-use Rattle.stream_builder.proofs.TreesBehind.{folded_more}
+use Rattle.stream_builder.proofs.TreesAfter.{folded_more}
 
 -- the limit of the last operation
 last_is : (ops : List FileOp) (op : FileOp) (t : Option Tree) → last_limit (ops ++ op ∷ []) t ≡ limit_on op (folded ops t)
@@ -56,16 +56,16 @@ module _ (events : List PlainEvent) (c : OpenCommit) (op : FileOp) (more ops : �
       ∙ last_is c.ops op (begun (tree events) c.parents)
 
   -- what is due for one more operation
-  abbrev pub due : Result Known (Cause Why Which)
-  due = within_limit (op_limit more (with_op events (commit_of c) op)) (with_op events (commit_of c) op)
+  abbrev pub expected : Result Known (Cause Why Which)
+  expected = within_limit (op_limit more (with_op events (commit_of c) op)) (with_op events (commit_of c) op)
 
   module _ (new : OpenCommit) (trees : Trees) where
-    pub put_it : PutsLast events c op (Ok tt) new trees → due ≡ Ok (known_of events (Commit new))
+    pub put_it : PutsLast events c op (Ok tt) new trees → expected ≡ Ok (known_of events (Commit new))
     put_it p =
         ap (λ o. within_limit o (with_op events (commit_of c) op)) (limit_is ∙ p.2)
         ∙ ap (λ (n : OpenCommit). Ok (known_of events (Commit n))) (sym p.0)
 
-    pub refused : (k : Known) (f : LineFault) → PutsLast events c op (Err f) new trees → Judges k (Err f) due
+    pub refused : (k : Known) (f : LineFault) → PutsLast events c op (Err f) new trees → Judges k (Err f) expected
     refused k (line.Bad why) p = absurd p
     refused k (line.Limit which) p = ap (λ o. within_limit o (with_op events (commit_of c) op)) (limit_is ∙ p.2)
     refused k line.Memory p = tt

@@ -1,4 +1,4 @@
--- What is known of the trees behind one more operation.
+-- What is known of the trees after one more operation.
 use Rattle.std.proofs.Common.{◌≡◌, ℕ, ◌<◌, ◌≤◌, Bool, true, false, not, max, List, [], ◌∷◌, ◌++◌, Option, Some, None, Result, Ok, refl, sym, ap, subst, ◌∙◌, arith}
 use Rattle.std.specs.Prelude.{◌||◌}
 use Rattle.std.proofs.lemmas.Bool.Decides.{nat_tests}
@@ -13,9 +13,9 @@ use Rattle.stream_builder.specs.declared.known.OpenTree.{OpenTree}
 use Rattle.stream_builder.specs.declared.known.OpenTree.TheVariants.{NotFolded, Folded}
 use Rattle.stream_builder.specs.declared.known.Trees.{Trees}
 use Rattle.stream_builder.specs.Minding.{HasAtMost, IsOpened, Minds, open_tree}
-use Rattle.stream_builder.specs.Pushing.{Applies, CanApply, is_folded, may_be_refused, most_behind}
+use Rattle.stream_builder.specs.Pushing.{Applies, CanApply, is_folded, may_be_refused, most_after}
 use Rattle.stream_builder.proofs.TreeSizes.{modified, deleted}
-use Rattle.stream_builder.proofs.TreesBehind.{folded_more}
+use Rattle.stream_builder.proofs.TreesAfter.{folded_more}
 
 pub at_most_more : (m n : ℕ) (o : Option Tree) → m ≤ n → HasAtMost m o → HasAtMost n o
 at_most_more m n None le h = tt
@@ -26,8 +26,8 @@ one_more : (events : List PlainEvent) (parents : List ℕ) (ops : List FileOp) (
 one_more events parents ops op = folded_more ops (op ∷ []) (begun (tree events) parents)
 
 module _ (t : Trees) (events : List PlainEvent) (parents : List ℕ) (ops : List FileOp) (op : FileOp) (m : Minds t events parents ops) where
-  due : Option Tree
-  due = open_tree events parents ops
+  expected : Option Tree
+  expected = open_tree events parents ops
 
   -- ---- to the tree that was folded
 
@@ -51,7 +51,7 @@ module _ (t : Trees) (events : List PlainEvent) (parents : List ℕ) (ops : List
 
   -- ---- without a tree
 
-  module _ (most : ℕ) (is : t.opened ≡ NotFolded) (can : CanApply t op) (most_is : most ≡ most_behind t.most op) where
+  module _ (most : ℕ) (is : t.opened ≡ NotFolded) (can : CanApply t op) (most_is : most ≡ most_after t.most op) where
     may : may_be_refused t.most op ≡ false
     may = go (may_be_refused t.most op) (subst (λ (o : OpenTree). (is_folded o || not (may_be_refused t.most op)) ≡ true) is can)
       where
@@ -62,7 +62,7 @@ module _ (t : Trees) (events : List PlainEvent) (parents : List ℕ) (ops : List
     abbrev AppliesTo : FileOp → Option Tree → Type 0
     AppliesTo x o = (limit_on x o ≡ None) × HasAtMost most (folded (x ∷ []) o)
 
-    applies_to : (x : FileOp) → may_be_refused t.most x ≡ false → most ≡ most_behind t.most x → (o : Option Tree) → HasAtMost t.most o → AppliesTo x o
+    applies_to : (x : FileOp) → may_be_refused t.most x ≡ false → most ≡ most_after t.most x → (o : Option Tree) → HasAtMost t.most o → AppliesTo x o
     applies_to x free is None h = (refl, tt)
     applies_to (Modify mode content path) free is (Some u) h =
         let room : t.most < MAX_PATHS = grind (arith, nat_tests) in
@@ -77,7 +77,7 @@ module _ (t : Trees) (events : List PlainEvent) (parents : List ℕ) (ops : List
     applies_to (Rename source target) free is (Some u) h = absurd cc
     applies_to DeleteAll free is (Some u) h = (refl, omega arith)
 
-    no_less : (x : FileOp) → may_be_refused t.most x ≡ false → most ≡ most_behind t.most x → t.most ≤ most
+    no_less : (x : FileOp) → may_be_refused t.most x ≡ false → most ≡ most_after t.most x → t.most ≤ most
     no_less (Modify mode content path) free is = let room : t.most < MAX_PATHS = grind (arith, nat_tests) in omega (arith, is, room)
     no_less (Delete path) free is = omega (arith, is)
     no_less (Copy source target) free is = omega (arith, is)

@@ -1,4 +1,4 @@
--- How many paths a tree has behind an operation that copies nothing.
+-- How many paths a tree has after an operation that copies nothing.
 use Rattle.std.proofs.Common.{◌≡◌, suc, ◌+◌, ◌<◌, ◌≤◌, Bool, true, false, cond, [], ◌∷◌, length, Result, Ok, Err, ap, arith, nat_lt, not}
 use Rattle.std.specs.Ordering.{nat_cmp}
 use Rattle.std.specs.declared.cmp.Ordering.{Ordering}

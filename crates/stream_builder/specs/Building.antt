@@ -7,8 +7,8 @@ use Rattle.stream_grammar.specs.Known.{Known, OpenCommit as KnownCommit, Open as
 use Rattle.stream_grammar.specs.Known.Open.{Nothing as NoEvent, ABlob, ACommit, ATag, AReset}
 use Rattle.plain_model.specs.declared.fault.Which.{Which}
 use Rattle.plain_model.specs.declared.fault.Why.{Why}
-use Rattle.line_machine.specs.Limits.{Cause}
-use Rattle.line_machine.specs.Limits.Cause.{Defect}
+use Rattle.line_automaton.specs.Limits.{Cause}
+use Rattle.line_automaton.specs.Limits.Cause.{Defect}
 use Rattle.stream_grammar.specs.Limits.{op_count, op_limit, within_limit}
 use Rattle.stream_drafts.specs.Events.{number_or_0}
 use Rattle.stream_builder.specs.declared.known.Trees.{Trees}
@@ -60,7 +60,7 @@ pub record IsBuilt (events : List PlainEvent) (current : Open) (trees : Trees) (
   pub counted : ops ≡ op_count (known_of events current)
   pub within : ops ≤ MAX_OPERATIONS
 
--- what is known once one more operation stands behind those of the commit that is being read
+-- what is known once one more operation stands after those of the commit that is being read
 abbrev pub with_op : List PlainEvent → KnownCommit → FileOp → Known
 with_op events c op = record { events = events; current = ACommit (record c { ops = c.ops ++ op ∷ [] }) }
 
@@ -71,7 +71,7 @@ is_commit (ABlob mark) = false
 is_commit (ATag name target tagger) = false
 is_commit (AReset branch target) = false
 
--- what is known behind an operation with so many events that it brings along, unless it passes a limit
-abbrev pub behind_operation : ℕ → Result Known Why → Result Known (Cause Why Which)
-behind_operation more (Err why) = Err (Defect why)
-behind_operation more (Ok k) = within_limit (op_limit more k) k
+-- what is known after an operation with so many events that it brings along, unless it passes a limit
+abbrev pub after_operation : ℕ → Result Known Why → Result Known (Cause Why Which)
+after_operation more (Err why) = Err (Defect why)
+after_operation more (Ok k) = within_limit (op_limit more k) k

@@ -11,7 +11,7 @@ use Rattle.stream_builder.specs.declared.known.OpenTree.{OpenTree}
 use Rattle.stream_builder.specs.declared.known.OpenTree.TheVariants.{NotFolded, Folded}
 use Rattle.stream_builder.specs.declared.known.Trees.{Trees}
 
--- the tree behind the operations of a commit with these parents, unless one is refused
+-- the tree after the operations of a commit with these parents, unless one is refused
 abbrev pub open_tree : List PlainEvent → List ℕ → List FileOp → Option Tree
 open_tree events parents ops = folded ops (begun (tree events) parents)
 
@@ -30,8 +30,8 @@ AreEarlier events kept = All (IsEarlier events) kept
 
 -- what was folded is what is due
 abbrev pub IsOpened : OpenTree → Option Tree → Type 0
-IsOpened NotFolded due = Unit {0}
-IsOpened (Folded t) due = t ≡ due
+IsOpened NotFolded expected = Unit {0}
+IsOpened (Folded t) expected = t ≡ expected
 
 -- what is known agrees with a history, and with a commit that has these parents and operations so far
 pub record Minds (t : Trees) (events : List PlainEvent) (parents : List ℕ) (ops : List FileOp) : Type 0 where

@@ -27,13 +27,13 @@ may_be_refused most (Copy source target) = true
 may_be_refused most (Rename source target) = true
 may_be_refused most DeleteAll = false
 
--- how many paths a tree has at most behind an operation that is not refused
-abbrev pub most_behind : ℕ → FileOp → ℕ
-most_behind most (Modify mode content path) = min (most + 1) (2 ^ 64 - 1)
-most_behind most (Delete path) = most
-most_behind most (Copy source target) = most
-most_behind most (Rename source target) = most
-most_behind most DeleteAll = most
+-- how many paths a tree has at most after an operation that is not refused
+abbrev pub most_after : ℕ → FileOp → ℕ
+most_after most (Modify mode content path) = min (most + 1) (2 ^ 64 - 1)
+most_after most (Delete path) = most
+most_after most (Copy source target) = most
+most_after most (Rename source target) = most
+most_after most DeleteAll = most
 
 -- the tree was folded, or the operation can't be refused
 abbrev pub CanApply : Trees → FileOp → Type 0
@@ -46,7 +46,7 @@ Applies op old (Err (line.Limit which)) new = (limit_on op old ≡ Some which) �
 Applies op old (Err line.Memory) new = new ≡ old
 Applies op old (Err (line.Bad why)) new = ⊥
 
--- the operation stands behind the others, or it passes a limit
+-- the operation stands after the others, or it passes a limit
 abbrev pub Pushes : List PlainEvent → List ℕ → List FileOp → FileOp → Result (Unit {0}) LineFault → Trees → Type 0
 Pushes events parents ops op (Ok tt) new = Minds new events parents (ops ++ op ∷ []) × (limit_on op (open_tree events parents ops) ≡ None)
 Pushes events parents ops op (Err (line.Limit which)) new = Minds new events parents ops × (limit_on op (open_tree events parents ops) ≡ Some which)

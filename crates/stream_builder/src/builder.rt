@@ -60,7 +60,7 @@ impl Builder {
         }
     }
 
-    // The event that was read last is behind the others.
+    // The event that was read last is after the others.
     fn close(&mut self, alloc: Global) -> Result<(), NoMemory>
         ensures { OnOk result (self.new ≡ record { events = closed self.old; current = NoEvent }) }
     {

@@ -1,7 +1,7 @@
 //! The operations of a commit.
 ghost use Rattle.std.specs.Prelude.{◌≡◌, ◌∷◌, ◌++◌, [], codes};
 ghost use Rattle.stream_fields.specs.Answers.{Gives};
-ghost use Rattle.stream_grammar.specs.Known.{modify_behind};
+ghost use Rattle.stream_grammar.specs.Known.{modify_after};
 ghost use Rattle.stream_builder.specs.Minding.{Minds};
 ghost use Rattle.stream_builder.specs.Operating.{PutsLast};
 
@@ -11,16 +11,16 @@ use crate::references::place;
 use plain_model::{FileOp, Why};
 use std::alloc::Global;
 use stream_drafts::Drafts;
-use stream_fields::{FieldFault, due, read_content, read_last_path, read_mode, words};
+use stream_fields::{FieldFault, expected, read_content, read_last_path, read_mode, words};
 use stream_lines::LineFault;
 
 /// `MODE CONTENT PATH`: what `M` puts at a path. (git-fast-import, `filemodify`.)
 pub fn read_modify(alloc: Global, drafts: &Drafts, text: &[u8]) -> Result<FileOp, FieldFault>
-    ensures { Gives (λ op. op) result (modify_behind drafts.now text.now) }
+    ensures { Gives (λ op. op) result (modify_after drafts.now text.now) }
 {
     let (mode, fields) = words(text);
     let mode = read_mode(mode)?;
-    let fields = due(Why::BadMark, fields)?;
+    let fields = expected(Why::BadMark, fields)?;
     let (content, path) = words(fields);
     let content = read_content(mode, content)?;
     let content = place(drafts, content)?;
@@ -32,7 +32,7 @@ pub fn read_modify(alloc: Global, drafts: &Drafts, text: &[u8]) -> Result<FileOp
     })
 }
 
-/// Puts one more operation behind those of a commit, unless it passes a limit of trees.
+/// Puts one more operation after those of a commit, unless it passes a limit of trees.
 pub fn put_last(
     alloc: Global,
     drafts: &Drafts,

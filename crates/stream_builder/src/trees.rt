@@ -20,7 +20,7 @@ ghost use Rattle.stream_builder.specs.Pushing.{
   Pushes,
   is_folded,
   may_be_refused,
-  most_behind,
+  most_after,
 };
 
 use crate::known::{OpenTree, Trees};
@@ -55,8 +55,8 @@ fn may_be_refused(most: u64, op: &FileOp) -> bool
     }
 }
 
-fn most_behind(most: u64, op: &FileOp) -> u64
-    ensures { result ≡ most_behind most op.now }
+fn most_after(most: u64, op: &FileOp) -> u64
+    ensures { result ≡ most_after most op.now }
 {
     match op {
         FileOp::Modify { .. } => most.saturating_add(1),
@@ -65,7 +65,7 @@ fn most_behind(most: u64, op: &FileOp) -> u64
 }
 
 // Applies an operation to a tree, if it is there, and tells how many paths there are then. What is refused for its source is
-// not told: then there is no tree.
+// not reported: then there is no tree.
 fn apply_to(tree: &mut Option<PathTree>, op: &FileOp) -> Result<u64, LineFault>
     ensures { Applies op.now tree.old result tree.new }
 {
@@ -202,7 +202,7 @@ impl Trees {
         mem::replace(&mut self.opened, OpenTree::NotFolded)
     }
 
-    // Keeps a tree behind the others; where there are too many, that of the oldest commit goes. Where memory is wanting, the
+    // Keeps a tree after the others; where there are too many, that of the oldest commit goes. Where memory is wanting, the
     // tree isn't kept.
     fn put(&mut self, known: KnownTree)
         ensures earlier { (events : List PlainEvent) → AreEarlier events self.old.kept.items →
@@ -215,7 +215,7 @@ impl Trees {
         let _ = self.kept.push(known);
     }
 
-    /// A commit stands behind the other events, with its tree, if it was folded.
+    /// A commit stands after the other events, with its tree, if it was folded.
     pub fn keep(&mut self, commit: CommitId, tree: OpenTree)
         ensures { (events : List PlainEvent) → (e : PlainEvent) → (parents : List ℕ) →
             (ops : List FileOp) → Minds self.old events [] [] →
@@ -232,8 +232,8 @@ impl Trees {
     /// Whether the tree that was folded has something at or below the path.
     pub fn has(&self, path: &Path) -> Result<bool, NoMemory>
         requires { is_folded self.now.opened ≡ true }
-        ensures { IfOk result (λ there. (due : Option Tree) → IsOpened self.now.opened due →
-            there ≡ has_source path.now due) }
+        ensures { IfOk result (λ there. (expected : Option Tree) → IsOpened self.now.opened expected →
+            there ≡ has_source path.now expected) }
     {
         match &self.opened {
             OpenTree::Folded(Some(tree)) => { Ok(!tree.entries_below(path)?.as_slice().is_empty()) }
@@ -253,13 +253,13 @@ impl Trees {
                 self.most = self.most.max(paths);
             }
             OpenTree::NotFolded => {
-                self.most = most_behind(self.most, op);
+                self.most = most_after(self.most, op);
             }
         }
         Ok(())
     }
 
-    /// Puts one more operation behind those of a commit with these parents, unless it passes a limit of trees.
+    /// Puts one more operation after those of a commit with these parents, unless it passes a limit of trees.
     pub fn push(
         &mut self,
         alloc: Global,

@@ -12,22 +12,22 @@ use Rattle.stream_drafts.specs.Events.{event_of, events_of}
 use Rattle.stream_drafts.specs.Placed.{ArePlaced}
 use Rattle.stream_drafts.proofs.Places.{placed_more}
 use Rattle.stream_drafts.specs.Indexed.{IsIndexed, first_of}
-use Rattle.stream_drafts.proofs.Behind.{blob_marked-append, commit_marked-append, greatest_mark-append, refs-append}
+use Rattle.stream_drafts.proofs.After.{blob_marked-append, commit_marked-append, greatest_mark-append, refs-append}
 
 pub events_of-append : (ds all : List Draft) (d : Draft) → all ≡ ds ++ d ∷ [] → events_of all ≡ events_of ds ++ event_of d ∷ []
 events_of-append ds all d is = ap events_of is ∙ map-append event_of ds (d ∷ [])
 
 module _ (es : List PlainEvent) (e : PlainEvent) where
-  behind : (blob commit new_blob new_commit : ℕ → Option ℕ) (tips new_tips : TreeOf ℕ) (n new_n : ℕ) → IsIndexed es blob commit tips n
+  after : (blob commit new_blob new_commit : ℕ → Option ℕ) (tips new_tips : TreeOf ℕ) (n new_n : ℕ) → IsIndexed es blob commit tips n
       → ((m : ℕ) → 1 ≤ m → new_blob m ≡ first_of (blob m) (blob_marked (e ∷ []) m))
       → ((m : ℕ) → 1 ≤ m → new_commit m ≡ first_of (commit m) (commit_marked (e ∷ []) m))
       → new_tips ≡ refs_after tips (e ∷ [])
       → new_n ≡ max n (mark_number e) → mark_number e ≤ MAX_MARK → ArePlaced (length es + 1) (e ∷ [])
       → IsIndexed (es ++ e ∷ []) new_blob new_commit new_tips new_n
-  behind blob commit new_blob new_commit tips new_tips n new_n i blobs commits tips_behind greatest fits next = record {
+  after blob commit new_blob new_commit tips new_tips n new_n i blobs commits tips_after greatest fits next = record {
     blobs = λ m is. blobs m is ∙ ap (λ o. first_of o (blob_marked (e ∷ []) m)) (i.blobs m is) ∙ sym (blob_marked-append es e m);
     commits = λ m is. commits m is ∙ ap (λ o. first_of o (commit_marked (e ∷ []) m)) (i.commits m is) ∙ sym (commit_marked-append es e m);
-    are_tips = tips_behind ∙ ap (λ (t : TreeOf ℕ). refs_after t (e ∷ [])) i.are_tips ∙ sym (refs-append es e);
+    are_tips = tips_after ∙ ap (λ (t : TreeOf ℕ). refs_after t (e ∷ [])) i.are_tips ∙ sym (refs-append es e);
     placed = placed_more 1 es e i.placed next;
     is_greatest = greatest ∙ ap (λ k. max k (mark_number e)) i.is_greatest ∙ sym (greatest_mark-append es e);
     in_range = let low = i.in_range in omega arith;
@@ -41,9 +41,9 @@ pub IsIndexed-push : (ds all : List Draft) (d : Draft) (blob commit mid_blob mid
     → new_tips ≡ refs_after tips (event_of d ∷ [])
     → mark ≡ mark_number (event_of d) → mark ≤ MAX_MARK → new_n ≡ max n mark → ArePlaced (length (events_of ds) + 1) (event_of d ∷ [])
     → IsIndexed (events_of all) new_blob new_commit new_tips new_n
-IsIndexed-push ds all d blob commit mid_blob mid_commit new_blob new_commit tips new_tips n mark new_n is i same_blobs blobs same_commits commits tips_behind own fits greatest next =
+IsIndexed-push ds all d blob commit mid_blob mid_commit new_blob new_commit tips new_tips n mark new_n is i same_blobs blobs same_commits commits tips_after own fits greatest next =
     subst (λ (es : List PlainEvent). IsIndexed es new_blob new_commit new_tips new_n) (sym (events_of-append ds all d is))
-    (behind (events_of ds) (event_of d) blob commit new_blob new_commit tips new_tips n new_n i
+    (after (events_of ds) (event_of d) blob commit new_blob new_commit tips new_tips n new_n i
     (λ m one. blobs m one ∙ ap (λ o. first_of o (blob_marked (event_of d ∷ []) m)) (same_blobs m))
     (λ m one. commits m one ∙ ap (λ o. first_of o (commit_marked (event_of d ∷ []) m)) (same_commits m))
-    tips_behind (greatest ∙ ap (λ k. max n k) own) (subst (λ k. k ≤ MAX_MARK) own fits) next)
+    tips_after (greatest ∙ ap (λ k. max n k) own) (subst (λ k. k ≤ MAX_MARK) own fits) next)

@@ -1,3 +1,3 @@
-pub mod Behind
+pub mod After
 pub mod Indexes
 pub mod Places

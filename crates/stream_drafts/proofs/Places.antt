@@ -29,16 +29,16 @@ abbrev first_node : Option Node → Option Node → Option Node
 first_node (Some n) o = Some n
 first_node None o = o
 
-node_behind : (a b : Past) (c : ℕ) → node_at (a ++ b) c ≡ first_node (node_at a c) (node_at b c)
-node_behind [] b c = refl
-node_behind (n ∷ a) b c = ap (cond (n.id == c) (Some n)) (node_behind a b c) ∙ go (n.id == c)
+node_after : (a b : Past) (c : ℕ) → node_at (a ++ b) c ≡ first_node (node_at a c) (node_at b c)
+node_after [] b c = refl
+node_after (n ∷ a) b c = ap (cond (n.id == c) (Some n)) (node_after a b c) ∙ go (n.id == c)
   where
     go : (t : Bool) → cond t (Some n) (first_node (node_at a c) (node_at b c)) ≡ first_node (cond t (Some n) (node_at a c)) (node_at b c)
     go true = refl
     go false = refl
 
 past_first : (n : Node) (ns : List Node) (c : ℕ) → node_at (reverse (n ∷ ns)) c ≡ first_node (node_at (reverse ns) c) (node_at (n ∷ []) c)
-past_first n ns c = ap (λ (l : Past). node_at l c) (reverse-append (n ∷ []) ns) ∙ node_behind (reverse ns) (n ∷ []) c
+past_first n ns c = ap (λ (l : Past). node_at l c) (reverse-append (n ∷ []) ns) ∙ node_after (reverse ns) (n ∷ []) c
 
 -- an id below all places is none's
 none_below : (k : ℕ) (es : List PlainEvent) → ArePlaced k es → (c : ℕ) → c < k → node_at (past es) c ≡ None

@@ -36,8 +36,8 @@ IsMarked (plain.Reset id branch target) = Unit {0}
 IsMarked (plain.Pass id line) = Unit {0}
 
 -- the mark, or the one above n where there is none
-abbrev pub mark_behind : ℕ → ℕ → ℕ
-mark_behind n mark = if mark == 0 then n + 1 else mark
+abbrev pub mark_after : ℕ → ℕ → ℕ
+mark_after n mark = if mark == 0 then n + 1 else mark
 
 -- what the tree of a commit with this id hangs on
 abbrev pub node_of : ℕ → CommitFields → Node

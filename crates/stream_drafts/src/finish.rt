@@ -21,7 +21,7 @@ ghost use Rattle.stream_drafts.specs.Events.{
   IsMarked,
   event_of,
   events_of,
-  mark_behind,
+  mark_after,
   number_or_0,
 };
 ghost use Rattle.stream_grammar.specs.Limits.{own_want, unmarked_count, want_of};
@@ -51,7 +51,7 @@ impl From<NoMemory> for FinishFault {
 // The mark, or else the one above the last, which is the last from then on.
 fn mark_or_next(mark: Option<Mark>, last: &mut u64) -> Option<Mark>
     requires { last.old ≤ MAX_MARK }
-    ensures mark { IfSome result (λ m. m ≡ mark_behind last.old (number_or_0 mark)) }
+    ensures mark { IfSome result (λ m. m ≡ mark_after last.old (number_or_0 mark)) }
     ensures last { OnSome result (last.new ≡ last.old + want_of (number_or_0 mark)) }
     ensures range { last.new ≤ MAX_MARK }
     ensures spent { IfNone result ((last.old ≡ MAX_MARK) × (want_of (number_or_0 mark) ≡ 1)) }

@@ -216,7 +216,7 @@ fn commits_are_found_by_their_ids(rt: HostRuntime) -> Result<(), Fail> {
         ("the second", 4, Some(b"side")),
         ("a blob's id", 2, None),
         ("none before the first event", 0, None),
-        ("none behind the last", 8, None),
+        ("none after the last", 8, None),
     ];
     for (what, number, want) in rows {
         let found = drafts

@@ -78,18 +78,18 @@ module _ (delimiter text rest : Bytes) (at size next : ℕ) (all : Option (Bytes
   here : delimited delimiter (take at text) [] rest ≡ all
   here = ap (delimited delimiter (take at text) []) is ∙ so_far
 
-  behind : drop next rest ≡ drop (at + next) text
-  behind = ap (drop next) is ∙ drop-drop next at text
+  after : drop next rest ≡ drop (at + next) text
+  after = ap (drop next) is ∙ drop-drop next at text
 
   pub found_here : bytes_eq (take size rest) delimiter ≡ true → ◌≡◌ {A = Option (Bytes × Bytes)} (Some (take at text, drop (at + next) text)) all
   found_here h =
-      ap (λ (r : Bytes). Some (take at text, r)) (sym behind)
+      ap (λ (r : Bytes). Some (take at text, r)) (sym after)
       ∙ sym (delimiter_found delimiter (take at text) rest size next line h) ∙ here
 
   pub kept_on : 1 ≤ length delimiter → bytes_eq (take size rest) delimiter ≡ false → delimited delimiter (take (at + next) text) [] (drop (at + next) text) ≡ all
   kept_on some h =
       ap (λ (k : Bytes). delimited delimiter k [] (drop (at + next) text)) (take-add at next text ∙ ap (λ (r : Bytes). take at text ++ take next r) (sym is))
-      ∙ ap (delimited delimiter (take at text ++ take next rest) []) (sym behind)
+      ∙ ap (delimited delimiter (take at text ++ take next rest) []) (sym after)
       ∙ sym (line_kept delimiter (take at text) rest size next line some h) ∙ here
 
   pub next_within : at ≤ length text → at + next ≤ length text

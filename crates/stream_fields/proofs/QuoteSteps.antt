@@ -1,4 +1,4 @@
--- What stays true of a quoted text behind one more byte.
+-- What stays true of a quoted text after one more byte.
 use Rattle.std.proofs.Common.{◌≡◌, ℕ, ◌+◌, ◌<◌, [], ◌∷◌, ◌++◌, length, drop, get_or, sym, subst, ◌∙◌}
 use Rattle.plain_model.specs.Paths.{Bytes}
 use Rattle.plain_model.specs.Fields.{Quoting, turn, unquoted}

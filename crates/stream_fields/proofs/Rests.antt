@@ -1,4 +1,4 @@
--- What stands behind a place of a text.
+-- What stands after a place of a text.
 use Rattle.std.proofs.Common.{◌≡◌, inl, inr, ℕ, ◌+◌, ◌-◌, ◌≤◌, Bool, true, false, cond, [], ◌∷◌, ◌++◌, length, take, drop, Option, Some, Result, Ok, refl, sym, ap, subst, ◌∙◌, arith, append_assoc, append-nil, drop_at, length-append, length-drop}
 use Rattle.std.specs.Prelude.{count_by, ◌==◌}
 use Rattle.std.proofs.Math.Seq.{take-add}
@@ -8,7 +8,7 @@ use Rattle.plain_model.specs.Paths.{Bytes}
 use Rattle.plain_model.specs.Parts.{is_lf, line_at, skip_lf}
 use Rattle.plain_model.specs.Parts.{IsLine}
 use Rattle.plain_model.specs.declared.fault.Why.{Why}
-use Rattle.plain_model.specs.Fields.{extent_in, block_behind, block_in}
+use Rattle.plain_model.specs.Fields.{extent_in, block_after, block_in}
 use Rattle.field_laws.proofs.FieldSteps.{ok_then}
 use Rattle.field_laws.proofs.Lines.{line_is}
 use Rattle.stream_fields.specs.Cursors.{Position, rest}
@@ -21,8 +21,8 @@ pub record EndsIn (text rest : Bytes) : Type 0 where
 pub ends_itself : (text : Bytes) → EndsIn text text
 ends_itself text = record { front = []; is = refl }
 
-pub ends_behind : (text mid rest : Bytes) → EndsIn text mid → EndsIn mid rest → EndsIn text rest
-ends_behind text mid rest a b = record {
+pub ends_after : (text mid rest : Bytes) → EndsIn text mid → EndsIn mid rest → EndsIn text rest
+ends_after text mid rest a b = record {
   front = a.front ++ b.front;
   is = a.is ∙ ap (λ (t : Bytes). a.front ++ t) b.is ∙ sym (append_assoc a.front b.front rest);
 }
@@ -38,11 +38,11 @@ ends_skipped (b ∷ bs) = go (b == 10)
     go true = record { front = b ∷ []; is = refl }
     go false = ends_itself (b ∷ bs)
 
-pub ends_line : (text line behind : Bytes) → line_at text ≡ Some (line, behind) → EndsIn text behind
-ends_line text line behind e = go (line_is text line behind e)
+pub ends_line : (text line after : Bytes) → line_at text ≡ Some (line, after) → EndsIn text after
+ends_line text line after e = go (line_is text line after e)
   where
-    go : IsLine text line behind → EndsIn text behind
-    go (plain, inl is) = record { front = line ++ 10 ∷ []; is = is ∙ sym (append_assoc line (10 ∷ []) behind) }
+    go : IsLine text line after → EndsIn text after
+    go (plain, inl is) = record { front = line ++ 10 ∷ []; is = is ∙ sym (append_assoc line (10 ∷ []) after) }
     go (plain, inr is) = record { front = line; is = is.0 ∙ sym (append-nil line) ∙ ap (λ (t : Bytes). line ++ t) (sym is.1) }
 
 pub rest_within : (text last : Bytes) → EndsIn text last → length last ≤ length text
@@ -63,32 +63,32 @@ counted_up text at to h =
 
 -- ---- the places of a cursor
 
--- behind a line
-pub line_given : (text line behind : Bytes) (at : ℕ) (old new : Position) → old.text ≡ text → old.at ≡ at
-    → ◌≡◌ {A = Option (Bytes × Bytes)} (Some (line, behind)) (line_at (take (length text - at) (drop at text)))
-    → new.text ≡ text → new.at ≡ length text - length behind → ◌≡◌ {A = Option (Bytes × Bytes)} (Some (line, rest new)) (line_at (rest old))
-line_given text line behind at old new t a e u b =
-    let here : ◌≡◌ {A = Option (Bytes × Bytes)} (Some (line, behind)) (line_at (drop at text)) = e ∙ ap line_at (take_rest text at) in
-    let left : EndsIn text behind = ends_behind text (drop at text) behind (ends_dropped at text) (ends_line (drop at text) line behind (sym here)) in
-    let is : rest new ≡ behind = (λ i. drop (b i) (u i)) ∙ left_is text behind left in
+-- after a line
+pub line_given : (text line after : Bytes) (at : ℕ) (old new : Position) → old.text ≡ text → old.at ≡ at
+    → ◌≡◌ {A = Option (Bytes × Bytes)} (Some (line, after)) (line_at (take (length text - at) (drop at text)))
+    → new.text ≡ text → new.at ≡ length text - length after → ◌≡◌ {A = Option (Bytes × Bytes)} (Some (line, rest new)) (line_at (rest old))
+line_given text line after at old new t a e u b =
+    let here : ◌≡◌ {A = Option (Bytes × Bytes)} (Some (line, after)) (line_at (drop at text)) = e ∙ ap line_at (take_rest text at) in
+    let left : EndsIn text after = ends_after text (drop at text) after (ends_dropped at text) (ends_line (drop at text) line after (sym here)) in
+    let is : rest new ≡ after = (λ i. drop (b i) (u i)) ∙ left_is text after left in
     ap (λ (r : Bytes). Some (line, r)) is ∙ here ∙ (λ i. line_at (drop (sym a i) (sym t i)))
 
-pub line_within : (text line behind : Bytes) (at : ℕ) → ◌≡◌ {A = Option (Bytes × Bytes)} (Some (line, behind)) (line_at (take (length text - at) (drop at text))) → length behind ≤ length (drop at text)
-line_within text line behind at e =
-    rest_within (drop at text) behind (ends_line (drop at text) line behind (sym (e ∙ ap line_at (take_rest text at))))
+pub line_within : (text line after : Bytes) (at : ℕ) → ◌≡◌ {A = Option (Bytes × Bytes)} (Some (line, after)) (line_at (take (length text - at) (drop at text))) → length after ≤ length (drop at text)
+line_within text line after at e =
+    rest_within (drop at text) after (ends_line (drop at text) line after (sym (e ∙ ap line_at (take_rest text at))))
 
--- behind the end of a block and the LF that may follow
-pub rest_behind : (text skipped : Bytes) (at end : ℕ) (new : Position) → new.text ≡ text → new.at ≡ length text - length skipped
+-- after the end of a block and the LF that may follow
+pub rest_after : (text skipped : Bytes) (at end : ℕ) (new : Position) → new.text ≡ text → new.at ≡ length text - length skipped
     → skipped ≡ skip_lf (drop end (drop at text)) → rest new ≡ skipped
-rest_behind text skipped at end new u b s =
-    let left : EndsIn text (skip_lf (drop end (drop at text))) = ends_behind text (drop at text) (skip_lf (drop end (drop at text))) (ends_dropped at text) (ends_behind (drop at text) (drop end (drop at text)) (skip_lf (drop end (drop at text))) (ends_dropped end (drop at text)) (ends_skipped (drop end (drop at text)))) in
+rest_after text skipped at end new u b s =
+    let left : EndsIn text (skip_lf (drop end (drop at text))) = ends_after text (drop at text) (skip_lf (drop end (drop at text))) (ends_dropped at text) (ends_after (drop at text) (drop end (drop at text)) (skip_lf (drop end (drop at text))) (ends_dropped end (drop at text)) (ends_skipped (drop end (drop at text)))) in
     (λ i. drop (b i) (u i)) ∙ left_is text skipped (subst (EndsIn text) (sym s) left)
 
 pub place_left : (text : Bytes) (at left : ℕ) (old : Position) → old.text ≡ text → old.at ≡ at → left ≤ length (rest old) → at ≤ length text → at ≤ length text - left
 place_left text at left old t a h k = omega (arith, h, length-drop old.at old.text, ap length t, a)
 
 pub block_given : (text head bytes skipped : Bytes) (at size end : ℕ) (old new : Position) → old.text ≡ text → old.at ≡ at
-    → (let here = take (length text - at) (drop at text) in block_behind (extent_in head) here ≡ Ok (take size here, drop end here))
+    → (let here = take (length text - at) (drop at text) in block_after (extent_in head) here ≡ Ok (take size here, drop end here))
     → (let here = take (length text - at) (drop at text) in bytes ≡ take size here)
     → (let here = take (length text - at) (drop at text) in skipped ≡ skip_lf (take (length here - end) (drop end here)))
     → new.text ≡ old.text → new.at ≡ length old.text - length skipped
@@ -96,14 +96,14 @@ pub block_given : (text head bytes skipped : Bytes) (at size end : ℕ) (old new
 unfolding block_in
 block_given text head bytes skipped at size end old new t a e b s u v =
     let here = take (length text - at) (drop at text) in
-    let behind = drop at text in
-    let all : here ≡ behind = take_rest text at in
-    let taken : block_behind (extent_in head) behind ≡ Ok (take size behind, drop end behind) = subst (λ (h : Bytes). block_behind (extent_in head) h ≡ Ok (take size h, drop end h)) all e in
-    let block : bytes ≡ take size behind = b ∙ ap (take size) all in
-    let left : skipped ≡ skip_lf (drop end behind) = s ∙ ap skip_lf (take_rest here end ∙ ap (drop end) all) in
-    let moved : rest new ≡ skipped = rest_behind text skipped at end new (u ∙ t) (v ∙ ap (λ (x : Bytes). length x - length skipped) t) left in
-    let parts : Bytes × Bytes = (take size behind, drop end behind) in
+    let after = drop at text in
+    let all : here ≡ after = take_rest text at in
+    let taken : block_after (extent_in head) after ≡ Ok (take size after, drop end after) = subst (λ (h : Bytes). block_after (extent_in head) h ≡ Ok (take size h, drop end h)) all e in
+    let block : bytes ≡ take size after = b ∙ ap (take size) all in
+    let left : skipped ≡ skip_lf (drop end after) = s ∙ ap skip_lf (take_rest here end ∙ ap (drop end) all) in
+    let moved : rest new ≡ skipped = rest_after text skipped at end new (u ∙ t) (v ∙ ap (λ (x : Bytes). length x - length skipped) t) left in
+    let parts : Bytes × Bytes = (take size after, drop end after) in
     let made : Bytes → Bytes → Result (Bytes × Bytes) Why = λ x y. Ok (x, y) in
     (λ i. block_in head (drop (a i) (t i)))
-    ∙ ok_then (block_behind (extent_in head) behind) (λ x. made x.0 (skip_lf x.1)) parts (made (take size behind) (skip_lf (drop end behind))) taken refl
+    ∙ ok_then (block_after (extent_in head) after) (λ x. made x.0 (skip_lf x.1)) parts (made (take size after) (skip_lf (drop end after))) taken refl
     ∙ (λ i. made (sym block i) ((sym left ∙ sym moved) i))

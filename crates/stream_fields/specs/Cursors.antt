@@ -9,7 +9,7 @@ pub record Position : Type 0 where
   pub at : ℕ
   pub number : ℕ
 
--- what stands behind the place
+-- what stands after the place
 abbrev pub rest : Position → Bytes
 rest p = drop p.at p.text
 

@@ -77,13 +77,13 @@ impl<'a> Cursor<'a> {
         ensures end { IfNone result (self.new ≡ self.old) }
     {
         let text = self.text;
-        let (line, behind) = first_line(&text[self.at..])?;
+        let (line, after) = first_line(&text[self.at..])?;
         self.number = self.ends + 1;
-        self.go_before(behind.len());
+        self.go_before(after.len());
         Some(line)
     }
 
-    /// The bytes of the block behind a line of data, and the one LF that may follow is passed over. The head is that
+    /// The bytes of the block after a line of data, and the one LF that may follow is passed over. The head is that
     /// line; a line that is none, or bytes that aren't there, are a defect.
     #[tactic(auto, unfolding(plain_model::specs::Fields::block_in))]
     pub fn block(&mut self, alloc: Global, head: &[u8]) -> Result<Text, FieldFault>

@@ -20,18 +20,18 @@ ghost use Rattle.plain_model.specs.Fields.{
   delimited,
   extent_in,
   extent_by,
-  block_behind,
-  due as due_field,
+  block_after,
+  expected as or_defect_field,
 };
 ghost use Rattle.plain_model.specs.Parts.{number_of};
 ghost use Rattle.stream_fields.specs.Blocks.{IsFirstLine, EndsAt};
 
-use crate::fault::due;
+use crate::fault::expected;
 use crate::lines::{place_of, words};
 use crate::numbers::{is_number, number_up_to};
 use plain_model::Why;
 
-// What stands behind the word `data` and a space.
+// What stands after the word `data` and a space.
 #[tactic(auto, unfolding(plain_model::specs::Fields::data_text))]
 fn text_of_data(line: &[u8]) -> Option<&[u8]>
     ensures { option_copied result ≡ data_text line.now }
@@ -44,9 +44,9 @@ fn text_of_data(line: &[u8]) -> Option<&[u8]>
     }
 }
 
-// The delimiter behind `<<`, which has one byte or more.
+// The delimiter after `<<`, which has one byte or more.
 fn delimiter_of(text: &[u8]) -> Option<&[u8]>
-    ensures value { due_field BadData (option_copied result) ≡ delimiter_in text.now }
+    ensures value { or_defect_field BadData (option_copied result) ≡ delimiter_in text.now }
     ensures some { IfSome result (λ delimiter. 1 ≤ length delimiter.now) }
 {
     match text {
@@ -94,7 +94,7 @@ fn delimited_end(delimiter: &[u8], text: &[u8]) -> Option<(usize, usize)>
 fn counted_end(digits: &[u8], text: &[u8]) -> Result<(usize, usize), Why>
     requires { IsTrue (is_some (number_of digits.now)) }
     ensures { EndsAt text.now result
-        (block_behind (extent_by digits.now (number_of digits.now)) text.now) }
+        (block_after (extent_by digits.now (number_of digits.now)) text.now) }
 {
     match number_up_to(text.len() as u64, digits) {
         Some(count) => Ok((count as usize, count as usize)),
@@ -102,21 +102,21 @@ fn counted_end(digits: &[u8], text: &[u8]) -> Result<(usize, usize), Why>
     }
 }
 
-// The end of a block up to a delimiter, behind a text that says it.
-#[tactic(auto, unfolding(plain_model::specs::Fields::block_behind))]
+// The end of a block up to a delimiter, after a text that says it.
+#[tactic(auto, unfolding(plain_model::specs::Fields::block_after))]
 fn end_by_delimiter(spelled: &[u8], text: &[u8]) -> Result<(usize, usize), Why>
-    ensures { EndsAt text.now result (block_behind (extent_by spelled.now None) text.now) }
+    ensures { EndsAt text.now result (block_after (extent_by spelled.now None) text.now) }
 {
     match delimiter_of(spelled) {
-        Some(delimiter) => due(Why::Truncated, delimited_end(delimiter, text)),
+        Some(delimiter) => expected(Why::Truncated, delimited_end(delimiter, text)),
         None => Err(Why::BadData),
     }
 }
 
-// The end of a block, behind a text that says how far it goes.
+// The end of a block, after a text that says how far it goes.
 fn end_by(spelled: &[u8], text: &[u8]) -> Result<(usize, usize), Why>
     ensures { EndsAt text.now result
-        (block_behind (extent_by spelled.now (number_of spelled.now)) text.now) }
+        (block_after (extent_by spelled.now (number_of spelled.now)) text.now) }
 {
     if is_number(spelled) {
         counted_end(spelled, text)
@@ -125,11 +125,11 @@ fn end_by(spelled: &[u8], text: &[u8]) -> Result<(usize, usize), Why>
     }
 }
 
-/// How many bytes of a text are the block behind a line `data COUNT` or `data <<DELIMITER`, and how many stand before
+/// How many bytes of a text are the block after a line `data COUNT` or `data <<DELIMITER`, and how many stand before
 /// what follows it. A count is compared before anything is taken. (git-fast-import, `data`.)
-#[tactic(auto, unfolding(plain_model::specs::Fields::extent_in, plain_model::specs::Fields::block_behind),)]
+#[tactic(auto, unfolding(plain_model::specs::Fields::extent_in, plain_model::specs::Fields::block_after),)]
 pub fn block_end(head: &[u8], text: &[u8]) -> Result<(usize, usize), Why>
-    ensures { EndsAt text.now result (block_behind (extent_in head.now) text.now) }
+    ensures { EndsAt text.now result (block_after (extent_in head.now) text.now) }
 {
     match text_of_data(head) {
         Some(spelled) => end_by(spelled, text),

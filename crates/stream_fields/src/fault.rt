@@ -1,12 +1,12 @@
 //! Why a field is not read.
 ghost use Rattle.std.specs.Prelude.{◌≡◌};
-ghost use Rattle.plain_model.specs.Fields.{due as due_field};
+ghost use Rattle.plain_model.specs.Fields.{expected as or_defect_field};
 ghost use Rattle.stream_fields.specs.declared.fault.FieldFault.TheVariants.{Bad, Memory};
 
 use plain_model::{NoMemory, Why};
 use thiserror::Error;
 
-/// Why a field is not read: the kind of its defect, or want of memory.
+/// Why a field is not read: the kind of its defect, or out of memory.
 #[derive(Clone, Copy, Debug, PartialEq, Eq, Error)]
 pub enum FieldFault {
     #[error("the field has the defect {0:?}")]
@@ -32,8 +32,8 @@ impl From<NoMemory> for FieldFault {
 }
 
 /// What was found, or this defect.
-pub fn due<T>(why: Why, found: Option<T>) -> Result<T, Why>
-    ensures { result ≡ due_field why found }
+pub fn expected<T>(why: Why, found: Option<T>) -> Result<T, Why>
+    ensures { result ≡ or_defect_field why found }
 {
     match found {
         Some(value) => Ok(value),

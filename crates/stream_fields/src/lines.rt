@@ -2,8 +2,8 @@
 ghost use Rattle.std.specs.Prelude.{◌≡◌, ◌==◌, ◌<◌, count_by, length, IfSome};
 ghost use Rattle.std.specs.List.{position};
 ghost use Rattle.std.specs.Option.{option_map, option_copied};
-ghost use Rattle.plain_model.specs.Fields.{first_word, behind_space};
-ghost use Rattle.plain_model.specs.Parts.{line_at, behind, is_lf, skip_lf, cut_at};
+ghost use Rattle.plain_model.specs.Fields.{first_word, after_space};
+ghost use Rattle.plain_model.specs.Parts.{line_at, rest_after, is_lf, skip_lf, cut_at};
 
 /// The place of the first such byte.
 pub fn place_of(byte: u8, text: &[u8]) -> Option<usize>
@@ -13,7 +13,7 @@ pub fn place_of(byte: u8, text: &[u8]) -> Option<usize>
     memchr::memchr(byte, text)
 }
 
-/// What stands before the first such byte, and what stands behind it.
+/// What stands before the first such byte, and what stands after it.
 #[tactic(auto, unfolding(plain_model::specs::Parts::cut_at))]
 pub fn cut(byte: u8, text: &[u8]) -> Option<(&[u8], &[u8])>
     ensures { option_map (λ x. (x.0.now, x.1.now)) result ≡ cut_at byte text.now }
@@ -43,10 +43,10 @@ pub fn count_line_ends(text: &[u8]) -> usize
     text.iter().filter(|b| **b == b'\n').count()
 }
 
-/// What stands behind a word, where the text begins with it.
-#[tactic(auto, unfolding(plain_model::specs::Parts::behind))]
+/// What stands after a word, where the text begins with it.
+#[tactic(auto, unfolding(plain_model::specs::Parts::rest_after))]
 pub fn strip<'a>(word: &[u8], text: &'a [u8]) -> Option<&'a [u8]>
-    ensures { option_copied result ≡ behind word.now text.now }
+    ensures { option_copied result ≡ rest_after word.now text.now }
 {
     text.strip_prefix(word)
 }
@@ -61,10 +61,10 @@ pub fn skip_line_feed(text: &[u8]) -> &[u8]
     }
 }
 
-/// The first word, and what stands behind the space that ends it, if one does.
+/// The first word, and what stands after the space that ends it, if one does.
 pub fn words(text: &[u8]) -> (&[u8], Option<&[u8]>)
     ensures first { result.0.now ≡ first_word text.now }
-    ensures behind { option_copied result.1 ≡ behind_space text.now }
+    ensures rest_after { option_copied result.1 ≡ after_space text.now }
 {
     match cut(b' ', text) {
         Some((word, rest)) => (word, Some(rest)),

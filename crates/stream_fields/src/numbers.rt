@@ -15,7 +15,7 @@ ghost use Rattle.plain_model.specs.Fields.{mark_in};
 ghost use Rattle.plain_model.specs.Numbers.{is_digit};
 ghost use Rattle.plain_model.specs.Parts.{number_of, number_within, mark_of};
 
-use crate::fault::due;
+use crate::fault::expected;
 use plain_model::{MAX_MARK, Mark, Why};
 
 // The number with one more digit, if it fits.
@@ -70,13 +70,13 @@ pub fn mark_of_digits(digits: &[u8]) -> Option<Mark>
     Mark::new(number_up_to(MAX_MARK, digits)?)
 }
 
-/// A mark behind its colon. (git-fast-import, `mark`.)
+/// A mark after its colon. (git-fast-import, `mark`.)
 #[tactic(auto, unfolding(plain_model::specs::Fields::mark_in))]
 pub fn read_mark(text: &[u8]) -> Result<Mark, Why>
     ensures { result ≡ mark_in text.now }
 {
     match text {
-        [b':', digits @ ..] => due(Why::BadMark, mark_of_digits(digits)),
+        [b':', digits @ ..] => expected(Why::BadMark, mark_of_digits(digits)),
         _ => Err(Why::BadMark),
     }
 }

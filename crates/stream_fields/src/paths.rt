@@ -34,8 +34,8 @@ fn path_of(alloc: Global, bytes: &[u8]) -> Result<Path, FieldFault>
     }
 }
 
-// Whether such a text may stand behind a path in quotes.
-fn fits_behind(place: Place, rest: &[u8]) -> bool
+// Whether such a text may stand after a path in quotes.
+fn fits_after(place: Place, rest: &[u8]) -> bool
     ensures { result ≡ may_follow place rest.now }
 {
     match rest {
@@ -47,7 +47,7 @@ fn fits_behind(place: Place, rest: &[u8]) -> bool
     }
 }
 
-// A path in quotes, behind the first of them.
+// A path in quotes, after the first of them.
 #[tactic(auto, unfolding(plain_model::specs::Fields::quoted_path))]
 fn read_quoted(alloc: Global, text: &[u8], place: Place) -> Result<(Path, usize), FieldFault>
     requires { 1 ≤ length text.now }
@@ -59,7 +59,7 @@ fn read_quoted(alloc: Global, text: &[u8], place: Place) -> Result<(Path, usize)
     let Some((bytes, taken)) = unquote(alloc, quoted)? else {
         return Err(FieldFault::Bad(Why::BadPath));
     };
-    if !fits_behind(place, &quoted[taken..]) {
+    if !fits_after(place, &quoted[taken..]) {
         return Err(FieldFault::Bad(Why::BadPath));
     }
     let path = path_of(alloc, bytes.as_slice())?;
@@ -88,7 +88,7 @@ pub fn begins_with_quote(text: &[u8]) -> bool
 
 /// The path at the front of a text, and how many bytes its spelling takes, quotes included. Without quotes a path
 /// goes to the first space where another follows, else to the end. In quotes a backslash stands before one of
-/// `abfnrtv"\` or three octal digits; behind the last quote stands nothing, or a space where another path follows.
+/// `abfnrtv"\` or three octal digits; after the last quote stands nothing, or a space where another path follows.
 /// (git-fast-import, `<path>`.)
 #[tactic(auto, unfolding(plain_model::specs::Fields::path_in))]
 pub fn read_path(alloc: Global, text: &[u8], place: Place) -> Result<(Path, usize), FieldFault>
@@ -103,7 +103,7 @@ pub fn read_path(alloc: Global, text: &[u8], place: Place) -> Result<(Path, usiz
     Ok((path, spelled.len()))
 }
 
-/// The path that ends a line, behind a space; it is missing where there is none.
+/// The path that ends a line, after a space; it is missing where there is none.
 #[tactic(auto, unfolding(plain_model::specs::Fields::last_path_in))]
 pub fn read_last_path(alloc: Global, text: Option<&[u8]>) -> Result<Path, FieldFault>
     ensures { Gives (λ path. path) result (last_path_in (option_copied text.entry)) }

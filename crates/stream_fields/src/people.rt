@@ -2,11 +2,11 @@
 ghost use Rattle.std.specs.Prelude.{◌≡◌};
 ghost use Rattle.std.specs.Option.{option_map, option_copied};
 ghost use Rattle.plain_model.specs.Fields.{person_in};
-ghost use Rattle.plain_model.specs.Parts.{name_of, zone_of, when_of, when_behind, person_parts};
+ghost use Rattle.plain_model.specs.Parts.{name_of, zone_of, when_of, when_after, person_parts};
 ghost use Rattle.plain_model.specs.People.{is_clean};
 ghost use Rattle.stream_fields.specs.Answers.{Gives};
 
-use crate::fault::{FieldFault, due};
+use crate::fault::{FieldFault, expected};
 use crate::lines::{cut, strip};
 use crate::numbers::number_up_to;
 use plain_model::{Items, MAX_SECONDS, Person, Signed, When, Why};
@@ -65,10 +65,10 @@ fn moment(text: &[u8]) -> Option<When>
     with_zone(seconds, rest)
 }
 
-// The moment behind an email and a space.
-#[tactic(auto, unfolding(plain_model::specs::Parts::when_behind))]
-fn moment_behind(tail: &[u8]) -> Option<When>
-    ensures { result ≡ when_behind tail.now }
+// The moment after an email and a space.
+#[tactic(auto, unfolding(plain_model::specs::Parts::when_after))]
+fn moment_after(tail: &[u8]) -> Option<When>
+    ensures { result ≡ when_after tail.now }
 {
     moment(strip(b" ", tail)?)
 }
@@ -94,8 +94,8 @@ fn parts_of_person(text: &[u8]) -> Option<(&[u8], &[u8], &[u8])>
 pub fn read_person(alloc: Global, text: &[u8]) -> Result<Signed, FieldFault>
     ensures { Gives (λ who. who) result (person_in text.now) }
 {
-    let (name, email, tail) = due(Why::BadPerson, parts_of_person(text))?;
-    let when = due(Why::BadWhen, moment_behind(tail))?;
+    let (name, email, tail) = expected(Why::BadPerson, parts_of_person(text))?;
+    let when = expected(Why::BadWhen, moment_after(tail))?;
     let person = Person {
         name: Items::of(alloc, name)?,
         email: Items::of(alloc, email)?,

@@ -55,7 +55,7 @@ fn op_shown(alloc: Global, line: &[u8]) -> Result<Text, Fail> {
     Ok(out)
 }
 
-// BYTES|THE LINE THAT FOLLOWS|ITS NUMBER, behind a text whose first line is one of data
+// BYTES|THE LINE THAT FOLLOWS|ITS NUMBER, after a text whose first line is one of data
 fn block_shown(alloc: Global, text: &[u8]) -> Result<Text, Fail> {
     let mut out = Items::empty(alloc);
     let mut cursor = Cursor::new(text);
@@ -99,7 +99,7 @@ fn paths_at_the_end_of_a_line(rt: HostRuntime) -> Result<(), Fail> {
         ("two octal digits", b"\"\\40\"", b"BadPath"),
         ("an escape that is none", b"\"\\x\"", b"BadPath"),
         ("no last quote", b"\"a", b"BadPath"),
-        ("something behind the quotes", b"\"\"x", b"BadPath"),
+        ("something after the quotes", b"\"\"x", b"BadPath"),
         ("a NUL in octal digits", b"\"\\000\"", b"BadPath"),
         ("no bytes", b"", b"LeftOut"),
         ("no bytes in quotes", b"\"\"", b"LeftOut"),
@@ -119,7 +119,7 @@ fn paths_before_another(rt: HostRuntime) -> Result<(), Fail> {
         ("up to the first space", b"a b c", b"a|1"),
         ("up to the end", b"a", b"a|1"),
         ("a space in quotes", b"\"a\\040b\" c", b"a b|8"),
-        ("no space behind the quotes", b"\"a\"b c", b"BadPath"),
+        ("no space after the quotes", b"\"a\"b c", b"BadPath"),
         ("two spaces", b" a", b"LeftOut"),
         ("empty quotes", b"\"\" a", b"LeftOut"),
     ];
@@ -166,12 +166,12 @@ fn people_and_dates(rt: HostRuntime) -> Result<(), Fail> {
         ("one second more", b"<> 250000000001 +0000", b"BadWhen"),
         ("no email", b"Ann 1 +0000", b"BadPerson"),
         ("an email that doesn't end", b"Ann <ann@exam", b"BadPerson"),
-        ("no space behind the name", b"Ann<a> 1 +0000", b"BadPerson"),
+        ("no space after the name", b"Ann<a> 1 +0000", b"BadPerson"),
         ("a NUL in the name", b"A\0 <a> 1 +0000", b"BadPerson"),
         ("a cut date", b"Ann <a@x> 13062", b"BadWhen"),
         ("three digits of a zone", b"<> 1 +000", b"BadWhen"),
         ("a zone without a sign", b"<> 1 00000", b"BadWhen"),
-        ("a CR behind the zone", b"<> 1 +0000\r", b"BadWhen"),
+        ("a CR after the zone", b"<> 1 +0000\r", b"BadWhen"),
     ];
     for (what, text, want) in rows {
         let shown = person_shown(rt.alloc(), text)?;

@@ -3,14 +3,14 @@ use Rattle.std.proofs.Common.{◌≡◌, ℕ, Bool, true, false, cond, ◌∷◌
 use Rattle.plain_model.specs.declared.fault.Why.{Why}
 use Rattle.plain_model.specs.Fields.{◌>>=◌}
 use Rattle.plain_model.specs.Paths.{Bytes}
-use Rattle.line_machine.specs.Machine.{Next, outcome, none, IsCleanBefore, NoneIsClean}
-use Rattle.line_machine.specs.Machine.Next.{More}
-use Rattle.line_machine.specs.Machine.Outcome.{Reads}
-use Rattle.line_machine.proofs.Judging.{is_spelled, one_first_defect}
+use Rattle.line_automaton.specs.Machine.{Next, outcome, none, IsCleanBefore, NoneIsClean}
+use Rattle.line_automaton.specs.Machine.Next.{More}
+use Rattle.line_automaton.specs.Machine.Outcome.{Reads}
+use Rattle.line_automaton.proofs.Judging.{is_spelled, one_first_defect}
 use Rattle.stream_grammar.specs.declared.lines.Standing.{Standing}
 use Rattle.stream_grammar.specs.declared.lines.Word.{Word}
 use Rattle.stream_grammar.specs.Known.{Known}
-use Rattle.stream_grammar.specs.Lines.{State, stream, is_comment, word_of, must_go_on, behind_word, next_of, looked_at, read_on, word_step, line_step, data_landed, AreSpelledAlike}
+use Rattle.stream_grammar.specs.Lines.{State, stream, is_comment, word_of, must_go_on, after_word, next_of, looked_at, read_on, word_step, line_step, data_arrived, AreSpelledAlike}
 
 abbrev with_known : State → Known → State
 with_known s k = record s { known = k }
@@ -58,23 +58,23 @@ module _ (judge : Bool) (s : State) (k : Known) (line : Bytes) (new : State) (ne
     where
       go : (t : Bool) → cond t (Ok (s, More)) (word_step judge s line (word_of line)) ≡ Ok (new, next) → GoesAlike (cond t (Ok (with_known s k, More)) (word_step false (with_known s k) line (word_of line))) new next
       go true e = made_alike s k More new next e
-      go false e = word_alike (word_of line) (behind_word s.standing (word_of line)) e
+      go false e = word_alike (word_of line) (after_word s.standing (word_of line)) e
 
 step_alike : (judge : Bool) (s t : State) (line : Bytes) (new : State) (next : Next) → AreSpelledAlike s t → line_step judge s line ≡ Ok (new, next) → GoesAlike (line_step false t line) new next
 step_alike judge s t line new next h e =
     let is : with_known s t.known ≡ t = λ i. record { standing = h.0 i; spelled = h.1 i; known = t.known } in
     subst (λ q. GoesAlike (line_step false q line) new next) is (line_alike judge s t.known line new next e)
 
-landed_alike : (s t : State) (bytes : Bytes) → AreSpelledAlike s t → AreSpelledAlike (data_landed s bytes) (data_landed t bytes)
-landed_alike s t bytes h = (h.0, λ i. bytes ∷ h.1 i)
+arrived_alike : (s t : State) (bytes : Bytes) → AreSpelledAlike s t → AreSpelledAlike (data_arrived s bytes) (data_arrived t bytes)
+arrived_alike s t bytes h = (h.0, λ i. bytes ∷ h.1 i)
 
-due_alike : (s t : State) → AreSpelledAlike s t → must_go_on s.standing ≡ must_go_on t.standing
-due_alike s t h = ap must_go_on h.0
+expected_alike : (s t : State) → AreSpelledAlike s t → must_go_on s.standing ≡ must_go_on t.standing
+expected_alike s t h = ap must_go_on h.0
 
 -- What is read, whichever lines are judged, is read where none is, by the same lines.
 pub clean_is_spelled : (j : ℕ → Bool) (x : Bytes) (s : State) → outcome stream j x ≡ Reads s → (t : State) × (outcome stream none x ≡ Reads t) × AreSpelledAlike s t
-clean_is_spelled = is_spelled stream AreSpelledAlike (λ s. (refl, refl)) step_alike landed_alike due_alike
+clean_is_spelled = is_spelled stream AreSpelledAlike (λ s. (refl, refl)) step_alike arrived_alike expected_alike
 
 -- The other texts alone fix the line of the first defect.
 pub one_line : (x : Bytes) (n m : ℕ) → IsCleanBefore stream x n → NoneIsClean stream x n → IsCleanBefore stream x m → NoneIsClean stream x m → n ≡ m
-one_line = one_first_defect stream AreSpelledAlike (λ s. (refl, refl)) step_alike landed_alike due_alike
+one_line = one_first_defect stream AreSpelledAlike (λ s. (refl, refl)) step_alike arrived_alike expected_alike

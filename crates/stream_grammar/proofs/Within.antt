@@ -9,13 +9,13 @@ use Rattle.plain_model.specs.declared.fault.Why.{Why}
 use Rattle.plain_model.specs.declared.fault.Why.TheVariants.{Truncated}
 use Rattle.plain_model.specs.declared.limit.TheConstants.{MAX_MARK}
 use Rattle.plain_model.specs.Paths.{Bytes}
-use Rattle.line_machine.specs.Limits.{Cause, PassesLimit}
-use Rattle.line_machine.specs.Limits.Cause.{Defect, Passes}
-use Rattle.line_machine.specs.Machine.{Outcome, outcome, all}
-use Rattle.line_machine.specs.Machine.Outcome.{Reads, Refuses, Lacks}
-use Rattle.line_machine.proofs.LimitLaws.{limited_reads, limited_lacks, limited_defect, limited_passes}
+use Rattle.line_automaton.specs.Limits.{Cause, ExceedsLimit}
+use Rattle.line_automaton.specs.Limits.Cause.{Defect, Exceeds}
+use Rattle.line_automaton.specs.Machine.{Outcome, outcome, all}
+use Rattle.line_automaton.specs.Machine.Outcome.{Reads, Refuses, Misses}
+use Rattle.line_automaton.proofs.LimitLaws.{limited_reads, limited_misses, limited_defect, limited_passes}
 use Rattle.stream_grammar.specs.Known.{Known, closed, history_of}
-use Rattle.stream_grammar.specs.Limits.{passed, stream_within, last_mark, unless_spent, known_given, if_known, stream_of, limit_number}
+use Rattle.stream_grammar.specs.Limits.{exceeded, stream_within, last_mark, unless_spent, known_given, if_known, stream_of, limit_number}
 use Rattle.stream_grammar.specs.Lines.{State, stream, history_read, history_in, IsFirstDefect}
 use Rattle.stream_grammar.proofs.FirstDefect.{stops, ends_early}
 
@@ -38,9 +38,9 @@ pub history : (bytes : Bytes) (h : List PlainEvent) → stream_of bytes ≡ Ok h
 history bytes h e = go (outcome stream_within all bytes) refl e
   where
     go : (o : Answered) → outcome stream_within all bytes ≡ o → if_known (known_given o) ≡ Ok h → history_in bytes ≡ Some h
-    go (Reads s) is e = ap history_read (limited_reads stream passed all bytes s is) ∙ ap (λ l. Some l) (not_spent s.known h e)
+    go (Reads s) is e = ap history_read (limited_reads stream exceeded all bytes s is) ∙ ap (λ l. Some l) (not_spent s.known h e)
     go (Refuses n cause) is e = absurd cc
-    go (Lacks n) is e = absurd cc
+    go (Misses n) is e = absurd cc
 
 -- ---- why there is none
 
@@ -74,33 +74,33 @@ defect bytes n why e = go (outcome stream_within all bytes) refl e
     go (Refuses m (Defect w)) is e =
         let line : m ≡ n = cc in
         let kind : w ≡ why = cc in
-        inl ((stops bytes n why).1 (limited_defect stream passed all bytes n why (is ∙ (λ i. Refuses (line i) (Defect (kind i))))))
-    go (Refuses m (Passes which)) is e = absurd cc
-    go (Lacks m) is e =
+        inl ((stops bytes n why).1 (limited_defect stream exceeded all bytes n why (is ∙ (λ i. Refuses (line i) (Defect (kind i))))))
+    go (Refuses m (Exceeds which)) is e = absurd cc
+    go (Misses m) is e =
         let line : m ≡ n = cc in
         let kind : Truncated ≡ why = cc in
-        inr (sym kind, (ends_early bytes n).1 (limited_lacks stream passed all bytes n (is ∙ ap (λ l. Lacks l) line)))
+        inr (sym kind, (ends_early bytes n).1 (limited_misses stream exceeded all bytes n (is ∙ ap (λ l. Misses l) line)))
 
 pub limit : (bytes : Bytes) (which : Which) (number : ℕ) → stream_of bytes ≡ Err (Limit which number)
-    → (number ≡ limit_number which) × (n : ℕ) × PassesLimit stream passed bytes n which
+    → (number ≡ limit_number which) × (n : ℕ) × ExceedsLimit stream exceeded bytes n which
 limit bytes which number e = go (outcome stream_within all bytes) refl e
   where
     go : (o : Answered) → outcome stream_within all bytes ≡ o → if_known (known_given o) ≡ Err (Limit which number)
-        → (number ≡ limit_number which) × (n : ℕ) × PassesLimit stream passed bytes n which
+        → (number ≡ limit_number which) × (n : ℕ) × ExceedsLimit stream exceeded bytes n which
     go (Reads s) is e = absurd (no_limit s.known which number e)
     go (Refuses m (Defect w)) is e = absurd cc
-    go (Refuses m (Passes w)) is e =
+    go (Refuses m (Exceeds w)) is e =
         let same : w ≡ which = cc in
-        let told : limit_number w ≡ number = cc in
-        (sym told ∙ ap limit_number same, m, limited_passes stream passed bytes m which (is ∙ ap (λ l. Refuses m (Passes l)) same))
-    go (Lacks m) is e = absurd cc
+        let prescribed : limit_number w ≡ number = cc in
+        (sym prescribed ∙ ap limit_number same, m, limited_passes stream exceeded bytes m which (is ∙ ap (λ l. Refuses m (Exceeds l)) same))
+    go (Misses m) is e = absurd cc
 
 pub spent : (bytes : Bytes) → stream_of bytes ≡ Err MarksSpent → (s : State) × (outcome stream all bytes ≡ Reads s) × (MAX_MARK < last_mark (closed s.known))
 spent bytes e = go (outcome stream_within all bytes) refl e
   where
     go : (o : Answered) → outcome stream_within all bytes ≡ o → if_known (known_given o) ≡ Err MarksSpent
         → (s : State) × (outcome stream all bytes ≡ Reads s) × (MAX_MARK < last_mark (closed s.known))
-    go (Reads s) is e = (s, limited_reads stream passed all bytes s is, spent_marks s.known e)
+    go (Reads s) is e = (s, limited_reads stream exceeded all bytes s is, spent_marks s.known e)
     go (Refuses m (Defect w)) is e = absurd cc
-    go (Refuses m (Passes w)) is e = absurd cc
-    go (Lacks m) is e = absurd cc
+    go (Refuses m (Exceeds w)) is e = absurd cc
+    go (Misses m) is e = absurd cc

@@ -1,4 +1,4 @@
--- What is known behind the lines that were read: the events so far, and the one that is being read
+-- What is known after the lines that were read: the events so far, and the one that is being read
 -- (git-fast-import, "Input format").
 use Rattle.std.specs.Prelude.{ℕ, ◌+◌, ◌==◌, ◌&&◌, ◌||◌, not, Bool, true, false, List, [], ◌∷◌, ◌++◌, length, drop, Option, Some, None, Result, Ok, Err, codes, bytes_eq, option_map, unwrap_or, if◌then◌else◌}
 use Rattle.std.specs.List.{list_any, list_all}
@@ -14,7 +14,7 @@ use Rattle.plain_model.specs.declared.raw.RawContent.{RawContent}
 use Rattle.plain_model.specs.declared.raw.RawContent.TheVariants.{Marked, Object, Inline}
 use Rattle.plain_model.specs.declared.event.PlainEvent.{PlainEvent}
 use Rattle.plain_model.specs.declared.event.PlainEvent.TheVariants as plain
-use Rattle.plain_model.specs.Fields.{◌>>=◌, due, first_word, behind_space, mark_in, path_in, last_path_in, mode_in, content_in, is_any_hex}
+use Rattle.plain_model.specs.Fields.{◌>>=◌, or_defect, first_word, after_space, mark_in, path_in, last_path_in, mode_in, content_in, is_any_hex}
 use Rattle.plain_model.specs.Histories.{begun, folded, tree}
 use Rattle.plain_model.specs.Lookups.{greatest_mark}
 use Rattle.plain_model.specs.Parts.{begins}
@@ -66,7 +66,7 @@ closed_commit events c None = events
 closed_commit events c (Some committer) =
     with_event events (plain.Commit (next_id events) c.mark c.branch (unwrap_or c.author committer) committer c.encoding c.comment c.parents c.ops)
 
--- the event that was read last is behind the others; without an author its committer is the author
+-- the event that was read last is after the others; without an author its committer is the author
 abbrev pub closed : Known → List PlainEvent
 closed k = elim k.current [
   | Nothing ↦ k.events
@@ -76,7 +76,7 @@ closed k = elim k.current [
   | AReset branch target ↦ with_event k.events (plain.Reset (next_id k.events) branch target)
 ]
 
--- the block of data behind a line is there: a blob's bytes, a tag's comment, the bytes of an operation, a commit's comment
+-- the block of data after a line is there: a blob's bytes, a tag's comment, the bytes of an operation, a commit's comment
 abbrev pub with_data : Bool → Bytes → Known → Known
 with_data inline bytes k = elim k.current [
   | Nothing ↦ k
@@ -104,11 +104,11 @@ abbrev pub ref_in : List PlainEvent → Bytes → Result ℕ Why
 ref_in events text =
     if is_empty text then Err BadMark else
     if is_left_out_ref text then Err LeftOut else
-    if begins (codes ":") text then (mark_in text >>= λ mark. due UnknownMark (commit_marked events mark)) else due UnknownRef (at (refs events) text)
+    if begins (codes ":") text then (mark_in text >>= λ mark. or_defect UnknownMark (commit_marked events mark)) else or_defect UnknownRef (at (refs events) text)
 
 -- what an operation puts at its path: an earlier blob, an object, or the blob that follows
 abbrev pub placed : List PlainEvent → RawContent → Result Content Why
-placed events (Marked mark) = due UnknownMark (option_map OfBlob (blob_marked events mark))
+placed events (Marked mark) = or_defect UnknownMark (option_map OfBlob (blob_marked events mark))
 placed events (Object digits) = Ok (OfObject digits)
 placed events Inline = Ok (OfBlob (next_id events))
 
@@ -123,30 +123,30 @@ has_source source (Some t) = not (is_empty_list (subtree source t))
 -- ---- operations
 
 -- `MODE CONTENT PATH`
-abbrev pub modify_behind : List PlainEvent → Bytes → Result FileOp Why
-modify_behind events text =
+abbrev pub modify_after : List PlainEvent → Bytes → Result FileOp Why
+modify_after events text =
     mode_in (first_word text) >>= λ mode.
-    due BadMark (behind_space text) >>= λ fields.
+    or_defect BadMark (after_space text) >>= λ fields.
     content_in mode (first_word fields) >>= λ raw.
     placed events raw >>= λ content.
-    last_path_in (behind_space fields) >>= λ path.
+    last_path_in (after_space fields) >>= λ path.
     Ok (Modify mode content path)
 
 -- `SOURCE TARGET`, where the tree has the source
-abbrev pub paths_behind : Option Tree → Bytes → Result (Bytes × Bytes) Why
-paths_behind tree text =
+abbrev pub paths_after : Option Tree → Bytes → Result (Bytes × Bytes) Why
+paths_after tree text =
     path_in Source text >>= λ source.
     ensure (has_source source.0 tree) MissingSource >>= λ there.
-    last_path_in (behind_space (drop source.1 text)) >>= λ target.
+    last_path_in (after_space (drop source.1 text)) >>= λ target.
     Ok (source.0, target)
 
-abbrev pub op_behind : List PlainEvent → OpenCommit → Bytes → Result FileOp Why
-op_behind events c line =
+abbrev pub op_after : List PlainEvent → OpenCommit → Bytes → Result FileOp Why
+op_after events c line =
     let word = first_word line in
-    if bytes_eq word (codes "M") then (due BadMode (behind_space line) >>= λ text. modify_behind events text) else
-    if bytes_eq word (codes "D") then (last_path_in (behind_space line) >>= λ path. Ok (Delete path)) else
-    if bytes_eq word (codes "C") then (due BadPath (behind_space line) >>= λ text. paths_behind (tree_now events c) text >>= λ p. Ok (Copy p.0 p.1)) else
-    if bytes_eq word (codes "R") then (due BadPath (behind_space line) >>= λ text. paths_behind (tree_now events c) text >>= λ p. Ok (Rename p.0 p.1)) else Ok DeleteAll
+    if bytes_eq word (codes "M") then (or_defect BadMode (after_space line) >>= λ text. modify_after events text) else
+    if bytes_eq word (codes "D") then (last_path_in (after_space line) >>= λ path. Ok (Delete path)) else
+    if bytes_eq word (codes "C") then (or_defect BadPath (after_space line) >>= λ text. paths_after (tree_now events c) text >>= λ p. Ok (Copy p.0 p.1)) else
+    if bytes_eq word (codes "R") then (or_defect BadPath (after_space line) >>= λ text. paths_after (tree_now events c) text >>= λ p. Ok (Rename p.0 p.1)) else Ok DeleteAll
 
 -- ---- parents
 

@@ -15,10 +15,10 @@ use Rattle.plain_model.specs.Lookups.{greatest_mark}
 use Rattle.plain_model.specs.Paths.{Bytes}
 use Rattle.plain_model.specs.Trees.{Tree, Refusal, apply}
 use Rattle.plain_model.specs.Trees.Refusal.{MissingSource, PathBytes as LongPath, Paths as ManyPaths}
-use Rattle.line_machine.specs.Limits.{Cause, limited}
-use Rattle.line_machine.specs.Limits.Cause.{Defect, Passes}
-use Rattle.line_machine.specs.Machine.{Automaton, Outcome, outcome, all}
-use Rattle.line_machine.specs.Machine.Outcome.{Reads, Refuses, Lacks}
+use Rattle.line_automaton.specs.Limits.{Cause, limited}
+use Rattle.line_automaton.specs.Limits.Cause.{Defect, Exceeds}
+use Rattle.line_automaton.specs.Machine.{Automaton, Outcome, outcome, all}
+use Rattle.line_automaton.specs.Machine.Outcome.{Reads, Refuses, Misses}
 use Rattle.stream_grammar.specs.declared.lines.Word.{Word}
 use Rattle.stream_grammar.specs.declared.lines.Word.TheVariants as word
 use Rattle.stream_grammar.specs.Known.{Known, Open, closed, history_of}
@@ -106,7 +106,7 @@ tree_limit k = elim k.current [
 abbrev pub op_limit : ℕ → Known → Option Which
 op_limit more k = limit_if MAX_EVENTS (event_count k + more) Events (limit_if MAX_OPERATIONS (op_count k) Operations (tree_limit k))
 
--- The limit that a line of this word passes, behind which so much is known. An event counts at its first line, the blob of
+-- The limit that a line of this word passes, after which so much is known. An event counts at its first line, the blob of
 -- bytes that follow an operation and the operation at the operation's line, a parent and the `deleteall` that is put in at
 -- the line of a merge.
 abbrev pub limit_at : Word → Known → Option Which
@@ -121,26 +121,26 @@ limit_at word.InlineOperation k = op_limit 1 k
 limit_at word.Merge k = limit_if MAX_OPERATIONS (op_count k) Operations (limit_if MAX_PARENTS (open_parents k.current) Parents None)
 limit_at _ k = None
 
--- the same of a line and the state behind it; a comment passes none
-abbrev pub passed : Bytes → State → Option Which
-passed line s = if is_comment line then None else limit_at (word_of line) s.known
+-- the same of a line and the state after it; a comment passes none
+abbrev pub exceeded : Bytes → State → Option Which
+exceeded line s = if is_comment line then None else limit_at (word_of line) s.known
 
 -- the grammar within its limits; at one line a defect comes first
 abbrev pub stream_within : Automaton State (Cause Why Which)
-stream_within = limited stream passed
+stream_within = limited stream exceeded
 
--- what is known behind a line, unless it passes a limit
+-- what is known after a line, unless it passes a limit
 abbrev pub within_limit : Option Which → Known → Result Known (Cause Why Which)
 within_limit None k = Ok k
-within_limit (Some which) k = Err (Passes which)
+within_limit (Some which) k = Err (Exceeds which)
 
-abbrev pub behind_judged : Word → Result Known Why → Result Known (Cause Why Which)
-behind_judged w (Err why) = Err (Defect why)
-behind_judged w (Ok k) = within_limit (limit_at w k) k
+abbrev pub after_judged : Word → Result Known Why → Result Known (Cause Why Which)
+after_judged w (Err why) = Err (Defect why)
+after_judged w (Ok k) = within_limit (limit_at w k) k
 
--- what is known behind a line: its fields are judged from left to right, and then the limits
+-- what is known after a line: its fields are judged from left to right, and then the limits
 abbrev pub judged_within : Word → Bytes → Known → Result Known (Cause Why Which)
-judged_within w line k = behind_judged w (judged w line k)
+judged_within w line k = after_judged w (judged w line k)
 
 -- ---- what a stream gives
 
@@ -180,14 +180,14 @@ unless_spent k = if nat_lt MAX_MARK (last_mark (closed k)) then Err fault.MarksS
 
 abbrev pub fault_of : ℕ → Cause Why Which → Fault
 fault_of n (Defect why) = fault.BadStream n why
-fault_of n (Passes which) = fault.Limit which (limit_number which)
+fault_of n (Exceeds which) = fault.Limit which (limit_number which)
 
 abbrev pub known_given : Outcome State (Cause Why Which) → Result Known Fault
 known_given (Reads s) = Ok s.known
 known_given (Refuses n cause) = Err (fault_of n cause)
-known_given (Lacks n) = Err (fault.BadStream n Truncated)
+known_given (Misses n) = Err (fault.BadStream n Truncated)
 
--- What is known behind all lines of a text, or the first line that has a defect or passes a limit, or the end that comes
+-- What is known after all lines of a text, or the first line that has a defect or passes a limit, or the end that comes
 -- too early.
 abbrev pub known_in : Bytes → Result Known Fault
 known_in bytes = known_given (outcome stream_within all bytes)

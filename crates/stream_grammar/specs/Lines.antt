@@ -6,32 +6,32 @@ use Rattle.plain_model.specs.declared.fault.Why.TheVariants.{UnknownLine, Missin
 use Rattle.plain_model.specs.declared.person.Signed.{Signed}
 use Rattle.plain_model.specs.declared.event.PlainEvent.{PlainEvent}
 use Rattle.plain_model.specs.declared.event.PlainEvent.TheVariants as plain
-use Rattle.plain_model.specs.Fields.{◌>>=◌, Extent, first_word, behind_space, mark_in, name_in, person_in, extent_in, is_left_out_word}
+use Rattle.plain_model.specs.Fields.{◌>>=◌, Extent, first_word, after_space, mark_in, name_in, person_in, extent_in, is_left_out_word}
 use Rattle.plain_model.specs.Fields.Extent.{Counted, Delimited}
 use Rattle.plain_model.specs.Parts.{begins}
 use Rattle.plain_model.specs.Paths.{Bytes}
 use Rattle.plain_model.specs.Snapshots.{refs}
 use Rattle.plain_model.specs.Streams.{is_marked}
 use Rattle.plain_model.specs.Trees.{at}
-use Rattle.line_machine.specs.Machine.{Next, Automaton, Outcome, outcome, all, Stops, EndsEarly}
-use Rattle.line_machine.specs.Machine.Next.{More, Block, Until, Over}
-use Rattle.line_machine.specs.Machine.Outcome.{Reads, Refuses, Lacks}
+use Rattle.line_automaton.specs.Machine.{Next, Automaton, Outcome, outcome, all, Stops, EndsEarly}
+use Rattle.line_automaton.specs.Machine.Next.{More, Block, Until, Over}
+use Rattle.line_automaton.specs.Machine.Outcome.{Reads, Refuses, Misses}
 use Rattle.stream_grammar.specs.declared.lines.Due.{Due}
-use Rattle.stream_grammar.specs.declared.lines.Due.TheVariants as due
+use Rattle.stream_grammar.specs.declared.lines.Due.TheVariants as expected
 use Rattle.stream_grammar.specs.declared.lines.Follow.{Follow}
-use Rattle.stream_grammar.specs.declared.lines.Follow.TheVariants.{Goes, Lacking, Finished}
+use Rattle.stream_grammar.specs.declared.lines.Follow.TheVariants.{Goes, Missing, Finished}
 use Rattle.stream_grammar.specs.declared.lines.Follow.TheVariants as follow
 use Rattle.stream_grammar.specs.declared.lines.Standing.{Standing}
 use Rattle.stream_grammar.specs.declared.lines.Word.{Word}
 use Rattle.stream_grammar.specs.declared.lines.Word.TheVariants as word
-use Rattle.stream_grammar.specs.Known.{Known, OpenCommit, Open, closed, with_data, with_event, next_id, ensure, ref_in, op_behind, with_parent, history_of}
+use Rattle.stream_grammar.specs.Known.{Known, OpenCommit, Open, closed, with_data, with_event, next_id, ensure, ref_in, op_after, with_parent, history_of}
 use Rattle.stream_grammar.specs.Known.Open.{Nothing, ABlob, ACommit, ATag, AReset}
 
 -- ---- words
 
--- what stands behind the first space, empty if there is none
+-- what stands after the first space, empty if there is none
 abbrev pub text_of : Bytes → Bytes
-text_of line = elim (behind_space line) [ None ↦ [] | Some text ↦ text ]
+text_of line = elim (after_space line) [ None ↦ [] | Some text ↦ text ]
 
 -- an operation whose content is `inline`
 abbrev pub is_inline : Bytes → Bool
@@ -40,9 +40,9 @@ is_inline line = bytes_eq (first_word (text_of (text_of line))) (codes "inline")
 abbrev pub is_operation : Bytes → Bool
 is_operation word = bytes_eq word (codes "M") || bytes_eq word (codes "D") || bytes_eq word (codes "C") || bytes_eq word (codes "R")
 
--- a keyword that has any text behind it
+-- a keyword that has any text after it
 abbrev pub has_text : Bytes → Bytes → Bool
-has_text keyword line = bytes_eq (first_word line) keyword && is_some (behind_space line)
+has_text keyword line = bytes_eq (first_word line) keyword && is_some (after_space line)
 
 abbrev pub word_of : Bytes → Word
 word_of line =
@@ -74,88 +74,88 @@ is_comment line = begins (codes "#") line
 -- ---- what may follow
 
 abbrev pub follows : Due → Word → Follow
-follows due.Event w = Finished
-follows due.BlobMark word.Mark = Goes due.BlobOid
-follows due.BlobMark word.Oid = Goes due.BlobData
-follows due.BlobMark word.Data = Goes due.Event
-follows due.BlobMark w = Lacking
-follows due.BlobOid word.Oid = Goes due.BlobData
-follows due.BlobOid word.Data = Goes due.Event
-follows due.BlobOid w = Lacking
-follows due.BlobData word.Data = Goes due.Event
-follows due.BlobData w = Lacking
-follows due.CommitMark word.Mark = Goes due.CommitOid
-follows due.CommitMark word.Oid = Goes due.CommitAuthor
-follows due.CommitMark word.Author = Goes due.CommitCommitter
-follows due.CommitMark word.Committer = Goes due.CommitEncoding
-follows due.CommitMark w = Lacking
-follows due.CommitOid word.Oid = Goes due.CommitAuthor
-follows due.CommitOid word.Author = Goes due.CommitCommitter
-follows due.CommitOid word.Committer = Goes due.CommitEncoding
-follows due.CommitOid w = Lacking
-follows due.CommitAuthor word.Author = Goes due.CommitCommitter
-follows due.CommitAuthor word.Committer = Goes due.CommitEncoding
-follows due.CommitAuthor w = Lacking
-follows due.CommitCommitter word.Committer = Goes due.CommitEncoding
-follows due.CommitCommitter w = Lacking
-follows due.CommitEncoding word.Encoding = Goes due.CommitData
-follows due.CommitEncoding word.Data = Goes due.CommitFrom
-follows due.CommitEncoding w = Lacking
-follows due.CommitData word.Data = Goes due.CommitFrom
-follows due.CommitData w = Lacking
-follows due.CommitFrom word.From = Goes due.CommitMerge
-follows due.CommitFrom word.Merge = Goes due.CommitMerge
-follows due.CommitFrom word.Operation = Goes due.CommitOperation
-follows due.CommitFrom word.InlineOperation = Goes due.InlineData
-follows due.CommitFrom w = Finished
-follows due.CommitMerge word.Merge = Goes due.CommitMerge
-follows due.CommitMerge word.Operation = Goes due.CommitOperation
-follows due.CommitMerge word.InlineOperation = Goes due.InlineData
-follows due.CommitMerge w = Finished
-follows due.CommitOperation word.Operation = Goes due.CommitOperation
-follows due.CommitOperation word.InlineOperation = Goes due.InlineData
-follows due.CommitOperation w = Finished
-follows due.InlineData word.Data = Goes due.CommitOperation
-follows due.InlineData w = Lacking
-follows due.TagFrom word.From = Goes due.TagOid
-follows due.TagFrom word.Mark = follow.LeftOut
-follows due.TagFrom w = Lacking
-follows due.TagOid word.Oid = Goes due.TagTagger
-follows due.TagOid word.Tagger = Goes due.TagData
-follows due.TagOid word.Data = Goes due.Event
-follows due.TagOid word.Mark = follow.LeftOut
-follows due.TagOid w = Lacking
-follows due.TagTagger word.Tagger = Goes due.TagData
-follows due.TagTagger word.Data = Goes due.Event
-follows due.TagTagger word.Mark = follow.LeftOut
-follows due.TagTagger w = Lacking
-follows due.TagData word.Data = Goes due.Event
-follows due.TagData word.Mark = follow.LeftOut
-follows due.TagData w = Lacking
-follows due.ResetFrom word.From = Goes due.ResetEnd
-follows due.ResetFrom w = Finished
-follows due.ResetEnd w = Finished
+follows expected.Event w = Finished
+follows expected.BlobMark word.Mark = Goes expected.BlobOid
+follows expected.BlobMark word.Oid = Goes expected.BlobData
+follows expected.BlobMark word.Data = Goes expected.Event
+follows expected.BlobMark w = Missing
+follows expected.BlobOid word.Oid = Goes expected.BlobData
+follows expected.BlobOid word.Data = Goes expected.Event
+follows expected.BlobOid w = Missing
+follows expected.BlobData word.Data = Goes expected.Event
+follows expected.BlobData w = Missing
+follows expected.CommitMark word.Mark = Goes expected.CommitOid
+follows expected.CommitMark word.Oid = Goes expected.CommitAuthor
+follows expected.CommitMark word.Author = Goes expected.CommitCommitter
+follows expected.CommitMark word.Committer = Goes expected.CommitEncoding
+follows expected.CommitMark w = Missing
+follows expected.CommitOid word.Oid = Goes expected.CommitAuthor
+follows expected.CommitOid word.Author = Goes expected.CommitCommitter
+follows expected.CommitOid word.Committer = Goes expected.CommitEncoding
+follows expected.CommitOid w = Missing
+follows expected.CommitAuthor word.Author = Goes expected.CommitCommitter
+follows expected.CommitAuthor word.Committer = Goes expected.CommitEncoding
+follows expected.CommitAuthor w = Missing
+follows expected.CommitCommitter word.Committer = Goes expected.CommitEncoding
+follows expected.CommitCommitter w = Missing
+follows expected.CommitEncoding word.Encoding = Goes expected.CommitData
+follows expected.CommitEncoding word.Data = Goes expected.CommitFrom
+follows expected.CommitEncoding w = Missing
+follows expected.CommitData word.Data = Goes expected.CommitFrom
+follows expected.CommitData w = Missing
+follows expected.CommitFrom word.From = Goes expected.CommitMerge
+follows expected.CommitFrom word.Merge = Goes expected.CommitMerge
+follows expected.CommitFrom word.Operation = Goes expected.CommitOperation
+follows expected.CommitFrom word.InlineOperation = Goes expected.InlineData
+follows expected.CommitFrom w = Finished
+follows expected.CommitMerge word.Merge = Goes expected.CommitMerge
+follows expected.CommitMerge word.Operation = Goes expected.CommitOperation
+follows expected.CommitMerge word.InlineOperation = Goes expected.InlineData
+follows expected.CommitMerge w = Finished
+follows expected.CommitOperation word.Operation = Goes expected.CommitOperation
+follows expected.CommitOperation word.InlineOperation = Goes expected.InlineData
+follows expected.CommitOperation w = Finished
+follows expected.InlineData word.Data = Goes expected.CommitOperation
+follows expected.InlineData w = Missing
+follows expected.TagFrom word.From = Goes expected.TagOid
+follows expected.TagFrom word.Mark = follow.LeftOut
+follows expected.TagFrom w = Missing
+follows expected.TagOid word.Oid = Goes expected.TagTagger
+follows expected.TagOid word.Tagger = Goes expected.TagData
+follows expected.TagOid word.Data = Goes expected.Event
+follows expected.TagOid word.Mark = follow.LeftOut
+follows expected.TagOid w = Missing
+follows expected.TagTagger word.Tagger = Goes expected.TagData
+follows expected.TagTagger word.Data = Goes expected.Event
+follows expected.TagTagger word.Mark = follow.LeftOut
+follows expected.TagTagger w = Missing
+follows expected.TagData word.Data = Goes expected.Event
+follows expected.TagData word.Mark = follow.LeftOut
+follows expected.TagData w = Missing
+follows expected.ResetFrom word.From = Goes expected.ResetEnd
+follows expected.ResetFrom w = Finished
+follows expected.ResetEnd w = Finished
 
 -- the event can't end here
 abbrev pub is_required : Due → Bool
-is_required due.Event = false
-is_required due.CommitFrom = false
-is_required due.CommitMerge = false
-is_required due.CommitOperation = false
-is_required due.ResetFrom = false
-is_required due.ResetEnd = false
+is_required expected.Event = false
+is_required expected.CommitFrom = false
+is_required expected.CommitMerge = false
+is_required expected.CommitOperation = false
+is_required expected.ResetFrom = false
+is_required expected.ResetEnd = false
 is_required _ = true
 
 -- a stream can't end here: in an event that lacks a line, or where `done` was promised
 abbrev pub must_go_on : Standing → Bool
-must_go_on s = is_required s.due || s.wants_done
+must_go_on s = is_required s.expected || s.wants_done
 
 -- ---- the meaning of a line
 
 abbrev pub begun_with : Known → Open → Known
 begun_with k event = record { events = closed k; current = event }
 
--- a commit on a branch begins behind the branch's tip, if there is one
+-- a commit on a branch begins after the branch's tip, if there is one
 abbrev pub commit_on : Known → Bytes → Open
 commit_on k branch = ACommit (record {
   branch = branch;
@@ -191,7 +191,7 @@ with_tagger who event = event
 
 abbrev pub with_operation : Known → Bytes → Result Known Why
 with_operation k line = elim k.current [
-  | ACommit c ↦ op_behind k.events c line >>= λ op. Ok (record k { current = ACommit (record c { ops = c.ops ++ op ∷ [] }) })
+  | ACommit c ↦ op_after k.events c line >>= λ op. Ok (record k { current = ACommit (record c { ops = c.ops ++ op ∷ [] }) })
   | Nothing ↦ Ok k
   | ABlob mark ↦ Ok k
   | ATag name target tagger ↦ Ok k
@@ -210,7 +210,7 @@ passed k line = record { events = with_event (closed k) (plain.Pass (next_id (cl
 abbrev pub changed : Known → (Open → Open) → Known
 changed k change = record k { current = change k.current }
 
--- what is known behind a line, whose fields are judged from left to right
+-- what is known after a line, whose fields are judged from left to right
 abbrev pub judged : Word → Bytes → Known → Result Known Why
 judged word.Blob line k = Ok (begun_with k (ABlob 0))
 judged word.Commit line k = name_in (text_of line) >>= λ branch. Ok (begun_with k (commit_on k branch))
@@ -234,30 +234,30 @@ judged _ line k = Ok k
 
 -- ---- the form of a stream
 
--- where a stream stands behind a line between events
+-- where a stream stands after a line between events
 abbrev pub begun_by : Standing → Word → Result Standing Why
-begun_by s word.Blob = Ok (record s { due = due.BlobMark })
-begun_by s word.Commit = Ok (record s { due = due.CommitMark })
-begun_by s word.Tag = Ok (record s { due = due.TagFrom })
-begun_by s word.Reset = Ok (record s { due = due.ResetFrom })
-begun_by s word.Pass = Ok (record s { due = due.Event })
-begun_by s word.FeatureDone = Ok (record { due = due.Event; wants_done = true })
-begun_by s word.Done = Ok (record { due = due.Event; wants_done = false })
-begun_by s word.Empty = Ok (record s { due = due.Event })
+begun_by s word.Blob = Ok (record s { expected = expected.BlobMark })
+begun_by s word.Commit = Ok (record s { expected = expected.CommitMark })
+begun_by s word.Tag = Ok (record s { expected = expected.TagFrom })
+begun_by s word.Reset = Ok (record s { expected = expected.ResetFrom })
+begun_by s word.Pass = Ok (record s { expected = expected.Event })
+begun_by s word.FeatureDone = Ok (record { expected = expected.Event; wants_done = true })
+begun_by s word.Done = Ok (record { expected = expected.Event; wants_done = false })
+begun_by s word.Empty = Ok (record s { expected = expected.Event })
 begun_by s w = Err UnknownLine
 
 abbrev pub gone_on : Standing → Word → Follow → Result Standing Why
-gone_on s w (Goes due) = Ok (record s { due = due })
-gone_on s w Lacking = Err MissingLine
+gone_on s w (Goes expected) = Ok (record s { expected = expected })
+gone_on s w Missing = Err MissingLine
 gone_on s w Finished = begun_by s w
 gone_on s w follow.LeftOut = Err LeftOut
 
--- where a stream stands behind a line of such a word; a word that is left out is so wherever a line is expected
-abbrev pub behind_word : Standing → Word → Result Standing Why
-behind_word s word.LeftOut = Err LeftOut
-behind_word s w = gone_on s w (follows s.due w)
+-- where a stream stands after a line of such a word; a word that is left out is so wherever a line is expected
+abbrev pub after_word : Standing → Word → Result Standing Why
+after_word s word.LeftOut = Err LeftOut
+after_word s w = gone_on s w (follows s.expected w)
 
--- how far the block behind a data line goes; the delimiter stands behind `data <<`
+-- how far the block after a data line goes; the delimiter stands after `data <<`
 abbrev pub next_by : Extent → Next
 next_by (Counted n) = Block n
 next_by (Delimited delimiter) = Until 7
@@ -280,14 +280,14 @@ pub record State : Type 0 where
 abbrev pub looked_at : Bool → Word → Bytes → Known → Result Known Why
 looked_at judge w line k = if judge then judged w line k else Ok k
 
--- the state behind a line, and what follows it
+-- the state after a line, and what follows it
 abbrev pub read_on : State → Bytes → Standing → Next → Known → Result (State × Next) Why
 read_on s line standing next known = Ok (record { standing = standing; spelled = line ∷ s.spelled; known = known }, next)
 
 -- a line that is no comment: it may stand there, what follows it is known, and then its fields are looked at
 abbrev pub word_step : Bool → State → Bytes → Word → Result (State × Next) Why
 word_step judge s line w =
-    behind_word s.standing w >>= λ standing.
+    after_word s.standing w >>= λ standing.
     next_of w line >>= λ next.
     looked_at judge w line s.known >>= λ known.
     read_on s line standing next known
@@ -296,23 +296,23 @@ word_step judge s line w =
 abbrev pub line_step : Bool → State → Bytes → Result (State × Next) Why
 line_step judge s line = if is_comment line then Ok (s, More) else word_step judge s line (word_of line)
 
--- the bytes behind an operation's line, and not a comment, where the commit's operations have begun
-abbrev pub is_inline_due : Due → Bool
-is_inline_due due.CommitOperation = true
-is_inline_due _ = false
+-- the bytes after an operation's line, and not a comment, where the commit's operations have begun
+abbrev pub is_inline_expected : Due → Bool
+is_inline_expected expected.CommitOperation = true
+is_inline_expected _ = false
 
-abbrev pub data_landed : State → Bytes → State
-data_landed s bytes = record s { spelled = bytes ∷ s.spelled; known = with_data (is_inline_due s.standing.due) bytes s.known }
+abbrev pub data_arrived : State → Bytes → State
+data_arrived s bytes = record s { spelled = bytes ∷ s.spelled; known = with_data (is_inline_expected s.standing.expected) bytes s.known }
 
 abbrev pub nothing_known : Known
 nothing_known = record { events = []; current = Nothing }
 
 abbrev pub stream : Automaton State Why
 stream = record {
-  start = record { standing = record { due = due.Event; wants_done = false }; spelled = []; known = nothing_known };
+  start = record { standing = record { expected = expected.Event; wants_done = false }; spelled = []; known = nothing_known };
   step = line_step;
-  landed = data_landed;
-  is_due = λ s. must_go_on s.standing;
+  arrived = data_arrived;
+  is_expected = λ s. must_go_on s.standing;
 }
 
 -- the same standing and lines, whatever is known of the events
@@ -324,7 +324,7 @@ AreSpelledAlike s t = (s.standing ≡ t.standing) × (s.spelled ≡ t.spelled)
 abbrev pub history_read : Outcome State Why → Option (List PlainEvent)
 history_read (Reads s) = Some (history_of s.known)
 history_read (Refuses n why) = None
-history_read (Lacks n) = None
+history_read (Misses n) = None
 
 -- the history that a text gives, if it is a stream
 abbrev pub history_in : Bytes → Option (List PlainEvent)
@@ -336,7 +336,7 @@ history_in bytes = history_read (outcome stream all bytes)
 abbrev pub defect_of : Outcome State Why → Option (ℕ × Why)
 defect_of (Reads s) = None
 defect_of (Refuses n why) = Some (n, why)
-defect_of (Lacks n) = Some (n, Truncated)
+defect_of (Misses n) = Some (n, Truncated)
 
 abbrev pub defect_in : Bytes → Option (ℕ × Why)
 defect_in bytes = defect_of (outcome stream all bytes)

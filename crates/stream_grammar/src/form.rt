@@ -2,10 +2,10 @@
 ghost use Rattle.std.specs.Prelude.{◌≡◌};
 ghost use Rattle.stream_grammar.specs.Lines.{
   begun_by,
-  behind_word,
+  after_word,
   follows,
   gone_on,
-  is_inline_due,
+  is_inline_expected,
   is_required,
   must_go_on,
 };
@@ -39,47 +39,47 @@ impl Due {
                 Word::Mark => Follow::Goes(Due::BlobOid),
                 Word::Oid => Follow::Goes(Due::BlobData),
                 Word::Data => Follow::Goes(Due::Event),
-                _ => Follow::Lacking,
+                _ => Follow::Missing,
             },
             Due::BlobOid => match word {
                 Word::Oid => Follow::Goes(Due::BlobData),
                 Word::Data => Follow::Goes(Due::Event),
-                _ => Follow::Lacking,
+                _ => Follow::Missing,
             },
             Due::BlobData => match word {
                 Word::Data => Follow::Goes(Due::Event),
-                _ => Follow::Lacking,
+                _ => Follow::Missing,
             },
             Due::CommitMark => match word {
                 Word::Mark => Follow::Goes(Due::CommitOid),
                 Word::Oid => Follow::Goes(Due::CommitAuthor),
                 Word::Author => Follow::Goes(Due::CommitCommitter),
                 Word::Committer => Follow::Goes(Due::CommitEncoding),
-                _ => Follow::Lacking,
+                _ => Follow::Missing,
             },
             Due::CommitOid => match word {
                 Word::Oid => Follow::Goes(Due::CommitAuthor),
                 Word::Author => Follow::Goes(Due::CommitCommitter),
                 Word::Committer => Follow::Goes(Due::CommitEncoding),
-                _ => Follow::Lacking,
+                _ => Follow::Missing,
             },
             Due::CommitAuthor => match word {
                 Word::Author => Follow::Goes(Due::CommitCommitter),
                 Word::Committer => Follow::Goes(Due::CommitEncoding),
-                _ => Follow::Lacking,
+                _ => Follow::Missing,
             },
             Due::CommitCommitter => match word {
                 Word::Committer => Follow::Goes(Due::CommitEncoding),
-                _ => Follow::Lacking,
+                _ => Follow::Missing,
             },
             Due::CommitEncoding => match word {
                 Word::Encoding => Follow::Goes(Due::CommitData),
                 Word::Data => Follow::Goes(Due::CommitFrom),
-                _ => Follow::Lacking,
+                _ => Follow::Missing,
             },
             Due::CommitData => match word {
                 Word::Data => Follow::Goes(Due::CommitFrom),
-                _ => Follow::Lacking,
+                _ => Follow::Missing,
             },
             Due::CommitFrom => match word {
                 Word::From | Word::Merge => Follow::Goes(Due::CommitMerge),
@@ -100,30 +100,30 @@ impl Due {
             },
             Due::InlineData => match word {
                 Word::Data => Follow::Goes(Due::CommitOperation),
-                _ => Follow::Lacking,
+                _ => Follow::Missing,
             },
             Due::TagFrom => match word {
                 Word::From => Follow::Goes(Due::TagOid),
                 Word::Mark => Follow::LeftOut,
-                _ => Follow::Lacking,
+                _ => Follow::Missing,
             },
             Due::TagOid => match word {
                 Word::Oid => Follow::Goes(Due::TagTagger),
                 Word::Tagger => Follow::Goes(Due::TagData),
                 Word::Data => Follow::Goes(Due::Event),
                 Word::Mark => Follow::LeftOut,
-                _ => Follow::Lacking,
+                _ => Follow::Missing,
             },
             Due::TagTagger => match word {
                 Word::Tagger => Follow::Goes(Due::TagData),
                 Word::Data => Follow::Goes(Due::Event),
                 Word::Mark => Follow::LeftOut,
-                _ => Follow::Lacking,
+                _ => Follow::Missing,
             },
             Due::TagData => match word {
                 Word::Data => Follow::Goes(Due::Event),
                 Word::Mark => Follow::LeftOut,
-                _ => Follow::Lacking,
+                _ => Follow::Missing,
             },
             Due::ResetFrom => match word {
                 Word::From => Follow::Goes(Due::ResetEnd),
@@ -135,11 +135,11 @@ impl Due {
 }
 
 impl Standing {
-    // Behind a line between events.
+    // After a line between events.
     fn begun_by(self, word: Word) -> Result<Standing, Why>
         ensures { result ≡ begun_by self word }
     {
-        let due = match word {
+        let expected = match word {
             Word::Blob => Due::BlobMark,
             Word::Commit => Due::CommitMark,
             Word::Tag => Due::TagFrom,
@@ -152,19 +152,19 @@ impl Standing {
             Word::Done => false,
             _ => self.wants_done,
         };
-        Ok(Standing { due, wants_done })
+        Ok(Standing { expected, wants_done })
     }
 
-    /// Where the stream stands behind a line of this word, or why it can't stand here.
-    pub fn behind(self, word: Word) -> Result<Standing, Why>
-        ensures { result ≡ behind_word self word }
+    /// Where the stream stands after a line of this word, or why it can't stand here.
+    pub fn after(self, word: Word) -> Result<Standing, Why>
+        ensures { result ≡ after_word self word }
     {
         if word == Word::LeftOut {
             return Err(Why::LeftOut);
         }
-        match self.due.follow(word) {
-            Follow::Goes(due) => Ok(Standing { due, ..self }),
-            Follow::Lacking => Err(Why::MissingLine),
+        match self.expected.follow(word) {
+            Follow::Goes(expected) => Ok(Standing { expected, ..self }),
+            Follow::Missing => Err(Why::MissingLine),
             Follow::Finished => self.begun_by(word),
             Follow::LeftOut => Err(Why::LeftOut),
         }
@@ -172,15 +172,15 @@ impl Standing {
 
     /// A block that comes here is the content of an operation.
     pub fn is_inline(self) -> bool
-        ensures { result ≡ is_inline_due self.due }
+        ensures { result ≡ is_inline_expected self.expected }
     {
-        self.due == Due::CommitOperation
+        self.expected == Due::CommitOperation
     }
 
     /// A stream can't end here.
     pub fn must_go_on(self) -> bool
         ensures { result ≡ must_go_on self }
     {
-        self.due.is_required() || self.wants_done
+        self.expected.is_required() || self.wants_done
     }
 }

@@ -5,14 +5,14 @@ ghost use Rattle.plain_model.specs.declared.fault.Fault.TheVariants.{BadStream, 
 ghost use Rattle.plain_model.specs.declared.fault.Which.{Which};
 ghost use Rattle.plain_model.specs.declared.fault.Why.{Why};
 ghost use Rattle.plain_model.specs.declared.limit.TheConstants.{MAX_MARK};
-ghost use Rattle.line_machine.specs.Limits.{PassesLimit};
-ghost use Rattle.line_machine.specs.Machine.{EndsEarly, IsCleanBefore, NoneIsClean, Stops, all, none, outcome, up_to};
-ghost use Rattle.line_machine.specs.Machine.Outcome.{Lacks, Reads, Refuses};
+ghost use Rattle.line_automaton.specs.Limits.{ExceedsLimit};
+ghost use Rattle.line_automaton.specs.Machine.{EndsEarly, IsCleanBefore, NoneIsClean, Stops, all, none, outcome, up_to};
+ghost use Rattle.line_automaton.specs.Machine.Outcome.{Misses, Reads, Refuses};
 ghost use Rattle.stream_grammar.specs.Known.{closed, history_of};
-ghost use Rattle.stream_grammar.specs.Limits.{last_mark, limit_number, passed, stream_of};
+ghost use Rattle.stream_grammar.specs.Limits.{last_mark, limit_number, exceeded, stream_of};
 ghost use Rattle.stream_grammar.specs.Lines.{AreSpelledAlike, IsFirstDefect, State, defect_in, history_in, stream};
 
-/// The first defect of a stream is its first refusal: line `n` is the first behind which no text can go on that is clean
+/// The first defect of a stream is its first refusal: line `n` is the first after which no text can go on that is clean
 /// so far, and its kind is what that line does.
 pub fn first_refusal_is_the_first_defect()
     ensures { (bytes : List ℕ) (n : ℕ) (why : Why) →
@@ -29,9 +29,9 @@ pub fn a_first_defect_is_the_only_one()
 {}
 
 /// A stream ends early where its reading lacks a line or a block.
-pub fn an_early_end_is_a_lack()
+pub fn an_early_end_misses_a_line()
     ensures { (bytes : List ℕ) (n : ℕ) →
-        EndsEarly stream bytes n ↔ (outcome stream all bytes ≡ Lacks n) }
+        EndsEarly stream bytes n ↔ (outcome stream all bytes ≡ Misses n) }
 {}
 
 /// What is clean through a line is a stream in its form, of the same lines and blocks.
@@ -57,7 +57,7 @@ pub fn limits_refuse_nothing_else()
         stream_of bytes ≡ Err (BadStream n why) → IsFirstDefect bytes n why }
     ensures limit { (bytes : List ℕ) (which : Which) (number : ℕ) →
         stream_of bytes ≡ Err (Limit which number) →
-        (number ≡ limit_number which) × (n : ℕ) × PassesLimit stream passed bytes n which }
+        (number ≡ limit_number which) × (n : ℕ) × ExceedsLimit stream exceeded bytes n which }
     ensures spent { (bytes : List ℕ) → stream_of bytes ≡ Err MarksSpent → (s : State) ×
         (outcome stream all bytes ≡ Reads s) × (MAX_MARK < last_mark (closed s.known)) }
 {}

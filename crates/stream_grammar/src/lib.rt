@@ -9,7 +9,7 @@ mod words;
 mod worked;
 
 pub use laws::{
-    a_first_defect_is_the_only_one, an_early_end_is_a_lack, first_refusal_is_the_first_defect,
+    a_first_defect_is_the_only_one, an_early_end_misses_a_line, first_refusal_is_the_first_defect,
     limits_refuse_nothing_else, what_is_clean_is_spelled, what_is_no_history_has_a_first_defect,
 };
 pub use limits::limit_number;

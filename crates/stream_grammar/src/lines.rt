@@ -1,6 +1,6 @@
 //! The lines of a stream by their first words, and the places of an event where a line is expected.
 
-/// What a line is by its first word. A word that has no text behind it is the whole line. (git-fast-import, "Input
+/// What a line is by its first word. A word that has no text after it is the whole line. (git-fast-import, "Input
 /// format".)
 #[derive(Clone, Copy, Debug, PartialEq, Eq)]
 pub enum Word {
@@ -64,7 +64,7 @@ pub enum Due {
 /// Where a stream stands between two lines.
 #[derive(Clone, Copy, Debug, PartialEq, Eq)]
 pub struct Standing {
-    pub due: Due,
+    pub expected: Due,
     /// A line `done` was promised, and hasn't come.
     pub wants_done: bool,
 }
@@ -75,7 +75,7 @@ pub enum Follow {
     /// It goes on in the event, where this is expected next.
     Goes(Due),
     /// Another line is expected.
-    Lacking,
+    Missing,
     /// The event is over, or there was none: the line stands between events.
     Finished,
     /// It has a meaning in git there, which is left out.

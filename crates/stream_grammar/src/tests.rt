@@ -15,17 +15,17 @@ fn lines_have_words(rt: HostRuntime) {
 #[test]
 fn a_stream_goes_on_or_stops(rt: HostRuntime) {
     let start = Standing {
-        due: Due::Event,
+        expected: Due::Event,
         wants_done: false,
     };
     assert!(rt;
-        start.behind(Word::Blob)
+        start.after(Word::Blob)
             == Ok(Standing {
-                due: Due::BlobMark,
+                expected: Due::BlobMark,
                 wants_done: false
             })
     );
-    assert!(rt; start.behind(Word::Data) == Err(Why::UnknownLine));
+    assert!(rt; start.after(Word::Data) == Err(Why::UnknownLine));
     assert!(rt; !start.must_go_on());
     assert!(rt; Due::TagFrom.follow(Word::Mark) == Follow::LeftOut);
     assert!(rt; Due::InlineData.is_required());

@@ -1,6 +1,6 @@
 //! What a line is by its first word.
 ghost use Rattle.std.specs.Prelude.{◌≡◌, codes, is_some};
-ghost use Rattle.plain_model.specs.Fields.{is_left_out_word, first_word, behind_space};
+ghost use Rattle.plain_model.specs.Fields.{is_left_out_word, first_word, after_space};
 ghost use Rattle.plain_model.specs.Parts.{begins};
 ghost use Rattle.stream_grammar.specs.Lines.{
   has_text,
@@ -21,7 +21,7 @@ pub fn is_comment(line: &[u8]) -> bool
     line.starts_with(b"#".as_slice())
 }
 
-/// What stands behind the first space.
+/// What stands after the first space.
 pub fn text_of(line: &[u8]) -> &[u8]
     ensures { result.now ≡ text_of line.now }
 {

@@ -30,8 +30,8 @@ ghost use Rattle.plain_model.specs.declared.operation.FileOp.TheVariants.{
   Modify,
 };
 ghost use Rattle.plain_model.specs.declared.operation.Mode.TheVariants.{Plain};
-ghost use Rattle.line_machine.specs.Machine.{all, outcome};
-ghost use Rattle.line_machine.specs.Machine.Outcome.{Lacks, Refuses};
+ghost use Rattle.line_automaton.specs.Machine.{all, outcome};
+ghost use Rattle.line_automaton.specs.Machine.Outcome.{Misses, Refuses};
 ghost use Rattle.stream_grammar.specs.Lines.{history_in, stream};
 ghost use Rattle.stream_grammar.specs.Worked.{ann, commit_on_b, lines, of_ann};
 
@@ -92,7 +92,7 @@ pub fn forms_have_first_defects()
     // A line that belongs into an event isn't one between events.
     ensures operation_outside { outcome stream all (lines (codes "D f" ∷ [])) ≡ Refuses 1 UnknownLine }
 
-    // An author without anything behind it is no person.
+    // An author without anything after it is no person.
     ensures bare_word { outcome stream all (lines (codes "commit refs/heads/b" ∷ codes "author" ∷ []))
         ≡ Refuses 2 BadPerson }
 
@@ -134,7 +134,7 @@ pub fn fields_have_first_defects()
 
 /// Texts that end too early.
 pub fn ends_come_early()
-    ensures no_line { outcome stream all (lines (codes "blob" ∷ [])) ≡ Lacks 2 }
-    ensures cut_data { outcome stream all (lines (codes "blob" ∷ codes "data 9" ∷ codes "x" ∷ [])) ≡ Lacks 2 }
-    ensures no_done { outcome stream all (lines (codes "feature done" ∷ [])) ≡ Lacks 2 }
+    ensures no_line { outcome stream all (lines (codes "blob" ∷ [])) ≡ Misses 2 }
+    ensures cut_data { outcome stream all (lines (codes "blob" ∷ codes "data 9" ∷ codes "x" ∷ [])) ≡ Misses 2 }
+    ensures no_done { outcome stream all (lines (codes "feature done" ∷ [])) ≡ Misses 2 }
 {}

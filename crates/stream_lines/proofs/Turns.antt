@@ -1,4 +1,4 @@
--- A line of a stream that is read, and what the stream answers behind it.
+-- A line of a stream that is read, and what the stream answers after it.
 use Rattle.std.proofs.Common.{◌≡◌, ℕ, ◌+◌, ◌<◌, ◌≤◌, Bool, true, false, cond, List, [], ◌∷◌, length, take, drop, Some, None, Result, Ok, Err, inl, inr, refl, ap, sym, ◌∙◌, subst, arith, take-append-drop, length-drop}
 use Rattle.std.specs.Prelude.{◌||◌}
 use Rattle.plain_model.specs.declared.fault.Why.{Why}
@@ -6,14 +6,14 @@ use Rattle.plain_model.specs.declared.fault.Why.TheVariants.{Truncated}
 use Rattle.plain_model.specs.Fields.{◌>>=◌, Extent, extent_in, block_in}
 use Rattle.plain_model.specs.Parts.{line_at, is_lf}
 use Rattle.plain_model.specs.Paths.{Bytes}
-use Rattle.line_machine.specs.Machine.{Outcome, outcome, all}
-use Rattle.line_machine.specs.Machine.Next.{More, Over}
-use Rattle.line_machine.specs.Machine.Outcome.{Reads, Lacks}
-use Rattle.line_machine.specs.Lines.{line_count, number_behind, outcome_at}
-use Rattle.line_machine.proofs.LineLaws.{line_is, line_is_one, line_count-end, number_behind-at}
-use Rattle.line_machine.proofs.ReadingLaws as reading
-use Rattle.line_machine.proofs.BlockLaws as blocks
-use Rattle.line_machine.proofs.CursorLaws as cursors
+use Rattle.line_automaton.specs.Machine.{Outcome, outcome, all}
+use Rattle.line_automaton.specs.Machine.Next.{More, Over}
+use Rattle.line_automaton.specs.Machine.Outcome.{Reads, Misses}
+use Rattle.line_automaton.specs.Lines.{line_count, number_after, outcome_at}
+use Rattle.line_automaton.proofs.LineLaws.{line_is, line_is_one, line_count-end, number_after-at}
+use Rattle.line_automaton.proofs.ReadingLaws as reading
+use Rattle.line_automaton.proofs.BlockLaws as blocks
+use Rattle.line_automaton.proofs.CursorLaws as cursors
 use Rattle.stream_fields.specs.declared.fault.FieldFault.{FieldFault}
 use Rattle.stream_fields.specs.declared.fault.FieldFault.TheVariants as field
 use Rattle.stream_fields.specs.Answers.{Gives}
@@ -23,14 +23,14 @@ use Rattle.stream_fields.specs.Cursors.{Position, rest}
 use Rattle.stream_grammar.specs.declared.lines.Standing.{Standing}
 use Rattle.stream_grammar.specs.declared.lines.Word.{Word}
 use Rattle.stream_grammar.specs.declared.lines.Word.TheVariants as word
-use Rattle.line_machine.specs.Limits.{Cause}
-use Rattle.line_machine.specs.Limits.Cause.{Defect, Passes}
+use Rattle.line_automaton.specs.Limits.{Cause}
+use Rattle.line_automaton.specs.Limits.Cause.{Defect, Exceeds}
 use Rattle.plain_model.specs.declared.fault.Fault.TheVariants as fault
 use Rattle.plain_model.specs.declared.fault.Which.{Which}
 use Rattle.stream_grammar.specs.Known.{Known, with_data}
 use Rattle.stream_grammar.specs.Limits.{stream_within, judged_within, known_given, fault_of}
-use Rattle.stream_grammar.specs.Lines.{State, is_comment, word_of, behind_word, must_go_on, next_by, next_of, is_inline_due, nothing_known}
-use Rattle.stream_lines.specs.Reading.{Answers, IsRefused, Judges, answer, in_line, line_fault, IsFirst, GoesOn, Tells}
+use Rattle.stream_grammar.specs.Lines.{State, is_comment, word_of, after_word, must_go_on, next_by, next_of, is_inline_expected, nothing_known}
+use Rattle.stream_lines.specs.Reading.{Answers, IsRefused, Judges, answer, in_line, line_fault, IsFirst, GoesOn, Reports}
 use Rattle.stream_lines.proofs.Steps.{state, step_within, comment_step, form_refused, block_refused, made, next_is_line}
 use Rattle.stream_lines.proofs.Extents.{extent_follows, extent_or_not, err_again}
 
@@ -48,8 +48,8 @@ within_text at text some = let is = length-drop at text in omega (arith, is, som
 
 module _ (old : Position) (line : Bytes) (new : Position) (first : IsFirst old line new) (s : Standing) (k : Known) where
   -- the number of the line
-  number_is : number_behind 1 old.text (rest old) ≡ new.number
-  number_is = number_behind-at 1 old.at old.text (within_text old.at old.text (some_line (rest old) line (rest new) first.there)) ∙ sym first.number
+  number_is : number_after 1 old.text (rest old) ≡ new.number
+  number_is = number_after-at 1 old.at old.text (within_text old.at old.text (some_line (rest old) line (rest new) first.there)) ∙ sym first.number
 
   fewer_lines : line_count (rest new) < line_count (rest old)
   fewer_lines = let one = line_is_one (rest old) line (rest new) (line_is (rest old) line (rest new) first.there) in omega (arith, one)
@@ -87,16 +87,16 @@ module _ (old : Position) (line : Bytes) (new : Position) (first : IsFirst old l
   -- a line that a block follows
   module _ (t : Standing) (extent : Extent) (spells : extent_in line ≡ Ok extent)
       (step : (spelled : List Bytes) → (longer : List Bytes) × (step_within s k line spelled ≡ Ok (state t longer k, next_by extent))) where
-    pub goes_on_behind : (bytes : Bytes) (newer : Position) → newer.text ≡ new.text → block_in line (rest new) ≡ Ok (bytes, rest newer)
-        → GoesOn old s k newer t (with_data (is_inline_due t.due) bytes k)
+    pub goes_on_after : (bytes : Bytes) (newer : Position) → newer.text ≡ new.text → block_in line (rest new) ≡ Ok (bytes, rest newer)
+        → GoesOn old s k newer t (with_data (is_inline_expected t.expected) bytes k)
     unfolding answer
-    goes_on_behind bytes newer text h = record {
+    goes_on_after bytes newer text h = record {
       same = λ spelled.
           let made = step spelled in (
             bytes ∷ made.0,
-            reading.goes_on_behind_data stream_within all old.text (rest old) line (rest new) (state s spelled k) (rest_within old) first.there (state t made.0 k) (next_by extent) extent made.1
+            reading.goes_on_after_data stream_within all old.text (rest old) line (rest new) (state s spelled k) (rest_within old) first.there (state t made.0 k) (next_by extent) extent made.1
                 (extent_follows line extent spells) spells bytes (rest newer) h
-                ∙ ap (λ (text : Bytes). outcome_at stream_within all text (rest newer) (state t (bytes ∷ made.0) (with_data (is_inline_due t.due) bytes k))) (sym (text ∙ first.text)),
+                ∙ ap (λ (text : Bytes). outcome_at stream_within all text (rest newer) (state t (bytes ∷ made.0) (with_data (is_inline_expected t.expected) bytes k))) (sym (text ∙ first.text)),
           );
       text = text ∙ first.text;
       fewer =
@@ -117,24 +117,24 @@ module _ (old : Position) (line : Bytes) (new : Position) (first : IsFirst old l
 -- ---- what a line that is no comment does, where it may stand or not
 
 -- the fault of a block tells of the defect of its line
-pub tells_block : (o : Answers) (n : ℕ) {X Y : Type 0} (view : X → Y) (f : FieldFault) (r : Result Y Why)
-    → Gives view (Err f) r → ((why : Why) → r ≡ Err why → IsRefused o (fault.BadStream n why)) → Tells o (in_line n (line_fault f))
-tells_block o n view (field.Bad why) r gives defect = defect why gives
-tells_block o n view field.Memory r gives defect = tt
+pub reports_block : (o : Answers) (n : ℕ) {X Y : Type 0} (view : X → Y) (f : FieldFault) (r : Result Y Why)
+    → Gives view (Err f) r → ((why : Why) → r ≡ Err why → IsRefused o (fault.BadStream n why)) → Reports o (in_line n (line_fault f))
+reports_block o n view (field.Bad why) r gives defect = defect why gives
+reports_block o n view field.Memory r gives defect = tt
 
 -- the fault of a line that is judged tells of what its line does
-pub tells_line : (o : Answers) (n : ℕ) (new : Known) (f : LineFault) (r : Result Known (Cause Why Which))
-    → Judges new (Err f) r → ((cause : Cause Why Which) → r ≡ Err cause → IsRefused o (fault_of n cause)) → Tells o (in_line n f)
-tells_line o n new (fault_of_line.Bad why) r judges refused = refused (Defect why) judges
-tells_line o n new (fault_of_line.Limit which) r judges refused = refused (Passes which) judges
-tells_line o n new fault_of_line.Memory r judges refused = tt
+pub reports_line : (o : Answers) (n : ℕ) (new : Known) (f : LineFault) (r : Result Known (Cause Why Which))
+    → Judges new (Err f) r → ((cause : Cause Why Which) → r ≡ Err cause → IsRefused o (fault_of n cause)) → Reports o (in_line n f)
+reports_line o n new (fault_of_line.Bad why) r judges refused = refused (Defect why) judges
+reports_line o n new (fault_of_line.Limit which) r judges refused = refused (Exceeds which) judges
+reports_line o n new fault_of_line.Memory r judges refused = tt
 
 module _ (old : Position) (line : Bytes) (new : Position) (first : IsFirst old line new) (s : Standing) (k : Known)
     (w : Word) (plain : is_comment line ≡ false) (is : w ≡ word_of line) where
-  pub refused_by_form : (why : Why) → behind_word s w ≡ Err why → IsRefused (answer old s k) (fault.BadStream new.number why)
+  pub refused_by_form : (why : Why) → after_word s w ≡ Err why → IsRefused (answer old s k) (fault.BadStream new.number why)
   refused_by_form why e = is_refused old line new first s k (Defect why) (λ spelled. form_refused s k line spelled w plain is why e)
 
-  module _ (t : Standing) (stands : behind_word s w ≡ Ok t) where
+  module _ (t : Standing) (stands : after_word s w ≡ Ok t) where
     -- a line of data
     module _ (is_data : w ≡ word.Data) where
       data_step : (extent : Extent) → extent_in line ≡ Ok extent → (spelled : List Bytes)
@@ -145,15 +145,15 @@ module _ (old : Position) (line : Bytes) (new : Position) (first : IsFirst old l
             (ap (λ v. next_of v line) is_data ∙ ap (λ r. r >>= λ x. Ok (next_by x)) spells) (Ok k) (ap (λ v. judged_within v line k) is_data),
       )
 
-      pub landed : (bytes : Bytes) (newer : Position) → newer.text ≡ new.text → block_in line (rest new) ≡ Ok (bytes, rest newer)
-          → GoesOn old s k newer t (with_data (is_inline_due t.due) bytes k)
-      landed bytes newer text h = elim (extent_or_not line (rest new)) [
+      pub arrived : (bytes : Bytes) (newer : Position) → newer.text ≡ new.text → block_in line (rest new) ≡ Ok (bytes, rest newer)
+          → GoesOn old s k newer t (with_data (is_inline_expected t.expected) bytes k)
+      arrived bytes newer text h = elim (extent_or_not line (rest new)) [
         | inl none ↦ absurd (let e : Err none.0 ≡ Ok (bytes, rest newer) = sym none.2 ∙ h in cc)
-        | inr extent ↦ goes_on_behind old line new first s k t extent.0 extent.1 (data_step extent.0 extent.1) bytes newer text h
+        | inr extent ↦ goes_on_after old line new first s k t extent.0 extent.1 (data_step extent.0 extent.1) bytes newer text h
       ]
 
-      pub not_landed : (why : Why) → block_in line (rest new) ≡ Err why → IsRefused (answer old s k) (fault.BadStream new.number why)
-      not_landed why h = elim (extent_or_not line (rest new)) [
+      pub not_arrived : (why : Why) → block_in line (rest new) ≡ Err why → IsRefused (answer old s k) (fault.BadStream new.number why)
+      not_arrived why h = elim (extent_or_not line (rest new)) [
         | inl none ↦ is_refused old line new first s k (Defect why) (λ spelled. block_refused s k line spelled w plain is t stands why
             (ap (λ v. next_of v line) is_data ∙ ap (λ r. r >>= λ x. Ok (next_by x)) (none.1 ∙ err_again none.0 why (sym none.2 ∙ h))))
         | inr extent ↦ is_truncated old line new first s k t extent.0 extent.1 (data_step extent.0 extent.1) why h
@@ -199,15 +199,15 @@ at_end [] e = refl
 at_end (b ∷ bs) e = let some = has_lines b bs in absurd (omega (arith, some, e))
 
 module _ (p : Position) (s : Standing) (k : Known) (spelled : List Bytes) (over : line_at (rest p) ≡ None) where
-  end_answers : answer p s k spelled ≡ cond {A = Outcome State (Cause Why Which)} (must_go_on s) (Lacks (1 + line_count p.text)) (Reads (state s spelled k))
+  end_answers : answer p s k spelled ≡ cond {A = Outcome State (Cause Why Which)} (must_go_on s) (Misses (1 + line_count p.text)) (Reads (state s spelled k))
   unfolding answer
   end_answers = reading.ends stream_within all p.text (rest p) (state s spelled k) over
 
-  pub lacks_line : must_go_on s ≡ true → known_given (answer p s k spelled) ≡ Err (fault.BadStream (1 + line_count p.text) Truncated)
-  lacks_line e = ap known_given (end_answers ∙ ap (λ t. cond {A = Outcome State (Cause Why Which)} t (Lacks (1 + line_count p.text)) (Reads (state s spelled k))) e)
+  pub misses_line : must_go_on s ≡ true → known_given (answer p s k spelled) ≡ Err (fault.BadStream (1 + line_count p.text) Truncated)
+  misses_line e = ap known_given (end_answers ∙ ap (λ t. cond {A = Outcome State (Cause Why Which)} t (Misses (1 + line_count p.text)) (Reads (state s spelled k))) e)
 
   pub is_whole : must_go_on s ≡ false → known_given (answer p s k spelled) ≡ Ok k
-  is_whole e = ap known_given (end_answers ∙ ap (λ t. cond {A = Outcome State (Cause Why Which)} t (Lacks (1 + line_count p.text)) (Reads (state s spelled k))) e)
+  is_whole e = ap known_given (end_answers ∙ ap (λ t. cond {A = Outcome State (Cause Why Which)} t (Misses (1 + line_count p.text)) (Reads (state s spelled k))) e)
 
 -- the beginning
 pub from_start : (text : Bytes) (s : Standing) (k : Known) → s ≡ stream_within.start.standing → k ≡ nothing_known

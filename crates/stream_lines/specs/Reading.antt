@@ -6,14 +6,14 @@ use Rattle.plain_model.specs.declared.fault.Which.{Which}
 use Rattle.plain_model.specs.declared.fault.Why.{Why}
 use Rattle.plain_model.specs.Parts.{line_at}
 use Rattle.plain_model.specs.Paths.{Bytes}
-use Rattle.line_machine.specs.Machine.{Outcome, all}
-use Rattle.line_machine.specs.Lines.{outcome_at, line_count}
+use Rattle.line_automaton.specs.Machine.{Outcome, all}
+use Rattle.line_automaton.specs.Lines.{outcome_at, line_count}
 use Rattle.stream_fields.specs.declared.fault.FieldFault.{FieldFault}
 use Rattle.stream_fields.specs.declared.fault.FieldFault.TheVariants as field
 use Rattle.stream_fields.specs.Cursors.{Position, rest, number_at}
 use Rattle.stream_grammar.specs.declared.lines.Standing.{Standing}
-use Rattle.line_machine.specs.Limits.{Cause}
-use Rattle.line_machine.specs.Limits.Cause.{Defect, Passes}
+use Rattle.line_automaton.specs.Limits.{Cause}
+use Rattle.line_automaton.specs.Limits.Cause.{Defect, Exceeds}
 use Rattle.stream_grammar.specs.Known.{Known}
 use Rattle.stream_grammar.specs.Limits.{stream_within, limit_number, known_given, known_in}
 use Rattle.stream_grammar.specs.Lines.{State}
@@ -35,14 +35,14 @@ in_line n (line.Bad why) = fault.BadStream n why
 in_line n (line.Limit which) = fault.Limit which (limit_number which)
 in_line n line.Memory = fault.Memory
 
--- what is known is what is due, or the fault is the one that is due; want of memory may be told in place of either
+-- what is known is what is due, or the fault is the one that is due; out of memory may be reported in place of either
 abbrev pub Judges : Known → Result (Unit {0}) LineFault → Result Known (Cause Why Which) → Type 0
-Judges new (Ok tt) due = due ≡ Ok new
-Judges new (Err (line.Bad why)) due = due ≡ Err (Defect why)
-Judges new (Err (line.Limit which)) due = due ≡ Err (Passes which)
-Judges new (Err line.Memory) due = Unit {0}
+Judges new (Ok tt) expected = expected ≡ Ok new
+Judges new (Err (line.Bad why)) expected = expected ≡ Err (Defect why)
+Judges new (Err (line.Limit which)) expected = expected ≡ Err (Exceeds which)
+Judges new (Err line.Memory) expected = Unit {0}
 
--- what a stream answers from a place on, from which it is read with this standing and this knowledge, behind these lines
+-- what a stream answers from a place on, from which it is read with this standing and this knowledge, after these lines
 unfoldable pub answer : Position → Standing → Known → List Bytes → Outcome State (Cause Why Which)
 answer p standing known spelled =
     outcome_at stream_within all p.text (rest p) (record { standing = standing; spelled = spelled; known = known })
@@ -68,18 +68,18 @@ abbrev pub IsRefused : Answers → Fault → Type 0
 IsRefused o f = (spelled : List Bytes) → known_given (o spelled) ≡ Err f
 
 -- the fault is the one that a stream gives
-abbrev pub Tells : Answers → ReadFault → Type 0
-Tells o (fault.BadStream n why) = IsRefused o (plain.BadStream n why)
-Tells o (fault.Limit which number) = IsRefused o (plain.Limit which number)
-Tells o fault.MarksSpent = ⊥
-Tells o fault.Memory = Unit {0}
+abbrev pub Reports : Answers → ReadFault → Type 0
+Reports o (fault.BadStream n why) = IsRefused o (plain.BadStream n why)
+Reports o (fault.Limit which number) = IsRefused o (plain.Limit which number)
+Reports o fault.MarksSpent = ⊥
+Reports o fault.Memory = Unit {0}
 
 -- one line was read
 abbrev pub Turns : Position → Standing → Known → Position → Known → Result Reached ReadFault → Type 0
 Turns old s k new l (Ok (reached.Line t)) = GoesOn old s k new t l
 Turns old s k new l (Ok reached.Over) = (spelled : List Bytes) → known_given (answer old s k spelled) ≡ Ok l
 Turns old s k new l (Ok reached.End) = (line_at (rest old) ≡ None) × (l ≡ k) × (new ≡ old)
-Turns old s k new l (Err f) = Tells (answer old s k) f
+Turns old s k new l (Err f) = Reports (answer old s k) f
 
 -- the fault is the one that the text gives; what its lines give isn't refused for spent marks
 abbrev pub IsFaultIn : Bytes → ReadFault → Type 0

@@ -9,7 +9,7 @@ use plain_model::{NoMemory, Which, Why};
 use stream_fields::FieldFault;
 use thiserror::Error;
 
-/// Why a line is not taken: its defect, or the limit that it passes; or want of memory.
+/// Why a line is not taken: its defect, or the limit that it passes; or out of memory.
 #[derive(Clone, Copy, Debug, PartialEq, Eq, Error)]
 pub enum LineFault {
     #[error("the line has the defect {0:?}")]
@@ -48,7 +48,7 @@ impl From<FieldFault> for LineFault {
 }
 
 /// Why a stream is not read: its first line that has a defect, numbered from 1, or that passes a limit; or that no marks
-/// are left for the blobs and commits without one; or want of memory.
+/// are left for the blobs and commits without one; or out of memory.
 #[derive(Clone, Copy, Debug, PartialEq, Eq, Error)]
 pub enum ReadFault {
     #[error("line {line} of the stream has the defect {why:?}")]

@@ -17,7 +17,7 @@ pub trait KeepsEvents {
     fn judge(&mut self, alloc: Global, word: Word, line: &[u8]) -> Result<(), LineFault>
         ensures { Judges (known self.new) result (judged_within word line.now (known self.old)) };
 
-    /// Takes the block behind a line of data, which is an operation's content where `inline` says so.
-    fn land(&mut self, inline: bool, bytes: Text) -> Result<(), NoMemory>
+    /// Takes the block after a line of data, which is an operation's content where `inline` says so.
+    fn arrive(&mut self, inline: bool, bytes: Text) -> Result<(), NoMemory>
         ensures { OnOk result (known self.new ≡ with_data inline bytes (known self.old)) };
 }

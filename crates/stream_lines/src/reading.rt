@@ -1,7 +1,7 @@
 //! A whole stream is read line by line.
 ghost use Rattle.std.specs.Prelude.{◌≡◌, ◌-◌, ◌<◌, ◌^◌, OnOk, IfErr, Ok, false, get_or, length, not};
 ghost use Rattle.plain_model.specs.Parts.{is_lf};
-ghost use Rattle.line_machine.specs.Lines.{line_count};
+ghost use Rattle.line_automaton.specs.Lines.{line_count};
 ghost use Rattle.stream_fields.specs.Cursors.{Position};
 ghost use Rattle.stream_grammar.specs.Limits.{known_in};
 ghost use Rattle.stream_grammar.specs.Lines.{is_comment, nothing_known};
@@ -14,7 +14,7 @@ use std::alloc::Global;
 use stream_fields::{Cursor, count_line_ends};
 use stream_grammar::{Due, Standing, Word, is_comment, limit_number};
 
-/// What was reached behind a line.
+/// What was reached after a line.
 #[derive(Clone, Copy, Debug)]
 enum Reached {
     /// The next line, from here on.
@@ -40,7 +40,7 @@ fn in_line(line: u64, fault: LineFault) -> ReadFault
 }
 
 // Whether the last line lacks its LF.
-fn lacks_line_end(text: &[u8]) -> bool
+fn misses_line_end(text: &[u8]) -> bool
     ensures { result ≡ not (is_lf (get_or text.now (length text.now - 1) 10)) }
 {
     match text.last() {
@@ -54,7 +54,7 @@ fn count_lines(text: &[u8]) -> u64
     ensures value { result ≡ line_count text.now }
     ensures room { result < 2 ^ 63 }
 {
-    count_line_ends(text) as u64 + if lacks_line_end(text) { 1 } else { 0 }
+    count_line_ends(text) as u64 + if misses_line_end(text) { 1 } else { 0 }
 }
 
 // A line that is no comment, where the stream stood before it.
@@ -71,21 +71,21 @@ fn take<K: KeepsEvents>(
 {
     let number = cursor.number();
     let word = Word::of(line);
-    let behind = match standing.behind(word) {
-        Ok(behind) => behind,
+    let after = match standing.after(word) {
+        Ok(after) => after,
         Err(why) => return Err(ReadFault::BadStream { line: number, why }),
     };
     match word {
         Word::Data => match cursor.block(alloc, line) {
             Ok(bytes) => {
-                keeper.land(behind.is_inline(), bytes)?;
-                Ok(Reached::Line(behind))
+                keeper.arrive(after.is_inline(), bytes)?;
+                Ok(Reached::Line(after))
             }
             Err(fault) => Err(in_line(number, LineFault::from(fault))),
         },
         Word::Done => Ok(Reached::Over),
         _ => match keeper.judge(alloc, word, line) {
-            Ok(()) => Ok(Reached::Line(behind)),
+            Ok(()) => Ok(Reached::Line(after)),
             Err(fault) => Err(in_line(number, fault)),
         },
     }
@@ -110,7 +110,7 @@ fn read_line<K: KeepsEvents>(
 }
 
 /// Reads a whole stream with someone who knows of no event yet: what is known then is what the stream's lines give; or the
-/// first line is told that has a defect or passes a limit.
+/// first line is reported that has a defect or passes a limit.
 pub fn read_lines<K: KeepsEvents>(
     alloc: Global,
     keeper: &mut K,
@@ -123,12 +123,12 @@ pub fn read_lines<K: KeepsEvents>(
     let lines = count_lines(text);
     let mut cursor = Cursor::new(text);
     let mut standing = Standing {
-        due: Due::Event,
+        expected: Due::Event,
         wants_done: false,
     };
     for _ in 0..lines {
         match read_line(alloc, keeper, &mut cursor, standing)? {
-            Reached::Line(behind) => standing = behind,
+            Reached::Line(after) => standing = after,
             Reached::Over => return Ok(()),
             Reached::End => break,
         }

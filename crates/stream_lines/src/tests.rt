@@ -22,7 +22,7 @@ impl KeepsEvents for Nothing {
         }
     }
 
-    fn land(&mut self, _inline: bool, _bytes: Text) -> Result<(), NoMemory> {
+    fn arrive(&mut self, _inline: bool, _bytes: Text) -> Result<(), NoMemory> {
         Err(NoMemory)
     }
 }
@@ -44,7 +44,7 @@ fn streams_without_events_are_read(rt: HostRuntime) {
 }
 
 #[test]
-fn first_defects_are_told(rt: HostRuntime) {
+fn first_defects_are_reported(rt: HostRuntime) {
     let alloc = rt.alloc();
     assert!(rt; answer(alloc, b"hello") == defect(1, Why::UnknownLine));
     assert!(rt; answer(alloc, b"# one\n\nfrom :1\nhello\n") == defect(3, Why::UnknownLine));

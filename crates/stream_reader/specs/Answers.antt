@@ -6,7 +6,7 @@ use Rattle.stream_grammar.specs.Limits.{stream_of}
 use Rattle.stream_lines.specs.declared.fault.ReadFault.{ReadFault}
 use Rattle.stream_lines.specs.declared.fault.ReadFault.TheVariants as read
 
--- the fault is the one that the text gives; want of memory may be told of any text
+-- the fault is the one that the text gives; out of memory may be reported of any text
 abbrev pub IsFaultOf : Bytes → ReadFault → Type 0
 IsFaultOf text (read.BadStream n why) = stream_of text ≡ Err (plain.BadStream n why)
 IsFaultOf text (read.Limit which number) = stream_of text ≡ Err (plain.Limit which number)

@@ -26,16 +26,16 @@ fn joined(alloc: Global, first: &[u8], then: &[u8]) -> Result<Text, Fail> {
     Ok(stream)
 }
 
-// Why the stream isn't read that goes on behind the front with these lines, of which the first is line 10.
-fn fault_behind_front(alloc: Global, lines: &[u8]) -> Result<Option<ReadFault>, Fail> {
+// Why the stream isn't read that goes on after the front with these lines, of which the first is line 10.
+fn fault_after_front(alloc: Global, lines: &[u8]) -> Result<Option<ReadFault>, Fail> {
     let stream = joined(alloc, front(), lines)?;
     Ok(read_stream(alloc, stream.as_slice()).err())
 }
 
-// The same behind the second commit on b: the first of these lines is line 14.
+// The same after the second commit on b: the first of these lines is line 14.
 fn fault_in_commit(alloc: Global, lines: &[u8]) -> Result<Option<ReadFault>, Fail> {
     let lines = joined(alloc, commit_on_b(), lines)?;
-    fault_behind_front(alloc, lines.as_slice())
+    fault_after_front(alloc, lines.as_slice())
 }
 
 fn defect(line: u64, why: Why) -> Option<ReadFault> {

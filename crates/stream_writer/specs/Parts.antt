@@ -24,7 +24,7 @@ head_text branch mark author committer =
     line (codes "commit " ++ branch) ++ line (codes "mark " ++ marked mark)
     ++ line (codes "author " ++ person author) ++ line (codes "committer " ++ person committer)
 
--- its lines behind them, and the empty one
+-- its lines after them, and the empty one
 abbrev pub body_text : List PlainEvent → Option Bytes → Bytes → List ℕ → List FileOp → Bytes
 body_text whole encoding comment parents ops =
     encoding_text whole encoding ++ data_block comment ++ parents_text whole parents ++ flat_map (op_text whole) ops ++ line []

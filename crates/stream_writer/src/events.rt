@@ -91,7 +91,7 @@ fn push_head(
     push_signed_line(out, b"committer ", committer)
 }
 
-// The lines of a commit behind its people, and the empty one.
+// The lines of a commit after its people, and the empty one.
 fn push_body(
     out: &mut Text,
     history: &MarkedHistory,

@@ -48,13 +48,13 @@ fn number_of(mark: Option<Mark>) -> u64
 }
 
 impl Marks {
-    ghost use Rattle.stream_writer.specs.Tables.{Tells};
+    ghost use Rattle.stream_writer.specs.Tables.{Records};
 
     // Takes in an event that stands before those that were taken in.
     fn take(&mut self, event: &PlainEvent) -> Result<(), NoMemory>
         ensures { OnOk result
-            ((events : List PlainEvent) → Tells self.old events
-            → Tells self.new (event.now ∷ events)) }
+            ((events : List PlainEvent) → Records self.old events
+            → Records self.new (event.now ∷ events)) }
     {
         match event {
             PlainEvent::Blob { id, mark, .. } => note(&mut self.blobs, id.number(), *mark),
@@ -64,15 +64,15 @@ impl Marks {
     }
 
     fn of(alloc: Global, events: &[PlainEvent]) -> Result<Marks, NoMemory>
-        ensures { IfOk result (λ marks. Tells marks events.now) }
+        ensures { IfOk result (λ marks. Records marks events.now) }
     {
         let mut marks = Marks {
             blobs: HashMap::new(alloc),
             commits: HashMap::new(alloc),
         };
         // From the last event back, so that the first of two with one id stays.
-        for behind in 0..events.len() {
-            marks.take(&events[events.len() - 1 - behind])?;
+        for after in 0..events.len() {
+            marks.take(&events[events.len() - 1 - after])?;
         }
         Ok(marks)
     }
@@ -91,11 +91,11 @@ impl<'a> Model for MarkedHistory<'a> {
 
     ghost Value = { List PlainEvent };
 
-    ghost use Rattle.stream_writer.specs.Tables.{Tells};
+    ghost use Rattle.stream_writer.specs.Tables.{Records};
 
     ghost view = { λ h. h.events.now };
 
-    ghost invariant = { λ h. Tells h.marks h.events.now };
+    ghost invariant = { λ h. Records h.marks h.events.now };
 }
 
 impl<'a> MarkedHistory<'a> {

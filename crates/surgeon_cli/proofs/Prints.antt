@@ -2,7 +2,7 @@
 use Rattle.std.proofs.Common.{◌≡◌, inl, ℕ, zero, List, [], ◌∷◌, ◌++◌, Option, Some, None, Result, Err, refl, sym, subst, append-nil, arith}
 use Rattle.std.specs.Prelude.{IfSome, IsSome}
 use Rattle.plain_model.specs.Files.{Files}
-use Rattle.history_machine.specs.Machine.{World, Turn, Run, sent, PartSent, Stands, BreaksAfter}
+use Rattle.history_machine.specs.Machine.{World, Turn, Run, sent, PartSent, EndsAs, BreaksAfter}
 use Rattle.script_reader.specs.declared.script.ScriptItem.{ScriptItem}
 use Rattle.history_machine.specs.Words.{Asked}
 use Rattle.history_machine.specs.Whole.{only_prints, run_read, unread, unread_status}
@@ -10,7 +10,7 @@ use Rattle.plain_model.specs.declared.fault.Fault.{Fault}
 use Rattle.plain_model.specs.declared.fault.Fault.TheVariants as fault
 use Rattle.plain_model.specs.declared.status.Status.{Status}
 use Rattle.plain_model.specs.declared.status.Status.TheVariants as status
-use Rattle.history_machine.proofs.Runs.{IsBreak, stands_broken}
+use Rattle.history_machine.proofs.Runs.{IsBreak, ends_broken}
 use Rattle.surgeon_store.specs.Outside.{StoreState, SinkState, Reads}
 use Rattle.file_calls.specs.Calls.{world, world_of, Later}
 use Rattle.surgeon_store.specs.Outside.{Puts, PutsSome}
@@ -27,24 +27,24 @@ IsPrinted status.SourceFault = ⊥
 IsPrinted status.SinkFault = ⊥
 IsPrinted status.Memory = ⊥
 
-stands_end : (ends : Status) (line : List ℕ) (w now : World) → IsPrinted ends → now ≡ sent None (line ++ 10 ∷ []) w → Stands (only_prints ends line) ends w now
-stands_end status.Usage line w now p h = (refl, h)
-stands_end status.NoScript line w now p h = (refl, h)
-stands_end status.BadScript line w now p h = (refl, h)
-stands_end status.Done line w now p h = absurd p
-stands_end status.Refused line w now p h = absurd p
-stands_end status.SourceFault line w now p h = absurd p
-stands_end status.SinkFault line w now p h = absurd p
-stands_end status.Memory line w now p h = absurd p
+ends_end : (ends : Status) (line : List ℕ) (w now : World) → IsPrinted ends → now ≡ sent None (line ++ 10 ∷ []) w → EndsAs (only_prints ends line) ends w now
+ends_end status.Usage line w now p h = (refl, h)
+ends_end status.NoScript line w now p h = (refl, h)
+ends_end status.BadScript line w now p h = (refl, h)
+ends_end status.Done line w now p h = absurd p
+ends_end status.Refused line w now p h = absurd p
+ends_end status.SourceFault line w now p h = absurd p
+ends_end status.SinkFault line w now p h = absurd p
+ends_end status.Memory line w now p h = absurd p
 
 pub printed_end : (s : StoreState) (k k' : SinkState) (ends : Status) (line : List ℕ) → IsPrinted ends → Puts k (line ++ 10 ∷ []) k'
-    → IfSome (world s k) (λ w. IfSome (world s k') (λ now. Stands (only_prints ends line) ends w now))
-printed_end s k k' ends line p h = mapped (world s k) (world s k') (λ w now e. stands_end ends line w now p e) (printed_world s k k' (line ++ 10 ∷ []) h)
+    → IfSome (world s k) (λ w. IfSome (world s k') (λ now. EndsAs (only_prints ends line) ends w now))
+printed_end s k k' ends line p h = mapped (world s k) (world s k') (λ w now e. ends_end ends line w now p e) (printed_world s k k' (line ++ 10 ∷ []) h)
 
 pub printed_part : (s : StoreState) (k k' : SinkState) (ends r : Status) (line : List ℕ) → IsBreak r → PutsSome k (line ++ 10 ∷ []) k'
-    → IfSome (world s k) (λ w. IfSome (world s k') (λ now. Stands (only_prints ends line) r w now))
+    → IfSome (world s k) (λ w. IfSome (world s k') (λ now. EndsAs (only_prints ends line) r w now))
 printed_part s k k' ends r line b h =
-    mapped (world s k) (world s k') (λ w now e. stands_broken (only_prints ends line) r w now b (zero, e)) (some_printed_world s k k' (line ++ 10 ∷ []) h)
+    mapped (world s k) (world s k') (λ w now e. ends_broken (only_prints ends line) r w now b (zero, e)) (some_printed_world s k k' (line ++ 10 ∷ []) h)
 
 no_part : (to : Option (List ℕ)) (bytes : List ℕ) (w : World) → PartSent to bytes w w
 no_part None bytes w = (zero, λ i. record { files = w.files; printed = sym (append-nil w.printed) i })
@@ -55,16 +55,16 @@ no_turn [] w = refl
 no_turn (t ∷ ts) w = no_part t.to t.bytes w
 
 -- a run that hasn't begun
-pub not_begun : {X : Type 0} (run : Run X) (r : Status) (w : World) → IsBreak r → Stands run r w w
-not_begun run r w b = stands_broken run r w w b (zero, no_turn run.turns w)
+pub not_begun : {X : Type 0} (run : Run X) (r : Status) (w : World) → IsBreak r → EndsAs run r w w
+not_begun run r w b = ends_broken run r w w b (zero, no_turn run.turns w)
 
 same_world : (P : World → World → Type 0) (v : Option World) → ((w : World) → P w w) → IfSome v (λ a. IfSome v (λ b. P a b))
 same_world P None f = tt
 same_world P (Some a) f = f a
 
 -- the world before a run that hasn't begun is that after it
-pub not_begun_worlds : {X : Type 0} (run : World → Run X) (r : Status) (v : Option World) → IsBreak r → IfSome v (λ w. IfSome v (λ now. Stands (run w) r w now))
-not_begun_worlds run r v b = same_world (λ w now. Stands (run w) r w now) v (λ w. not_begun (run w) r w b)
+pub not_begun_worlds : {X : Type 0} (run : World → Run X) (r : Status) (v : Option World) → IsBreak r → IfSome v (λ w. IfSome v (λ now. EndsAs (run w) r w now))
+not_begun_worlds run r v b = same_world (λ w now. EndsAs (run w) r w now) v (λ w. not_begun (run w) r w b)
 
 pub printed_status : (why : Fault) → IsPrinted (unread_status why)
 printed_status (fault.Absent name) = tt
@@ -75,7 +75,7 @@ still None = tt
 still (Some a) = refl
 
 -- a run that hasn't begun, after the reading of a file
-pub unread_worlds : {X : Type 0} (run : World → Run X) (r : Status) (s s' : StoreState) (k : SinkState) → IsBreak r → Reads s s' → IfSome (world s k) (λ w. IfSome (world s' k) (λ now. Stands (run w) r w now))
+pub unread_worlds : {X : Type 0} (run : World → Run X) (r : Status) (s s' : StoreState) (k : SinkState) → IsBreak r → Reads s s' → IfSome (world s k) (λ w. IfSome (world s' k) (λ now. EndsAs (run w) r w now))
 unread_worlds run r s s' k b frame = rw frame.files (not_begun_worlds run r (world s k) b)
 
 pub read_later : (s s' : StoreState) (k : SinkState) → Reads s s' → Later s k s' k
@@ -84,20 +84,20 @@ read_later s s' k frame = record {
   write_faults = omega (arith, frame.write_faults);
   misses = frame.misses;
   faults = omega arith;
-  tells = rw frame.files (still (world s k));
+  reports = rw frame.files (still (world s k));
 }
 
-unread_told_worlds : (files : Option Files) (p q : Option (List ℕ)) (what : Asked) (why : Fault) (due : Files → Result (List ScriptItem) Fault) (r : Status) → IfSome files (λ f. due f ≡ Err why)
-    → IfSome (world_of files p) (λ w. IfSome (world_of files q) (λ now. Stands (unread what.script why) r w now))
-    → IfSome (world_of files p) (λ w. IfSome (world_of files q) (λ now. Stands (run_read what w.files (due w.files)) r w now))
-unread_told_worlds None p q what why due r refused h = tt
-unread_told_worlds (Some f) None q what why due r refused h = tt
-unread_told_worlds (Some f) (Some x) None what why due r refused h = tt
-unread_told_worlds (Some f) (Some x) (Some y) what why due r refused h =
-    subst (λ (d : Result (List ScriptItem) Fault). Stands (run_read what f d) r (record { files = f; printed = x }) (record { files = f; printed = y })) (sym refused) h
+unread_reported_worlds : (files : Option Files) (p q : Option (List ℕ)) (what : Asked) (why : Fault) (expected : Files → Result (List ScriptItem) Fault) (r : Status) → IfSome files (λ f. expected f ≡ Err why)
+    → IfSome (world_of files p) (λ w. IfSome (world_of files q) (λ now. EndsAs (unread what.script why) r w now))
+    → IfSome (world_of files p) (λ w. IfSome (world_of files q) (λ now. EndsAs (run_read what w.files (expected w.files)) r w now))
+unread_reported_worlds None p q what why expected r refused h = tt
+unread_reported_worlds (Some f) None q what why expected r refused h = tt
+unread_reported_worlds (Some f) (Some x) None what why expected r refused h = tt
+unread_reported_worlds (Some f) (Some x) (Some y) what why expected r refused h =
+    subst (λ (d : Result (List ScriptItem) Fault). EndsAs (run_read what f d) r (record { files = f; printed = x }) (record { files = f; printed = y })) (sym refused) h
 
 -- the run of a script that is not read
-pub unread_told : (what : Asked) (why : Fault) (due : Files → Result (List ScriptItem) Fault) (s s' : StoreState) (k k' : SinkState) (r : Status) → Reads s s' → IfSome s.files (λ f. due f ≡ Err why)
-    → IfSome (world s k) (λ w. IfSome (world s k') (λ now. Stands (unread what.script why) r w now))
-    → IfSome (world s k) (λ w. IfSome (world s' k') (λ now. Stands (run_read what w.files (due w.files)) r w now))
-unread_told what why due s s' k k' r frame refused h = rw frame.files (unread_told_worlds s.files k.written k'.written what why due r refused h)
+pub unread_reported : (what : Asked) (why : Fault) (expected : Files → Result (List ScriptItem) Fault) (s s' : StoreState) (k k' : SinkState) (r : Status) → Reads s s' → IfSome s.files (λ f. expected f ≡ Err why)
+    → IfSome (world s k) (λ w. IfSome (world s k') (λ now. EndsAs (unread what.script why) r w now))
+    → IfSome (world s k) (λ w. IfSome (world s' k') (λ now. EndsAs (run_read what w.files (expected w.files)) r w now))
+unread_reported what why expected s s' k k' r frame refused h = rw frame.files (unread_reported_worlds s.files k.written k'.written what why expected r refused h)

@@ -14,7 +14,7 @@ use Rattle.plain_model.specs.Files.{Files}
 use Rattle.plain_model.specs.Paths.{Bytes}
 use Rattle.plain_model.specs.Text.{text}
 use Rattle.stream_grammar.specs.Limits.{stream_of}
-use Rattle.written_laws.specs.AsRead.{IsAsRead}
+use Rattle.round_trip_laws.specs.AsRead.{IsAsRead}
 use Rattle.plain_model.specs.Soundness.{IsSound}
 use Rattle.shown_laws.specs.Showing.{IsShownBy}
 use Rattle.renumbering.specs.Renumbered.{renumbered}
@@ -24,7 +24,7 @@ use Rattle.script_reader.specs.declared.command.Command.TheVariants as command
 use Rattle.script_reader.specs.declared.script.ScriptItem.{ScriptItem}
 use Rattle.history_machine.specs.Loading.{◌>>=◌, is_truncated, loaded, over, read_of, whole_lines}
 use Rattle.history_machine.specs.Machine.{Run, Turn, goes_on, run_on, status_after, turn_of, files_after}
-use Rattle.history_machine.specs.Sessions.{Repo, Session, changes, choose_due, chosen, drop_chosen_due, drop_due, find_repo, line_step, read_due, renumber_due, room, step, tells, there, unless, unused, with_history, without_repo}
+use Rattle.history_machine.specs.Sessions.{Repo, Session, changes, after_choose, chosen, after_drop_chosen, after_drop, find_repo, line_step, after_read, after_renumber, room, step, reports, there, unless, unused, with_history, without_repo}
 use Rattle.history_machine.specs.Whole.{run, run_asked, run_read, script_in}
 use Rattle.history_machine.specs.Words.{Asked, asked}
 use Rattle.history_machine.proofs.Steps.{found}
@@ -47,19 +47,19 @@ abbrev ChangesWell : Result Session Fault → Type 0
 ChangesWell (Ok s) = AreHeld s.repos
 ChangesWell (Err why) = Unit {0}
 
-changes_well : (due : Result Session Fault) → ChangesWell due → GoesWell (changes due)
+changes_well : (expected : Result Session Fault) → ChangesWell expected → GoesWell (changes expected)
 changes_well (Ok s) h = h
 changes_well (Err why) h = tt
 
 -- a text that is sent leaves the session as it was
-tells_well : (s : Session) (to : Option Bytes) (due : Result Bytes Fault) → AreHeld s.repos → GoesWell (tells s to due)
-tells_well s to (Ok bytes) h = h
-tells_well s to (Err why) h = tt
+reports_well : (s : Session) (to : Option Bytes) (expected : Result Bytes Fault) → AreHeld s.repos → GoesWell (reports s to expected)
+reports_well s to (Ok bytes) h = h
+reports_well s to (Err why) h = tt
 
--- what is done behind a step that may be refused
-well_behind : {A : Type 0} (r : Result A Fault) (f : A → Result Session Fault) → ((x : A) → r ≡ Ok x → ChangesWell (f x)) → ChangesWell (r >>= f)
-well_behind (Ok x) f h = h x refl
-well_behind (Err why) f h = tt
+-- what is done after a step that may be refused
+well_after : {A : Type 0} (r : Result A Fault) (f : A → Result Session Fault) → ((x : A) → r ≡ Ok x → ChangesWell (f x)) → ChangesWell (r >>= f)
+well_after (Ok x) f h = h x refl
+well_after (Err why) f h = tt
 
 -- ---- the load list
 
@@ -137,31 +137,31 @@ module _
         go true h = cc
         go false h = absurd cc
 
-    read_well : (s : Session) (files : Files) (file name : Bytes) → AreHeld s.repos → ChangesWell (read_due s files file name)
-    unfolding read_due
+    read_well : (s : Session) (files : Files) (file name : Bytes) → AreHeld s.repos → ChangesWell (after_read s files file name)
+    unfolding after_read
     read_well s files file name h =
-        well_behind (room s.repos) (λ repos. unused name (find_repo name repos) >>= λ free. loaded files file >>= λ history. Ok (with_repo repos free history)) (λ repos is.
-        well_behind (unused name (find_repo name repos)) (λ free. loaded files file >>= λ history. Ok (with_repo repos free history)) (λ free is_free.
-        well_behind (loaded files file) (λ history. Ok (with_repo repos free history)) (λ history is_read.
+        well_after (room s.repos) (λ repos. unused name (find_repo name repos) >>= λ free. loaded files file >>= λ history. Ok (with_repo repos free history)) (λ repos is.
+        well_after (unused name (find_repo name repos)) (λ free. loaded files file >>= λ history. Ok (with_repo repos free history)) (λ free is_free.
+        well_after (loaded files file) (λ history. Ok (with_repo repos free history)) (λ history is_read.
         held_more repos (record { name = free; history = history }) (subst AreHeld (room_same s.repos repos is) h) (loaded_held files file history is_read))))
 
-    choose_well : (s : Session) (name : Bytes) → AreHeld s.repos → ChangesWell (choose_due s name)
-    unfolding choose_due
-    choose_well s name h = well_behind (there name (find_repo name s.repos)) (λ history. Ok (record { repos = s.repos; choice = Some name })) (λ history is. h)
+    choose_well : (s : Session) (name : Bytes) → AreHeld s.repos → ChangesWell (after_choose s name)
+    unfolding after_choose
+    choose_well s name h = well_after (there name (find_repo name s.repos)) (λ history. Ok (record { repos = s.repos; choice = Some name })) (λ history is. h)
 
-    drop_well : (s : Session) (name : Bytes) → AreHeld s.repos → ChangesWell (drop_due s name)
-    unfolding drop_due
+    drop_well : (s : Session) (name : Bytes) → AreHeld s.repos → ChangesWell (after_drop s name)
+    unfolding after_drop
     drop_well s name h =
-        well_behind (there name (find_repo name s.repos)) (λ history. Ok (record { repos = without_repo name s.repos; choice = unless name s.choice })) (λ history is. held_without name s.repos h)
+        well_after (there name (find_repo name s.repos)) (λ history. Ok (record { repos = without_repo name s.repos; choice = unless name s.choice })) (λ history is. held_without name s.repos h)
 
-    drop_chosen_well : (s : Session) → AreHeld s.repos → ChangesWell (drop_chosen_due s)
-    unfolding drop_chosen_due
-    drop_chosen_well s h = well_behind (chosen s) (λ repo. drop_due s repo.name) (λ repo is. drop_well s repo.name h)
+    drop_chosen_well : (s : Session) → AreHeld s.repos → ChangesWell (after_drop_chosen s)
+    unfolding after_drop_chosen
+    drop_chosen_well s h = well_after (chosen s) (λ repo. after_drop s repo.name) (λ repo is. drop_well s repo.name h)
 
-    renumber_well : (s : Session) → AreHeld s.repos → ChangesWell (renumber_due s)
-    unfolding renumber_due
+    renumber_well : (s : Session) → AreHeld s.repos → ChangesWell (after_renumber s)
+    unfolding after_renumber
     renumber_well s h =
-        well_behind (chosen s) (λ repo. Ok (record { repos = with_history repo.name (renumbered repo.history) s.repos; choice = s.choice })) (λ repo is.
+        well_after (chosen s) (λ repo. Ok (record { repos = with_history repo.name (renumbered repo.history) s.repos; choice = s.choice })) (λ repo is.
         let held = held_found repo.name repo.history s.repos h (found s repo is) in
         held_with repo.name (renumbered repo.history) s.repos h (
           numbered repo.history held.0,
@@ -170,16 +170,16 @@ module _
 
     step_well : (s : Session) (files : Files) (c : Command) → AreHeld s.repos → GoesWell (step s files c)
     unfolding step
-    step_well s files (command.Read file name) h = changes_well (read_due s files file name) (read_well s files file name h)
-    step_well s files (command.Write to) h = tells_well s to _ h
-    step_well s files (command.Choose name) h = changes_well (choose_due s name) (choose_well s name h)
+    step_well s files (command.Read file name) h = changes_well (after_read s files file name) (read_well s files file name h)
+    step_well s files (command.Write to) h = reports_well s to _ h
+    step_well s files (command.Choose name) h = changes_well (after_choose s name) (choose_well s name h)
     step_well s files command.ShowRepos h = h
-    step_well s files (command.Drop name) h = changes_well (drop_due s name) (drop_well s name h)
-    step_well s files command.DropChosen h = changes_well (drop_chosen_due s) (drop_chosen_well s h)
-    step_well s files command.Renumber h = changes_well (renumber_due s) (renumber_well s h)
-    step_well s files (command.List to) h = tells_well s to _ h
-    step_well s files (command.Index to) h = tells_well s to _ h
-    step_well s files (command.Names to) h = tells_well s to _ h
+    step_well s files (command.Drop name) h = changes_well (after_drop s name) (drop_well s name h)
+    step_well s files command.DropChosen h = changes_well (after_drop_chosen s) (drop_chosen_well s h)
+    step_well s files command.Renumber h = changes_well (after_renumber s) (renumber_well s h)
+    step_well s files (command.List to) h = reports_well s to _ h
+    step_well s files (command.Index to) h = reports_well s to _ h
+    step_well s files (command.Names to) h = reports_well s to _ h
 
     line_well : (s : Session) (files : Files) (line : Bytes) → AreHeld s.repos → GoesWell (line_step s files line)
     unfolding line_step
@@ -190,7 +190,7 @@ module _
         go (Err why) = tt
 
     -- the turn of a line that goes well, or of its refusal
-    turn_well : (s : Session) (line : ℕ) (due : Result (Turn Session) Fault) → AreHeld s.repos → GoesWell due → AreHeld (turn_of s line due).session.repos
+    turn_well : (s : Session) (line : ℕ) (expected : Result (Turn Session) Fault) → AreHeld s.repos → GoesWell expected → AreHeld (turn_of s line expected).session.repos
     turn_well s line (Ok t) h well = well
     turn_well s line (Err why) h well = h
 
@@ -210,12 +210,12 @@ module _
     lines_show : (keep : Bool) (so_far : Status) (s : Session) (files : Files) (items : List ScriptItem) → AreHeld s.repos → Show (run_on line_step keep so_far s files items).turns
     lines_show keep so_far s files [] h = tt
     lines_show keep so_far s files (item ∷ items) h =
-        let due = line_step s files item.text in
-        let t = turn_of s item.line due in
-        let held = turn_well s item.line due h (line_well s files item.text h) in (
+        let expected = line_step s files item.text in
+        let t = turn_of s item.line expected in
+        let held = turn_well s item.line expected h (line_well s files item.text h) in (
           shown t.session.repos held,
-          cut_or_not (goes_on keep due) (run_on line_step keep (status_after so_far due) t.session (files_after t.to t.bytes files) items) (record { turns = []; status = status.Refused })
-              (lines_show keep (status_after so_far due) t.session (files_after t.to t.bytes files) items held) tt,
+          cut_or_not (goes_on keep expected) (run_on line_step keep (status_after so_far expected) t.session (files_after t.to t.bytes files) items) (record { turns = []; status = status.Refused })
+              (lines_show keep (status_after so_far expected) t.session (files_after t.to t.bytes files) items held) tt,
         )
 
     read_show : (what : Asked) (files : Files) (script : Result (List ScriptItem) Fault) → Show (run_read what files script).turns

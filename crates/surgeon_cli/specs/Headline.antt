@@ -9,15 +9,15 @@ use Rattle.plain_model.specs.Text.{text}
 use Rattle.shown_laws.specs.Showing.{IsShownBy}
 use Rattle.surgeon_store.specs.Outside.{StoreState, SinkState}
 use Rattle.history_machine.specs.Sessions.{Repo}
-use Rattle.history_machine.specs.Machine.{Completes, Stands}
+use Rattle.history_machine.specs.Machine.{Completes, EndsAs}
 use Rattle.history_machine.specs.Whole.{run}
 use Rattle.history_machine.specs.Words.{asked}
 use Rattle.file_calls.specs.Calls.{NoFaults, world}
 
 -- Files and output are those of the machine's run of these words: at its end, with its status, or where a fault of
--- the outside or want of memory broke it off.
+-- the outside or out of memory broke it off.
 abbrev pub AsPrescribed : List Bytes → StoreState → SinkState → Status → StoreState → SinkState → Type 0
-AsPrescribed words s k answer s' k' = IfSome (world s k) (λ w. IfSome (world s' k') (λ now. Stands (run words w.files) answer w now))
+AsPrescribed words s k answer s' k' = IfSome (world s k) (λ w. IfSome (world s' k') (λ now. EndsAs (run words w.files) answer w now))
 
 -- where no count of faults rose and memory was there, the run came to its end
 abbrev pub Succeeds : List Bytes → StoreState → SinkState → Status → StoreState → SinkState → Type 0
@@ -29,18 +29,18 @@ Succeeds words s k answer s' k' =
 abbrev pub AreShown : List Repo → Type 0
 AreShown repos = AllByRecursion (λ r. IsShownBy (text r.history) r.history) repos
 
--- that is so behind each command of the run, whether it is done or refused
+-- that is so after each command of the run, whether it is done or refused
 abbrev pub ShowsHistories : List Bytes → Files → Type 0
 ShowsHistories words files = AllByRecursion (λ t. AreShown t.session.repos) (run words files).turns
 
--- how a run ends that tells how the program is called: so, or a fault of printing or want of memory broke it off
+-- how a run ends that tells how the program is called: so, or a fault of printing or out of memory broke it off
 abbrev pub IsUsageEnd : Status → Type 0
 IsUsageEnd status.Usage = Unit {0}
 IsUsageEnd status.SinkFault = Unit {0}
 IsUsageEnd status.Memory = Unit {0}
 IsUsageEnd other = ⊥
 
--- the words aren't right exactly where it is told how the program is called
+-- the words aren't right exactly where it is reported how the program is called
 pub record AnswersWords (words : List Bytes) (answer : Status) : Type 0 where
-  pub told : asked words ≡ None → IsUsageEnd answer
+  pub prescribed : asked words ≡ None → IsUsageEnd answer
   pub only : answer ≡ status.Usage → asked words ≡ None

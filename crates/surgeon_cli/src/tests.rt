@@ -66,7 +66,7 @@ M 160000 0123456789abcdef0123456789abcdef01234567 sub
 done
 this is not read";
 
-// The blob behind an operation and the merge have no marks, so theirs follow the greatest mark, which is 9.
+// The blob after an operation and the merge have no marks, so theirs follow the greatest mark, which is 9.
 const WHOLE_WRITTEN: &[u8] = b"feature done
 blob
 mark :1
@@ -305,7 +305,7 @@ fn a_stream_that_is_not_read_is_refused_with_its_first_line(rt: HostRuntime) -> 
 }
 
 // So many commits in a row, of four lines each, and a commit of three lines, with a line `merge` for each of the
-// others behind them.
+// others after them.
 fn merge_of(alloc: Global, commits: u64) -> Result<Text, Fail> {
     let mut stream: Text = Items::new(alloc)?;
     for before in 0..commits {
@@ -322,7 +322,7 @@ fn merge_of(alloc: Global, commits: u64) -> Result<Text, Fail> {
     Ok(stream)
 }
 
-// `merge_of` so many commits, with more behind it.
+// `merge_of` so many commits, with more after it.
 fn merge_read(alloc: Global, commits: u64, more: &[u8]) -> Result<Ending, Fail> {
     let mut stream = merge_of(alloc, commits)?;
     stream.push_all(more)?;
@@ -446,7 +446,7 @@ fn a_script_ends_with_its_status_and_its_line(rt: HostRuntime) -> Result<(), Fai
 }
 
 #[test]
-fn a_run_goes_on_behind_refusals_where_it_is_to(rt: HostRuntime) -> Result<(), Fail> {
+fn a_run_goes_on_after_refusals_where_it_is_to(rt: HostRuntime) -> Result<(), Fail> {
     let alloc = rt.alloc();
     let script = b"write\nread <a.fi\nread <none\nrenumber x\nindex\nread <a.fi\nwrite >b.fi\n";
     let printed = b"surgeon: line 1: refused 30 NoRepo
@@ -551,7 +551,7 @@ fn a_command_line_ends_with_its_status_and_its_line(rt: HostRuntime) -> Result<(
             usage,
         ),
         (
-            "an option behind two hyphens",
+            "an option after two hyphens",
             &["--", "-x"],
             Status::NoScript,
             b"surgeon: no script -x\n",

@@ -16,7 +16,7 @@ ghost use Rattle.std.specs.Prelude.{
   ◌≢◌,
 };
 ghost use Rattle.surgeon_store.specs.Outside.{Puts, PutsSome, Reads, Rose, StoreState};
-ghost use Rattle.history_machine.specs.Machine.{Stands, World};
+ghost use Rattle.history_machine.specs.Machine.{EndsAs, World};
 ghost use Rattle.history_machine.specs.Sessions.{empty_session};
 ghost use Rattle.history_machine.specs.Whole.{
   only_prints,
@@ -45,7 +45,7 @@ use plain_model::{Fault, Items, MAX_SCRIPT_BYTES, NoMemory, Status, Text};
 use renumbering::{ids_stay, renumbering_keeps_soundness};
 use script_reader::Script;
 use shown_laws::what_is_written_shows_the_history;
-use sound_laws::{what_is_read_is_sound, what_is_read_passes_no_limit};
+use soundness_laws::{what_is_read_is_sound, what_is_read_passes_no_limit};
 use std::alloc::Global;
 use surgeon_session::Session;
 use surgeon_store::{Sink, Store, WriteEnd, write_all};
@@ -94,9 +94,9 @@ fn print_line<T: Sink>(out: &mut T, mut line: Text) -> Result<(), WriteEnd>
 
 // Tells that a script is not read.
 fn unread_script<T: Sink>(alloc: Global, name: &[u8], why: &Fault, out: &mut T) -> Status
-    ensures told { (s : StoreState) → IfSome (world s (T.state out.old))
+    ensures prescribed { (s : StoreState) → IfSome (world s (T.state out.old))
         (λ w. IfSome (world s (T.state out.new))
-        (λ now. Stands (unread name.now why.now) result w now)) }
+        (λ now. EndsAs (unread name.now why.now) result w now)) }
     ensures failed { result ≡ Status.SinkFault
         → Rose (T.state out.old).faults (T.state out.new).faults }
     ensures source { result ≢ Status.SourceFault }
@@ -125,9 +125,9 @@ fn usage_line(alloc: Global) -> Result<Text, NoMemory>
 
 // Prints how the program is called.
 fn print_usage<T: Sink>(alloc: Global, out: &mut T) -> Status
-    ensures told { (s : StoreState) → IfSome (world s (T.state out.old))
+    ensures prescribed { (s : StoreState) → IfSome (world s (T.state out.old))
         (λ w. IfSome (world s (T.state out.new))
-        (λ now. Stands (only_prints Status.Usage usage) result w now)) }
+        (λ now. EndsAs (only_prints Status.Usage usage) result w now)) }
     ensures failed { result ≡ Status.SinkFault
         → Rose (T.state out.old).faults (T.state out.new).faults }
     ensures ends { IsUsageEnd result }
@@ -146,7 +146,7 @@ fn print_usage<T: Sink>(alloc: Global, out: &mut T) -> Status
 
 // The script of a file.
 fn script_in<S: Store>(alloc: Global, store: &mut S, name: &str) -> Result<Script, Halted>
-    ensures told { IfSome (S.state store.old).files
+    ensures prescribed { IfSome (S.state store.old).files
         (λ files. Gives (λ script. script) result (script_in files name.now)) }
     ensures missed { (name : _) → result ≡ Err (Halted.Refused (Fault.Absent name))
         → Rose (S.state store.old).misses (S.state store.new).misses }
@@ -171,9 +171,9 @@ fn run_script<S: Store, T: Sink>(
     store: &mut S,
     out: &mut T,
 ) -> Status
-    ensures told { IfSome (world (S.state store.old) (T.state out.old))
+    ensures prescribed { IfSome (world (S.state store.old) (T.state out.old))
         (λ w. IfSome (world (S.state store.new) (T.state out.new))
-        (λ now. Stands (run_from empty_session w.files script.now keep_going) result w now)) }
+        (λ now. EndsAs (run_from empty_session w.files script.now keep_going) result w now)) }
     ensures caused { CausedEnd (S.state store.old) (T.state out.old) result
         (S.state store.new) (T.state out.new) }
     ensures later { Later (S.state store.old) (T.state out.old)
@@ -194,9 +194,9 @@ fn run_file<S: Store, T: Sink>(
     store: &mut S,
     out: &mut T,
 ) -> Status
-    ensures told { IfSome (world (S.state store.old) (T.state out.old))
+    ensures prescribed { IfSome (world (S.state store.old) (T.state out.old))
         (λ w. IfSome (world (S.state store.new) (T.state out.new))
-        (λ now. Stands (run_asked w.files
+        (λ now. EndsAs (run_asked w.files
         (Some (record { keep_going = keep_going; script = name.now }))) result w now)) }
     ensures caused { CausedEnd (S.state store.old) (T.state out.old) result
         (S.state store.new) (T.state out.new) }
@@ -221,9 +221,9 @@ fn run_words<S: Store, T: Sink>(
     store: &mut S,
     out: &mut T,
 ) -> Status
-    ensures told { IfSome (world (S.state store.old) (T.state out.old))
+    ensures prescribed { IfSome (world (S.state store.old) (T.state out.old))
         (λ w. IfSome (world (S.state store.new) (T.state out.new))
-        (λ now. Stands (run (map string_bytes words.now) w.files) result w now)) }
+        (λ now. EndsAs (run (map string_bytes words.now) w.files) result w now)) }
     ensures caused { CausedEnd (S.state store.old) (T.state out.old) result
         (S.state store.new) (T.state out.new) }
     ensures later { Later (S.state store.old) (T.state out.old)
@@ -237,15 +237,15 @@ fn run_words<S: Store, T: Sink>(
 }
 
 /// Runs the script that the words name, over these files and this output. The first word is the program's name; with
-/// `--keep-going` among the others the run goes on behind refusals. (own)
+/// `--keep-going` among the others the run goes on after refusals. (own)
 pub fn surgeon<S: Store, T: Sink>(
     alloc: Global,
     words: &[String],
     store: &mut S,
     out: &mut T,
 ) -> Status
-    // What the plain machine prescribes, to its end, or up to where a fault or want of memory broke it off.
-    ensures told { AsPrescribed (map string_bytes words.now) (S.state store.old) (T.state out.old)
+    // What the plain machine prescribes, to its end, or up to where a fault or out of memory broke it off.
+    ensures prescribed { AsPrescribed (map string_bytes words.now) (S.state store.old) (T.state out.old)
         result (S.state store.new) (T.state out.new) }
 
     // A status that tells of the outside is one whose count rose, and without them success is due.
@@ -257,7 +257,7 @@ pub fn surgeon<S: Store, T: Sink>(
         (S.state store.new) (T.state out.new) }
 
     // Usage comes exactly where the words aren't right, whatever the store tells; but a fault of printing or
-    // want of memory may come in its place.
+    // out of memory may come in its place.
     ensures words { AnswersWords (map string_bytes words.now) result }
 
     // Each history that the run holds, and so each that it writes, is shown by its text: that is a stream, what is read of

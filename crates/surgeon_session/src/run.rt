@@ -2,7 +2,7 @@
 ghost use Rattle.std.specs.Prelude.{◌≡◌, ◌≤◌, IfSome, IsErrOf, OnOk};
 ghost use Rattle.plain_model.specs.Faults.{refusal};
 ghost use Rattle.surgeon_store.specs.Outside.{Puts, PutsSome, Rose};
-ghost use Rattle.history_machine.specs.Machine.{SessionStands, World, so_far_after, stops};
+ghost use Rattle.history_machine.specs.Machine.{SessionEndsAs, World, so_far_after, stops};
 ghost use Rattle.history_machine.specs.Sessions.{line_step};
 ghost use Rattle.history_machine.specs.Whole.{run_from};
 ghost use Rattle.file_calls.specs.Calls.{Caused, CausedEnd, Later, Steps, Turns, world};
@@ -24,7 +24,7 @@ fn carry_out<S: Store, T: Sink>(
     store: &mut S,
     out: &mut T,
 ) -> Result<(), Halted>
-    ensures told { IfSome (world (S.state store.old) (T.state out.old))
+    ensures prescribed { IfSome (world (S.state store.old) (T.state out.old))
         (λ w. IfSome (world (S.state store.new) (T.state out.new))
         (λ now. Steps result session.old w (line_step session.old w.files line.now)
         session.new now)) }
@@ -66,7 +66,7 @@ fn turn<S: Store, T: Sink>(
     store: &mut S,
     out: &mut T,
 ) -> Status
-    ensures told { IfSome (world (S.state store.old) (T.state out.old))
+    ensures prescribed { IfSome (world (S.state store.old) (T.state out.old))
         (λ w. IfSome (world (S.state store.new) (T.state out.new))
         (λ now. Turns result session.old w item.now.line
         (line_step session.old w.files item.now.text) session.new now)) }
@@ -89,7 +89,7 @@ fn turn<S: Store, T: Sink>(
     }
 }
 
-// Whether a run ends behind a line with this end.
+// Whether a run ends after a line with this end.
 fn is_stop(keep_going: bool, ended: Status) -> bool
     ensures { result ≡ stops keep_going ended }
 {
@@ -100,7 +100,7 @@ fn is_stop(keep_going: bool, ended: Status) -> bool
     }
 }
 
-// The status of a run so far, behind a line with this end.
+// The status of a run so far, after a line with this end.
 fn status_by(so_far: Status, ended: Status) -> Status
     ensures { result ≡ so_far_after so_far ended }
 {
@@ -119,9 +119,9 @@ fn run_items<S: Store, T: Sink>(
     store: &mut S,
     out: &mut T,
 ) -> Status
-    ensures told { IfSome (world (S.state store.old) (T.state out.old))
+    ensures prescribed { IfSome (world (S.state store.old) (T.state out.old))
         (λ w. IfSome (world (S.state store.new) (T.state out.new))
-        (λ now. SessionStands (run_from session.old w.files items.now keep_going) result
+        (λ now. SessionEndsAs (run_from session.old w.files items.now keep_going) result
         session.old w session.new now)) }
     ensures caused { CausedEnd (S.state store.old) (T.state out.old) result
         (S.state store.new) (T.state out.new) }
@@ -150,9 +150,9 @@ impl Session {
         store: &mut S,
         out: &mut T,
     ) -> Status
-        ensures told { IfSome (world (S.state store.old) (T.state out.old))
+        ensures prescribed { IfSome (world (S.state store.old) (T.state out.old))
             (λ w. IfSome (world (S.state store.new) (T.state out.new))
-            (λ now. SessionStands (run_from self.old w.files script.now keep_going) result
+            (λ now. SessionEndsAs (run_from self.old w.files script.now keep_going) result
             self.old w self.new now)) }
         ensures caused { CausedEnd (S.state store.old) (T.state out.old) result
             (S.state store.new) (T.state out.new) }

@@ -92,7 +92,7 @@ impl Session {
         store: &mut S,
         out: &mut T,
     ) -> Result<(), Halted>
-        ensures told { IfSome (world (S.state store.old) (T.state out.old))
+        ensures prescribed { IfSome (world (S.state store.old) (T.state out.old))
             (λ w. IfSome (world (S.state store.new) (T.state out.new))
             (λ now. Steps result self.old w (step self.old w.files command.now) self.new now)) }
         ensures caused { Caused (S.state store.old) (T.state out.old) result

@@ -27,8 +27,8 @@ others-insert files name v =
     ∙ sym (get-remove nat_list_cmp_total files name q))
 
 -- the bytes of the file that is written
-abbrev pub told : Option Files → Option (List ℕ) → Option (List ℕ)
-told files writing = option_and_then (λ fs. option_and_then (get fs) writing) files
+abbrev pub reported : Option Files → Option (List ℕ) → Option (List ℕ)
+reported files writing = option_and_then (λ fs. option_and_then (get fs) writing) files
 
 abbrev pub beside : Option Files → Option (List ℕ) → Option Files
 beside files writing = option_and_then (λ fs. option_map (others fs) writing) files
@@ -42,13 +42,13 @@ grown : (bytes : List ℕ) (o found : Option (List ℕ)) → found ≡ Some (unw
 grown bytes None found e = tt
 grown bytes (Some w) found e = e
 
-pub told-appended : (files news : Option Files) (writing : Option (List ℕ)) (bytes : List ℕ)
+pub reported-appended : (files news : Option Files) (writing : Option (List ℕ)) (bytes : List ℕ)
     → IfSome files (λ fs. IfSome writing (λ name. news ≡ Some (appended fs name bytes)))
-    → IfSome (told files writing) (λ w. told news writing ≡ Some (w ++ bytes))
-told-appended None news writing bytes h = tt
-told-appended (Some fs) news None bytes h = tt
-told-appended (Some fs) news (Some name) bytes h =
-    grown bytes (get fs name) (told news (Some name)) (ap (λ (o : Option Files). told o (Some name)) h ∙ get-appended fs name bytes)
+    → IfSome (reported files writing) (λ w. reported news writing ≡ Some (w ++ bytes))
+reported-appended None news writing bytes h = tt
+reported-appended (Some fs) news None bytes h = tt
+reported-appended (Some fs) news (Some name) bytes h =
+    grown bytes (get fs name) (reported news (Some name)) (ap (λ (o : Option Files). reported o (Some name)) h ∙ get-appended fs name bytes)
 
 pub beside-appended : (files news : Option Files) (writing : Option (List ℕ)) (bytes : List ℕ)
     → IfSome files (λ fs. IfSome writing (λ name. news ≡ Some (appended fs name bytes)))
@@ -66,7 +66,7 @@ module _ (place : GName) (old new : StoreState) (r : Result ℕ WriteFault) (pie
   sink_appends = at r appends
     where
       at : (q : Result ℕ WriteFault) → IfOk q (λ n. Appends old (take n piece) new) → IfOk q (λ n. IfSome (sink_of place old).written (λ w. (sink_of place new).written ≡ Some (w ++ take n piece)))
-      at (Ok n) h = rw writing (told-appended old.files new.files old.writing (take n piece) h)
+      at (Ok n) h = rw writing (reported-appended old.files new.files old.writing (take n piece) h)
       at (Err e) h = tt
 
   pub sink_around : OnErr r (new.files ≡ old.files) → Writes old new → (sink_of place new).around ≡ (sink_of place old).around
@@ -75,5 +75,5 @@ module _ (place : GName) (old new : StoreState) (r : Result ℕ WriteFault) (pie
       λ i. record { files = files i; writing = writing i; read_faults = frame.read_faults i; misses = frame.misses i; place = Some place }
     where
       at : (q : Result ℕ WriteFault) → IfOk q (λ n. Appends old (take n piece) new) → OnErr q (new.files ≡ old.files) → beside new.files new.writing ≡ beside old.files old.writing
-      at (Ok n) h k = ap (beside new.files) writing ∙ beside-appended old.files new.files old.writing (take n piece) h frame.tells
+      at (Ok n) h k = ap (beside new.files) writing ∙ beside-appended old.files new.files old.writing (take n piece) h frame.reports
       at (Err e) h k = ap (beside new.files) writing ∙ ap (λ (o : Option Files). beside o old.writing) k

@@ -1,4 +1,4 @@
--- What is told of the system's files.
+-- What is reported of the system's files.
 use Rattle.std.specs.Prelude.{ℕ, List, [], Bool, false, if◌then◌else◌, Option, Some, None}
 use Rattle.surgeon_store.specs.Outside.{StoreState}
 
@@ -14,7 +14,7 @@ pub record DiskState : Type 0 where
 abbrev pub untouched : DiskState
 untouched = record { is_reading = false; writing = None; read_faults = 0; write_faults = 0; misses = 0 }
 
--- nothing is left where no file is read, and nothing is told where one is
+-- nothing is left where no file is read, and nothing is reported where one is
 abbrev pub disk_store_of : DiskState → StoreState
 disk_store_of disk = record {
   files = None;

@@ -30,7 +30,7 @@ memory_code =
 abbrev pub unopened : List FileEntry → FilesInMemory
 unopened entries = record { files = files_of entries; rest = []; writing = None; misses = 0 }
 
--- what is told of them, beside two counts of faults
+-- what is reported of them, beside two counts of faults
 abbrev pub store_of : FilesInMemory → ℕ → ℕ → StoreState
 store_of memory read_faults write_faults = record {
   files = Some memory.files;
@@ -41,7 +41,7 @@ store_of memory read_faults write_faults = record {
   misses = memory.misses;
 }
 
--- what is told of bytes in memory, beside a count of faults
+-- what is reported of bytes in memory, beside a count of faults
 abbrev pub output_of : List ℕ → ℕ → SinkState
 output_of bytes faults = record { written = Some bytes; faults = faults; around = alone }
 

@@ -1,4 +1,4 @@
--- What is told of stores and sinks, and what their calls do to it.
+-- What is reported of stores and sinks, and what their calls do to it.
 use Rattle.std.specs.Prelude.{◌≡◌, ℕ, ◌+◌, ◌-◌, ◌^◌, ◌≤◌, ◌<◌, min, List, [], ◌++◌, length, take, drop, Option, Some, None, IfSome, IsSome, option_and_then, is_some}
 use Rattle.std.specs.Option.{option_map}
 use Rattle.std.specs.Borrow.{GName}
@@ -12,7 +12,7 @@ Rose before now = min (before + 1) (2 ^ 64 - 1) ≤ now
 
 -- ---- stores
 
--- what is told of a store
+-- what is reported of a store
 pub record StoreState : Type 0 where
   -- the files, where it tells them
   pub files : Option Files
@@ -24,7 +24,7 @@ pub record StoreState : Type 0 where
   pub write_faults : ℕ
   pub misses : ℕ
 
--- where the files are told, what is left of the one that is read is told too
+-- where the files are reported, what is left of the one that is read is reported too
 abbrev pub TellsRest : StoreState → Type 0
 TellsRest state = IfSome state.files (λ _. IsSome state.rest)
 
@@ -42,7 +42,7 @@ pub record Writes (old new : StoreState) : Type 0 where
   pub misses : new.misses ≡ old.misses
   pub write_faults : old.write_faults ≤ new.write_faults
   -- it goes on to tell its files, or not to
-  pub tells : is_some new.files ≡ is_some old.files
+  pub reports : is_some new.files ≡ is_some old.files
 
 -- the file is there, and the rest is its bytes
 abbrev pub Opens : StoreState → List ℕ → StoreState → Type 0
@@ -80,7 +80,7 @@ pub record Around : Type 0 where
   -- the value that it writes through, if it holds a borrow of one
   pub place : Option GName
 
--- what is told of a sink
+-- what is reported of a sink
 pub record SinkState : Type 0 where
   -- the bytes that it took, where it tells them
   pub written : Option (List ℕ)

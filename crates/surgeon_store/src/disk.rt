@@ -1,4 +1,4 @@
-//! The files of the system and its standard output. Nothing is told of their bytes, so this module is
+//! The files of the system and its standard output. Nothing is reported of their bytes, so this module is
 //! trusted where the others are proved.
 ghost use Rattle.std.specs.Prelude.{◌≡◌, ◌≤◌, ◌<◌, length, None, IfOk, IsTrue, OnOk, is_some};
 ghost use Rattle.surgeon_store.specs.Outside.{Rose, alone};
@@ -120,7 +120,7 @@ impl<'a, R: Files> DiskStore<'a, R> {
 impl<'a, R: Files> Store for DiskStore<'a, R> {
     ghost state = { disk_store_of };
 
-    ghost tells_rest = { λ _. tt };
+    ghost reports_rest = { λ _. tt };
 
     fn begin_read(&mut self, name: &str) -> Result<(), OpenFault>
         ensures store { PromisesBeginRead (disk_store_of self.old) name.now result

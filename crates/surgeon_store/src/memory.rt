@@ -187,7 +187,7 @@ impl Store for MemoryStore {
         Ok(())
     }
 
-    ghost tells_rest = { λ _. refl };
+    ghost reports_rest = { λ _. refl };
 }
 
 /// Output in memory, of which chosen calls answer `Failed` and take nothing. Calls are counted from 1; past

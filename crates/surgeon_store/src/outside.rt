@@ -109,8 +109,8 @@ pub trait Store {
             (Rose (state self.old).write_faults (state self.new).write_faults) }
         ensures frame { Writes (state self.old) (state self.new) };
 
-    // What is left of the file that is read is told by every store that tells its files.
-    ghost tells_rest: { (store : Self) → TellsRest (state store) };
+    // What is left of the file that is read is reported by every store that tells its files.
+    ghost reports_rest: { (store : Self) → TellsRest (state store) };
 }
 
 /// What takes output. Each fault raises a count, which stops at 2^64 - 1. (own)

@@ -1,4 +1,4 @@
-//! Files and output in memory. Nothing goes wrong with them but want of memory.
+//! Files and output in memory. Nothing goes wrong with them but out of memory.
 ghost use Rattle.std.specs.Prelude.{
   ◌≡◌,
   [],
@@ -34,7 +34,7 @@ use plain_model::{Items, NoMemory, Text};
 use std::alloc::Global;
 use std::marker::Model;
 
-/// Files in memory. Of a file that is begun anew the older bytes stay in memory, behind the newer.
+/// Files in memory. Of a file that is begun anew the older bytes stay in memory, after the newer.
 #[derive(Drop)]
 pub struct SureStore {
     alloc: Global,
@@ -214,7 +214,7 @@ impl Store for SureStore {
         Ok(())
     }
 
-    ghost tells_rest = { λ _. refl };
+    ghost reports_rest = { λ _. refl };
 }
 
 /// Output in memory.

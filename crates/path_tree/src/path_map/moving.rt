@@ -18,7 +18,7 @@ fn joined(alloc: Global, front: &[u8], rest: &[u8]) -> Result<Vec<u8>, NoMemory>
     Ok(made)
 }
 
-/// What stands behind so many bytes.
+/// What stands after so many bytes.
 fn rest_of(path: &[u8], count: usize) -> &[u8]
     ensures { result.now ≡ drop count path.now }
 {
@@ -29,7 +29,7 @@ fn rest_of(path: &[u8], count: usize) -> &[u8]
     }
 }
 
-/// The target, and the rest of the path behind so many bytes.
+/// The target, and the rest of the path after so many bytes.
 fn moved_path(
     alloc: Global,
     path: &[u8],

@@ -5,22 +5,22 @@ ghost use Rattle.stream_fields.specs.Answers.{Gives};
 ghost use Rattle.stream_grammar.specs.Known.{
   OpenCommit as KnownCommit,
   has_source,
-  op_behind,
-  paths_behind,
+  op_after,
+  paths_after,
   tree_now,
 };
 ghost use Rattle.stream_grammar.specs.Known.Open.{ACommit};
 ghost use Rattle.stream_grammar.specs.Limits.{judged_within, op_limit, within_limit};
 ghost use Rattle.stream_grammar.specs.Lines.{with_operation};
 ghost use Rattle.stream_lines.specs.Reading.{Judges};
-ghost use Rattle.stream_builder.specs.Building.{behind_operation, is_commit, with_op};
+ghost use Rattle.stream_builder.specs.Building.{after_operation, is_commit, with_op};
 
 use crate::builder::Builder;
 use crate::open::Open;
 use crate::operations::{put_last, read_modify};
 use plain_model::{FileOp, MAX_EVENTS, MAX_OPERATIONS, NoMemory, Path, Place, Which, Why};
 use std::alloc::Global;
-use stream_fields::{FieldFault, due, read_last_path, read_path, words};
+use stream_fields::{FieldFault, expected, read_last_path, read_path, words};
 use stream_lines::LineFault;
 
 impl Builder {
@@ -43,7 +43,7 @@ impl Builder {
     // `SOURCE TARGET`, where the tree has the source.
     fn read_paths(&mut self, alloc: Global, text: &[u8]) -> Result<(Path, Path), FieldFault>
         ensures paths { (c : KnownCommit) → self.old.current ≡ ACommit c →
-            Gives (λ x. (x.0, x.1)) result (paths_behind (tree_now self.old.events c) text.now) }
+            Gives (λ x. (x.0, x.1)) result (paths_after (tree_now self.old.events c) text.now) }
         ensures same { self.new ≡ self.old }
     {
         let (source, taken) = read_path(alloc, text, Place::Source)?;
@@ -56,29 +56,29 @@ impl Builder {
 
     fn read_operation(&mut self, alloc: Global, line: &[u8]) -> Result<FileOp, FieldFault>
         ensures op { (c : KnownCommit) → self.old.current ≡ ACommit c →
-            Gives (λ op. op) result (op_behind self.old.events c line.now) }
+            Gives (λ op. op) result (op_after self.old.events c line.now) }
         ensures same { self.new ≡ self.old }
     {
         let (word, text) = words(line);
         if word == b"M".as_slice() {
-            return read_modify(alloc, &self.drafts, due(Why::BadMode, text)?);
+            return read_modify(alloc, &self.drafts, expected(Why::BadMode, text)?);
         }
         if word == b"D".as_slice() {
             let path = read_last_path(alloc, text)?;
             return Ok(FileOp::Delete { path });
         }
         if word == b"C".as_slice() {
-            let (source, target) = self.read_paths(alloc, due(Why::BadPath, text)?)?;
+            let (source, target) = self.read_paths(alloc, expected(Why::BadPath, text)?)?;
             return Ok(FileOp::Copy { source, target });
         }
         if word == b"R".as_slice() {
-            let (source, target) = self.read_paths(alloc, due(Why::BadPath, text)?)?;
+            let (source, target) = self.read_paths(alloc, expected(Why::BadPath, text)?)?;
             return Ok(FileOp::Rename { source, target });
         }
         Ok(FileOp::DeleteAll)
     }
 
-    // Puts an operation behind the others, with so many events that it brings along.
+    // Puts an operation after the others, with so many events that it brings along.
     fn put_operation(&mut self, alloc: Global, more: u64, op: FileOp) -> Result<(), LineFault>
         requires { more ≤ 1 }
         ensures { (c : KnownCommit) → self.old.current ≡ ACommit c →
@@ -128,7 +128,7 @@ impl Builder {
     fn take_operation(&mut self, alloc: Global, more: u64, line: &[u8]) -> Result<(), LineFault>
         requires { more ≤ 1 }
         ensures { Judges self.new result
-            (behind_operation more (with_operation self.old line.now)) }
+            (after_operation more (with_operation self.old line.now)) }
     {
         if self.is_commit() {
             let op = self.read_operation(alloc, line)?;

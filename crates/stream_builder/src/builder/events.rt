@@ -95,7 +95,7 @@ impl Builder {
         self.within_events()
     }
 
-    // A line that is passed through stands behind the other events.
+    // A line that is passed through stands after the other events.
     fn pass(&mut self, alloc: Global, line: &[u8]) -> Result<(), NoMemory>
         ensures { OnOk result (self.new ≡ passed self.old line.now) }
     {

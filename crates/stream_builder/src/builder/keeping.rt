@@ -11,7 +11,7 @@ use stream_grammar::Word;
 use stream_lines::{KeepsEvents, LineFault};
 
 impl Builder {
-    // The block behind a line of data: a blob's bytes, a comment, or an operation's content.
+    // The block after a line of data: a blob's bytes, a comment, or an operation's content.
     fn take_block(&mut self, inline: bool, bytes: Text) -> Result<(), NoMemory>
         ensures { OnOk result (self.new ≡ with_data inline bytes self.old) }
     {
@@ -70,7 +70,7 @@ impl KeepsEvents for Builder {
         }
     }
 
-    fn land(&mut self, inline: bool, bytes: Text) -> Result<(), NoMemory> {
+    fn arrive(&mut self, inline: bool, bytes: Text) -> Result<(), NoMemory> {
         self.take_block(inline, bytes)
     }
 }

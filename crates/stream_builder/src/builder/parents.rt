@@ -15,7 +15,7 @@ ghost use Rattle.std.specs.List.{list_any};
 ghost use Rattle.plain_model.specs.declared.operation.FileOp.TheVariants.{DeleteAll};
 ghost use Rattle.stream_grammar.specs.declared.lines.Word.TheVariants as word;
 ghost use Rattle.stream_grammar.specs.Known.{with_parent};
-ghost use Rattle.stream_grammar.specs.Limits.{behind_judged, judged_within};
+ghost use Rattle.stream_grammar.specs.Limits.{after_judged, judged_within};
 ghost use Rattle.stream_grammar.specs.Lines.{changed, with_commit, with_from};
 ghost use Rattle.stream_lines.specs.Reading.{Judges};
 
@@ -85,10 +85,10 @@ impl Builder {
         Ok(())
     }
 
-    // A merge puts one parent more behind the others, if it isn't one of them.
+    // A merge puts one parent more after the others, if it isn't one of them.
     fn put_parent(&mut self, alloc: Global, commit: CommitId) -> Result<(), LineFault>
         ensures { Judges self.new result
-            (behind_judged word.Merge (Ok (changed self.old (with_commit (with_parent commit))))) }
+            (after_judged word.Merge (Ok (changed self.old (with_commit (with_parent commit))))) }
     {
         if let Open::Commit(open) = &mut self.current {
             if open.parents.as_slice().is_empty() {

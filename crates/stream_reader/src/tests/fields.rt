@@ -1,5 +1,5 @@
 //! Fields outside their rules.
-use super::{defect, fault_behind_front, fault_in_commit};
+use super::{defect, fault_after_front, fault_in_commit};
 use plain_model::Why;
 use std::test::*;
 
@@ -24,7 +24,7 @@ fn marks_are_1_to_4294967295_and_stand_once(rt: HostRuntime) -> Result<(), Fail>
         ("two spaces", b"blob\nmark  :9\n", Why::BadMark),
         ("a sign", b"commit c\nmark :+9\n", Why::BadMark),
         (
-            "a byte behind the digits",
+            "a byte after the digits",
             b"commit c\nmark :9 \n",
             Why::BadMark,
         ),
@@ -47,7 +47,7 @@ fn marks_are_1_to_4294967295_and_stand_once(rt: HostRuntime) -> Result<(), Fail>
     ];
     for (what, lines, why) in rows {
         assert_eq!(rt;
-            fault_behind_front(rt.alloc(), lines)?,
+            fault_after_front(rt.alloc(), lines)?,
             defect(11, why),
             "{what}"
         );
@@ -70,7 +70,7 @@ fn names_have_no_spaces(rt: HostRuntime) -> Result<(), Fail> {
     ];
     for (what, lines) in rows {
         let want = defect(10, Why::BadName);
-        assert_eq!(rt; fault_behind_front(rt.alloc(), lines)?, want, "{what}");
+        assert_eq!(rt; fault_after_front(rt.alloc(), lines)?, want, "{what}");
     }
     Ok(())
 }
@@ -94,7 +94,7 @@ fn who_comes_before_when(rt: HostRuntime) -> Result<(), Fail> {
             Why::BadPerson,
         ),
         (
-            "no space behind the name",
+            "no space after the name",
             b"commit c\nauthor A<a@x> 0 +0000\n",
             11,
             Why::BadPerson,
@@ -130,13 +130,13 @@ fn who_comes_before_when(rt: HostRuntime) -> Result<(), Fail> {
             Why::BadPerson,
         ),
         (
-            "nothing behind the email",
+            "nothing after the email",
             b"commit c\ncommitter <>\n",
             11,
             Why::BadWhen,
         ),
         (
-            "no space behind the email",
+            "no space after the email",
             b"commit c\ncommitter <>0 +0000\n",
             11,
             Why::BadWhen,
@@ -199,7 +199,7 @@ fn who_comes_before_when(rt: HostRuntime) -> Result<(), Fail> {
     ];
     for (what, lines, line, why) in rows {
         assert_eq!(rt;
-            fault_behind_front(rt.alloc(), lines)?,
+            fault_after_front(rt.alloc(), lines)?,
             defect(line, why),
             "{what}"
         );
@@ -214,7 +214,7 @@ fn data_has_a_count_or_a_delimiter(rt: HostRuntime) -> Result<(), Fail> {
         ("no text", b"blob\ndata \n", 11),
         ("no digits", b"blob\ndata x\n", 11),
         ("a sign", b"blob\ndata -1\nx\n", 11),
-        ("a space behind the digits", b"blob\ndata 1 \nx\n", 11),
+        ("a space after the digits", b"blob\ndata 1 \nx\n", 11),
         ("two spaces", b"blob\ndata  1\nx\n", 11),
         ("digits of another base", b"blob\ndata 0x1\nx\n", 11),
         ("no delimiter", b"blob\ndata <<\n\n", 11),
@@ -228,7 +228,7 @@ fn data_has_a_count_or_a_delimiter(rt: HostRuntime) -> Result<(), Fail> {
     ];
     for (what, lines, line) in rows {
         let want = defect(line, Why::BadData);
-        assert_eq!(rt; fault_behind_front(rt.alloc(), lines)?, want, "{what}");
+        assert_eq!(rt; fault_after_front(rt.alloc(), lines)?, want, "{what}");
     }
     Ok(())
 }
@@ -327,9 +327,9 @@ fn paths_have_their_form(rt: HostRuntime) -> Result<(), Fail> {
         ("NUL", b"D a\x00b\n", Why::BadPath),
         ("a quote that doesn't end", b"D \"d\n", Why::BadPath),
         ("an escaped last quote", b"D \"d\\\"\n", Why::BadPath),
-        ("bytes behind a last quote", b"D \"d\" \n", Why::BadPath),
+        ("bytes after a last quote", b"D \"d\" \n", Why::BadPath),
         (
-            "bytes behind the quotes of nothing",
+            "bytes after the quotes of nothing",
             b"D \"\"x\n",
             Why::BadPath,
         ),
@@ -343,7 +343,7 @@ fn paths_have_their_form(rt: HostRuntime) -> Result<(), Fail> {
             Why::BadPath,
         ),
         (
-            "bytes behind a source's quote",
+            "bytes after a source's quote",
             b"C \"d\"x y\n",
             Why::BadPath,
         ),

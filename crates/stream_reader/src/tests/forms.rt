@@ -1,5 +1,5 @@
 //! Lines that may not stand where they stand, and lines that lack.
-use super::{defect, fault_behind_front, fault_in_commit};
+use super::{defect, fault_after_front, fault_in_commit};
 use plain_model::Why;
 use std::test::*;
 
@@ -8,22 +8,22 @@ fn lines_that_begin_no_form_are_unknown(rt: HostRuntime) -> Result<(), Fail> {
     let rows: [(&str, &[u8], u64); 18] = [
         ("another word", b"frob\n", 10),
         ("a space before the word", b" blob\n", 10),
-        ("CR behind blob", b"blob\r\n", 10),
-        ("bytes behind blob", b"blob x\n", 10),
-        ("bytes behind done", b"done x\n", 10),
-        ("bytes behind checkpoint", b"checkpoint x\n", 10),
+        ("CR after blob", b"blob\r\n", 10),
+        ("bytes after blob", b"blob x\n", 10),
+        ("bytes after done", b"done x\n", 10),
+        ("bytes after checkpoint", b"checkpoint x\n", 10),
         ("progress without its space", b"progress\n", 10),
         ("feature without its space", b"feature\n", 10),
         ("option without its space", b"option\n", 10),
         ("a mark between events", b"mark :9\n", 10),
         ("data between events", b"data 0\n", 10),
         (
-            "an operation behind the empty line of a commit",
+            "an operation after the empty line of a commit",
             b"D d\n",
             10,
         ),
         (
-            "a reference behind the empty line of a commit",
+            "a reference after the empty line of a commit",
             b"from :2\n",
             10,
         ),
@@ -34,24 +34,24 @@ fn lines_that_begin_no_form_are_unknown(rt: HostRuntime) -> Result<(), Fail> {
             12,
         ),
         (
-            "a mark behind a tag's data",
+            "a mark after a tag's data",
             b"tag t\nfrom b\ndata 0\nmark :9\n",
             13,
         ),
         (
-            "a line behind a promise of done",
+            "a line after a promise of done",
             b"feature done\nfrob\n",
             11,
         ),
         (
-            "behind comments and empty lines",
+            "after comments and empty lines",
             b"# a\n\n\n# b\nfrob\n",
             14,
         ),
     ];
     for (what, lines, line) in rows {
         let want = defect(line, Why::UnknownLine);
-        assert_eq!(rt; fault_behind_front(rt.alloc(), lines)?, want, "{what}");
+        assert_eq!(rt; fault_after_front(rt.alloc(), lines)?, want, "{what}");
     }
     Ok(())
 }
@@ -59,13 +59,13 @@ fn lines_that_begin_no_form_are_unknown(rt: HostRuntime) -> Result<(), Fail> {
 #[test]
 fn lines_out_of_their_order_in_a_commit_are_unknown(rt: HostRuntime) -> Result<(), Fail> {
     let rows: [(&str, &[u8], u64); 8] = [
-        ("bytes behind deleteall", b"deleteall x\n", 14),
-        ("an encoding behind the comment", b"encoding x\n", 14),
+        ("bytes after deleteall", b"deleteall x\n", 14),
+        ("an encoding after the comment", b"encoding x\n", 14),
         ("a second comment", b"data 0\n", 14),
         ("a second from", b"from :2\nfrom :2\n", 15),
-        ("a from behind a merge", b"merge b\nfrom :2\n", 15),
-        ("a from behind an operation", b"D d\nfrom :2\n", 15),
-        ("a merge behind an operation", b"D d\nmerge b\n", 15),
+        ("a from after a merge", b"merge b\nfrom :2\n", 15),
+        ("a from after an operation", b"D d\nfrom :2\n", 15),
+        ("a merge after an operation", b"D d\nmerge b\n", 15),
         (
             "a second block of bytes",
             b"M 100644 inline f\ndata 0\ndata 0\n",
@@ -80,15 +80,15 @@ fn lines_out_of_their_order_in_a_commit_are_unknown(rt: HostRuntime) -> Result<(
 }
 
 #[test]
-fn lines_that_are_due_are_missing(rt: HostRuntime) -> Result<(), Fail> {
+fn lines_that_are_expected_are_missing(rt: HostRuntime) -> Result<(), Fail> {
     let rows: [(&str, &[u8], u64); 16] = [
         ("an event in place of a blob's data", b"blob\nblob\n", 11),
         ("an empty line in its place", b"blob\n\n", 11),
         ("done in its place", b"blob\ndone\n", 11),
-        ("a tab behind data", b"blob\ndata\t1\nx\n", 11),
+        ("a tab after data", b"blob\ndata\t1\nx\n", 11),
         ("a second mark", b"blob\nmark :8\nmark :9\n", 12),
         (
-            "a mark behind the original id",
+            "a mark after the original id",
             b"blob\noriginal-oid x\nmark :9\n",
             12,
         ),
@@ -109,12 +109,12 @@ fn lines_that_are_due_are_missing(rt: HostRuntime) -> Result<(), Fail> {
             12,
         ),
         (
-            "an original id behind the author",
+            "an original id after the author",
             b"commit c\nauthor <> 0 +0000\noriginal-oid x\n",
             12,
         ),
         (
-            "the author behind the committer",
+            "the author after the committer",
             b"commit c\ncommitter <> 0 +0000\nauthor <> 0 +0000\n",
             12,
         ),
@@ -133,13 +133,13 @@ fn lines_that_are_due_are_missing(rt: HostRuntime) -> Result<(), Fail> {
     ];
     for (what, lines, line) in rows {
         let want = defect(line, Why::MissingLine);
-        assert_eq!(rt; fault_behind_front(rt.alloc(), lines)?, want, "{what}");
+        assert_eq!(rt; fault_after_front(rt.alloc(), lines)?, want, "{what}");
     }
     Ok(())
 }
 
 #[test]
-fn the_block_behind_inline_is_due(rt: HostRuntime) -> Result<(), Fail> {
+fn the_block_after_inline_is_expected(rt: HostRuntime) -> Result<(), Fail> {
     let rows: [(&str, &[u8], u64, Why); 7] = [
         (
             "an operation in its place",
@@ -208,39 +208,39 @@ fn what_is_left_out_is_named(rt: HostRuntime) -> Result<(), Fail> {
         ("no date format", b"feature date-format=\n", 10),
         ("marks from a file", b"feature import-marks=m\n", 10),
         (
-            "marks from a file that may lack",
+            "marks from a file that may miss",
             b"feature import-marks-if-exists=m\n",
             10,
         ),
         ("before a missing line", b"blob\nls\n", 11),
         (
-            "where a committer is due",
+            "where a committer is expected",
             b"commit c\nproperty x 1 y\n",
             11,
         ),
         (
-            "where a comment is due",
+            "where a comment is expected",
             b"commit c\ncommitter <> 0 +0000\ngpgsig sha1 openpgp\n",
             12,
         ),
-        ("where from is due", b"tag t\nalias\n", 11),
+        ("where from is expected", b"tag t\nalias\n", 11),
         ("a tag's mark before from", b"tag t\nmark :9\n", 11),
-        ("a tag's mark behind from", b"tag t\nfrom b\nmark :9\n", 12),
+        ("a tag's mark after from", b"tag t\nfrom b\nmark :9\n", 12),
         (
-            "a tag's mark behind its original id",
+            "a tag's mark after its original id",
             b"tag t\nfrom b\noriginal-oid x\nmark :9\n",
             13,
         ),
         (
-            "a tag's mark behind the tagger",
+            "a tag's mark after the tagger",
             b"tag t\nfrom b\ntagger <> 0 +0000\nmark :9\n",
             13,
         ),
-        ("behind a reset", b"reset c\nget-mark :1\n", 11),
+        ("after a reset", b"reset c\nget-mark :1\n", 11),
     ];
     for (what, lines, line) in rows {
         let want = defect(line, Why::LeftOut);
-        assert_eq!(rt; fault_behind_front(rt.alloc(), lines)?, want, "{what}");
+        assert_eq!(rt; fault_after_front(rt.alloc(), lines)?, want, "{what}");
     }
     Ok(())
 }

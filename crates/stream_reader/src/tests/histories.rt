@@ -284,12 +284,12 @@ fn streams_at_the_edge_of_the_form_are_read(rt: HostRuntime) -> Result<(), Fail>
         ("empty lines", b"\n\n", b""),
         ("done, and what follows isn't read", b"done\nfrob", b""),
         (
-            "no LF behind data",
+            "no LF after data",
             b"blob\nmark :1\ndata 1\nx",
             b"blob 1 :1 x\n",
         ),
         (
-            "no LF behind a delimiter",
+            "no LF after a delimiter",
             b"blob\nmark :1\ndata <<E\nx\nE",
             b"blob 1 :1 x\n\n",
         ),
@@ -299,17 +299,17 @@ fn streams_at_the_edge_of_the_form_are_read(rt: HostRuntime) -> Result<(), Fail>
             b"blob 1 :1 \n",
         ),
         (
-            "no LF behind an empty block",
+            "no LF after an empty block",
             b"blob\nmark :1\ndata 0",
             b"blob 1 :1 \n",
         ),
         (
-            "no LF behind done",
+            "no LF after done",
             b"feature done\ndone",
             b"pass 1 feature done\n",
         ),
         (
-            "a line directly behind data",
+            "a line directly after data",
             b"blob\nmark :1\ndata 1\nxblob\nmark :2\ndata 0\n",
             b"blob 1 :1 x\nblob 2 :2 \n",
         ),

@@ -31,10 +31,10 @@ fn a_commit_has_64_parents_at_most(rt: HostRuntime) -> Result<(), Fail> {
     let rows: [(&str, u64, &[u8], Option<ReadFault>); 5] = [
         ("64", 64, b"", None),
         ("65", 65, b"", passed),
-        ("the first one once more behind 64", 64, b"merge r0\n", None),
+        ("the first one once more after 64", 64, b"merge r0\n", None),
         ("before an unknown line", 65, b"frob\n", passed),
         (
-            "behind an unknown mark",
+            "after an unknown mark",
             64,
             b"merge :99\n",
             defect(260, Why::UnknownMark),
@@ -116,7 +116,7 @@ fn marks_are_spent_where_none_is_left(rt: HostRuntime) -> Result<(), Fail> {
             spent,
         ),
         (
-            "a block behind inline needs one",
+            "a block after inline needs one",
             b"commit c\nmark :4294967295\ncommitter <> 0 +0000\ndata 0\nM 644 inline f\ndata 0\n",
             spent,
         ),

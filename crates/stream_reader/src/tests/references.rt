@@ -1,5 +1,5 @@
 //! What a line refers to: commits, branches, and what the tree has.
-use super::{defect, fault_behind_front, fault_in_commit};
+use super::{defect, fault_after_front, fault_in_commit};
 use plain_model::Why;
 use std::test::*;
 
@@ -113,7 +113,7 @@ fn tags_and_resets_are_of_earlier_commits(rt: HostRuntime) -> Result<(), Fail> {
     ];
     for (what, lines, line, why) in rows {
         assert_eq!(rt;
-            fault_behind_front(rt.alloc(), lines)?,
+            fault_after_front(rt.alloc(), lines)?,
             defect(line, why),
             "{what}"
         );
@@ -140,7 +140,7 @@ fn sources_are_in_the_tree_at_that_point(rt: HostRuntime) -> Result<(), Fail> {
             b"M 100644 :1 d/f/g\nR d/f/h y\n",
             15,
         ),
-        ("behind deleteall", b"deleteall\nC d y\n", 15),
+        ("after deleteall", b"deleteall\nC d y\n", 15),
         (
             "what only a second parent has",
             b"M 100644 :1 s\ncommit c\ncommitter <> 0 +0000\ndata 0\nfrom :2\nmerge b\nC s y\n",
@@ -163,7 +163,7 @@ fn roots_begin_without_sources(rt: HostRuntime) -> Result<(), Fail> {
             13,
         ),
         (
-            "behind a reset",
+            "after a reset",
             b"reset b\ncommit b\ncommitter <> 0 +0000\ndata 0\nR d e\n",
             14,
         ),
@@ -175,7 +175,7 @@ fn roots_begin_without_sources(rt: HostRuntime) -> Result<(), Fail> {
     ];
     for (what, lines, line) in rows {
         let want = defect(line, Why::MissingSource);
-        assert_eq!(rt; fault_behind_front(rt.alloc(), lines)?, want, "{what}");
+        assert_eq!(rt; fault_after_front(rt.alloc(), lines)?, want, "{what}");
     }
     Ok(())
 }

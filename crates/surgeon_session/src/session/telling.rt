@@ -8,7 +8,7 @@ ghost use Rattle.history_machine.specs.Sessions.{
   repo_line,
   repos_text,
   step,
-  told,
+  of_chosen,
 };
 ghost use Rattle.listing.specs.Listings.{names_text};
 ghost use Rattle.plain_model.specs.Text.{text};
@@ -44,7 +44,7 @@ fn push_repository(out: &mut Text, choice: &Option<Text>, name: &[u8]) -> Result
 impl Session {
     // The stream of the chosen history.
     fn stream(&self) -> Result<Text, Halted>
-        ensures { GivesAlone (λ bytes. bytes) result (told self.now text) }
+        ensures { GivesAlone (λ bytes. bytes) result (prescribed self.now text) }
     {
         let events = match self.chosen() {
             Ok(events) => events,
@@ -56,7 +56,7 @@ impl Session {
 
     // The list of the chosen history.
     fn listed(&self) -> Result<Text, Halted>
-        ensures { GivesAlone (λ bytes. bytes) result (told self.now list_all) }
+        ensures { GivesAlone (λ bytes. bytes) result (prescribed self.now list_all) }
     {
         let events = match self.chosen() {
             Ok(events) => events,
@@ -70,7 +70,7 @@ impl Session {
 
     // The index of the chosen history.
     fn indexed(&self) -> Result<Text, Halted>
-        ensures { GivesAlone (λ bytes. bytes) result (told self.now index_all) }
+        ensures { GivesAlone (λ bytes. bytes) result (prescribed self.now index_all) }
     {
         let events = match self.chosen() {
             Ok(events) => events,
@@ -84,7 +84,7 @@ impl Session {
 
     // The branches and tags of the chosen history.
     fn named(&self) -> Result<Text, Halted>
-        ensures { GivesAlone (λ bytes. bytes) result (told self.now names_text) }
+        ensures { GivesAlone (λ bytes. bytes) result (prescribed self.now names_text) }
     {
         let events = match self.chosen() {
             Ok(events) => events,
@@ -115,7 +115,7 @@ impl Session {
         out: &mut T,
         to: &Option<ScriptText>,
     ) -> Result<(), Halted>
-        ensures told { IfSome (world (S.state store.old) (T.state out.old))
+        ensures prescribed { IfSome (world (S.state store.old) (T.state out.old))
             (λ w. IfSome (world (S.state store.new) (T.state out.new))
             (λ now. Steps result self.now w (step self.now w.files (command.Write to.now))
             self.now now)) }
@@ -138,7 +138,7 @@ impl Session {
         out: &mut T,
         to: &Option<ScriptText>,
     ) -> Result<(), Halted>
-        ensures told { IfSome (world (S.state store.old) (T.state out.old))
+        ensures prescribed { IfSome (world (S.state store.old) (T.state out.old))
             (λ w. IfSome (world (S.state store.new) (T.state out.new))
             (λ now. Steps result self.now w (step self.now w.files (command.List to.now))
             self.now now)) }
@@ -161,7 +161,7 @@ impl Session {
         out: &mut T,
         to: &Option<ScriptText>,
     ) -> Result<(), Halted>
-        ensures told { IfSome (world (S.state store.old) (T.state out.old))
+        ensures prescribed { IfSome (world (S.state store.old) (T.state out.old))
             (λ w. IfSome (world (S.state store.new) (T.state out.new))
             (λ now. Steps result self.now w (step self.now w.files (command.Index to.now))
             self.now now)) }
@@ -184,7 +184,7 @@ impl Session {
         out: &mut T,
         to: &Option<ScriptText>,
     ) -> Result<(), Halted>
-        ensures told { IfSome (world (S.state store.old) (T.state out.old))
+        ensures prescribed { IfSome (world (S.state store.old) (T.state out.old))
             (λ w. IfSome (world (S.state store.new) (T.state out.new))
             (λ now. Steps result self.now w (step self.now w.files (command.Names to.now))
             self.now now)) }
@@ -206,7 +206,7 @@ impl Session {
         store: &mut S,
         out: &mut T,
     ) -> Result<(), Halted>
-        ensures told { IfSome (world (S.state store.old) (T.state out.old))
+        ensures prescribed { IfSome (world (S.state store.old) (T.state out.old))
             (λ w. IfSome (world (S.state store.new) (T.state out.new))
             (λ now. Steps result self.now w (step self.now w.files command.ShowRepos)
             self.now now)) }

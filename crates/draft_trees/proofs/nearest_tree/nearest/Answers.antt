@@ -9,6 +9,6 @@ loop-left-preserved c =
     let within = c.loop-left.invariant.within in
     record {
       within = omega (arith, left, within);
-      behind = from_further c.args.drafts.now c.args.commit c.loop-left.at c.in-To.parent c.loop-left.invariant.behind
+      after = from_further c.args.drafts.now c.args.commit c.loop-left.at c.in-To.parent c.loop-left.invariant.after
           (subst (LeadsBack c.args.drafts.now c.loop-left.at) c.in-To.is c.step_back.ensures).0;
     }

@@ -5,7 +5,7 @@ use Rattle.draft_trees.proofs.nearest_tree.nearest.Given as goal
 abbrev pub invariant-loop-left : goal.invariant-loop-left
 invariant-loop-left l = record {
   within : l.left ≤ length l.known;
-  behind : IsFoldedFrom l.drafts l.fn.commit l.at;
+  after : IsFoldedFrom l.drafts l.fn.commit l.at;
 }
 
 abbrev pub decreases-loop-left : goal.decreases-loop-left

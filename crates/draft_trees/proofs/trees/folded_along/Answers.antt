@@ -2,11 +2,11 @@ use Rattle.std.proofs.Common.{◌<◌, ◌+◌, ◌-◌, length, get_or, ap, ◌
 use Rattle.draft_trees.proofs.FirstParents.{oldest_left}
 use Rattle.draft_trees.proofs.trees.folded_along.Goals as goal
 
-pub loop-behind-preserved : goal.loop-behind-preserved
-loop-behind-preserved c =
+pub loop-after-preserved : goal.loop-after-preserved
+loop-after-preserved c =
     let n = length c.args.line.now in
-    let k = c.loop-behind.behind in
-    let more : k < n = c.loop-behind-test.true in
-    oldest_left c.args.drafts.now c.args.line.now (n - k) (n - (k + 1)) c.index-line-line.result c.args.base c.loop-behind.made c.in_ok-made.made
+    let k = c.loop-after.after in
+    let more : k < n = c.loop-after-test.true in
+    oldest_left c.args.drafts.now c.args.line.now (n - k) (n - (k + 1)) c.index-line-line.result c.args.base c.loop-after.made c.in_ok-made.made
     (omega (arith, more)) (omega (arith, more))
-    (c.index-line-line.is ∙ ap (λ i. get_or c.args.line.now i c.index-line-line.result) (let same : n - 1 - k ≡ n - (k + 1) = omega (arith, more) in same)) c.loop-behind.invariant c.in_ok-made.ensures
+    (c.index-line-line.is ∙ ap (λ i. get_or c.args.line.now i c.index-line-line.result) (let same : n - 1 - k ≡ n - (k + 1) = omega (arith, more) in same)) c.loop-after.invariant c.in_ok-made.ensures

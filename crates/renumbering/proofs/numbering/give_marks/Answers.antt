@@ -6,7 +6,7 @@ use Rattle.event_arena.specs.Changes.{changed, with_mark}
 use Rattle.event_arena.specs.Graphs.{Change}
 use Rattle.event_arena.proofs.SoundLemmas.{sound-once}
 use Rattle.renumbering.proofs.Sound.{sound_again}
-use Rattle.renumbering.proofs.Steps.{due_at, so-far-all, due-more, found-so-far, changed-so-far, one-mark}
+use Rattle.renumbering.proofs.Steps.{next_at, so-far-all, expected-more, found-so-far, changed-so-far, one-mark}
 use Rattle.renumbering.proofs.numbering.give_marks.Goals as goal
 
 back : (k : ℕ) → k + 1 - 1 ≡ k
@@ -27,15 +27,15 @@ loop-place-preserved c =
     let e = c.numbered.result.now in
     let is : slice_get events c.loop-place.place ≡ Some e = rw (back c.loop-place.place) at c.numbered.ensures in
     let once = (sound-once events c.count-place-end.ensures.sound).ids in
-    let given = c.in_ok-due.ensures.given in
-    let next = c.in_ok-due.ensures.next in
+    let given = c.in_ok-expected.ensures.given in
+    let next = c.in_ok-expected.ensures.next in
     rw add-one (record {
       before = ap (λ (p : Change). p.before) given ∙ v.before;
-      after = ap (λ (p : Change). p.after) given ∙ ap (λ n. changed (id_of e) (with_mark n) c.loop-place.plan.after) v.due ∙ ap (changed (id_of e) (with_mark (due_at c.loop-place.place events))) v.after
+      after = ap (λ (p : Change). p.after) given ∙ ap (λ n. changed (id_of e) (with_mark n) c.loop-place.plan.after) v.expected ∙ ap (changed (id_of e) (with_mark (next_at c.loop-place.place events))) v.after
           ∙ changed-so-far events c.loop-place.place e is once;
       made_at = ap (λ (p : Change). p.made_at) given ∙ v.made_at;
       next = ap (λ (p : Change). p.next) given ∙ v.next;
-      due = next ∙ ap (λ n. n + length (own_mark e)) v.due ∙ sym (due-more events c.loop-place.place e is);
+      expected = next ∙ ap (λ n. n + length (own_mark e)) v.expected ∙ sym (expected-more events c.loop-place.place e is);
       few = let one = one-mark e in let few = v.few in omega arith;
     })
 

@@ -1,5 +1,5 @@
 use Rattle.std.proofs.Common.{◌≡◌, ◌+◌, ◌≤◌}
-use Rattle.renumbering.proofs.Steps.{due_at, so_far}
+use Rattle.renumbering.proofs.Steps.{next_at, so_far}
 use Rattle.renumbering.proofs.numbering.give_marks.Given as goal
 
 abbrev pub invariant-loop-place : goal.invariant-loop-place
@@ -8,6 +8,6 @@ invariant-loop-place l = record {
   after : l.plan.after ≡ so_far l.place l.events.list;
   made_at : l.plan.made_at ≡ l.initial.plan.made_at;
   next : l.plan.next ≡ l.initial.plan.next;
-  due : l.due ≡ due_at l.place l.events.list;
-  few : l.due ≤ l.place + 1;
+  expected : l.expected ≡ next_at l.place l.events.list;
+  few : l.expected ≤ l.place + 1;
 }

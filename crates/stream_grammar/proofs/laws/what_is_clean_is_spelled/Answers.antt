@@ -1,4 +1,4 @@
-use Rattle.line_machine.specs.Machine.{up_to}
+use Rattle.line_automaton.specs.Machine.{up_to}
 use Rattle.stream_grammar.proofs.Spelled.{clean_is_spelled}
 use Rattle.stream_grammar.proofs.laws.what_is_clean_is_spelled.Goals as goal
 

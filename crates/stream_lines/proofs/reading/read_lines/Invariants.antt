@@ -1,7 +1,7 @@
 use Rattle.std.proofs.Common.{◌≡◌, ◌≤◌, ◌+◌, ℕ, List}
 use Rattle.plain_model.specs.Paths.{Bytes}
-use Rattle.line_machine.specs.Machine.{all, outcome}
-use Rattle.line_machine.specs.Lines.{line_count}
+use Rattle.line_automaton.specs.Machine.{all, outcome}
+use Rattle.line_automaton.specs.Lines.{line_count}
 use Rattle.stream_fields.specs.Cursors.{Position, rest}
 use Rattle.stream_grammar.specs.declared.lines.Standing.{Standing}
 use Rattle.stream_grammar.specs.Known.{Known}

@@ -2,7 +2,7 @@ use Rattle.std.proofs.Common.{drop}
 use Rattle.std.specs.Prelude.{IfSome}
 use Rattle.plain_model.specs.declared.status.Status.{Status}
 use Rattle.plain_model.specs.declared.status.Status.TheVariants as status
-use Rattle.history_machine.specs.Machine.{World, SessionStands, run_on}
+use Rattle.history_machine.specs.Machine.{World, SessionEndsAs, run_on}
 use Rattle.history_machine.specs.Sessions.{Session, line_step}
 use Rattle.file_calls.specs.Calls.{Later, world}
 use Rattle.file_calls.proofs.SessionRounds.{IsQuiet}
@@ -15,7 +15,7 @@ invariant-loop-item g l =
     record {
       later : Later (s l.fn.store) (k l.fn.out) (s l.store) (k l.out);
       quiet : IsQuiet l.so_far;
-      told : IfSome (world (s l.fn.store) (k l.fn.out)) (λ w0. IfSome (world (s l.store) (k l.out)) (λ w. (r : Status) (after : Session) (now : World)
-          → SessionStands (run_on line_step l.keep_going l.so_far l.session w.files (drop l.item-index l.items)) r l.session w after now
-          → SessionStands (run_on line_step l.keep_going status.Done l.fn.session w0.files l.items) r l.fn.session w0 after now));
+      prescribed : IfSome (world (s l.fn.store) (k l.fn.out)) (λ w0. IfSome (world (s l.store) (k l.out)) (λ w. (r : Status) (after : Session) (now : World)
+          → SessionEndsAs (run_on line_step l.keep_going l.so_far l.session w.files (drop l.item-index l.items)) r l.session w after now
+          → SessionEndsAs (run_on line_step l.keep_going status.Done l.fn.session w0.files l.items) r l.fn.session w0 after now));
     }

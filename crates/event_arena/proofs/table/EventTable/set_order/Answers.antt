@@ -4,7 +4,7 @@ use Rattle.plain_model.specs.Lookups.{find_event}
 use Rattle.event_arena.specs.Changes.{IsOrderOf, in_order}
 use Rattle.event_arena.specs.Rows.{events_of}
 use Rattle.event_arena.specs.Spent.{AddsNone}
-use Rattle.event_arena.proofs.ChangeLemmas.{listed-before, order-lacks, order-more, order-once, take-ids}
+use Rattle.event_arena.proofs.ChangeLemmas.{listed-before, order-misses, order-more, order-once, take-ids}
 use Rattle.event_arena.proofs.SpentLemmas.{adds-in_order}
 use Rattle.event_arena.proofs.table.EventTable.set_order.Goals as goal
 
@@ -13,7 +13,7 @@ copy_row-requires-clause-unknown c =
     let rows = c.self.inside.rows.entries in
     let once = order-once rows c.args.order.now c.self.invariant c.len-count.ensures.unique (subst (IsOrderOf c.args.order.now) (sym c.self.view_is) c.requires) in
     rw c.loop-id.invariant.events
-    (order-lacks (take c.loop-id.id-index c.args.order.now) (events_of rows) c.id-item.result (listed-before c.args.order.now c.loop-id.id-index c.id-item.result once c.loop-id-test.true c.id-item.is))
+    (order-misses (take c.loop-id.id-index c.args.order.now) (events_of rows) c.id-item.result (listed-before c.args.order.now c.loop-id.id-index c.id-item.result once c.loop-id-test.true c.id-item.is))
 
 pub loop-id-preserved : goal.loop-id-preserved
 loop-id-preserved c =

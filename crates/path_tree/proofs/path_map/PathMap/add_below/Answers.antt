@@ -4,7 +4,7 @@ use Rattle.std.specs.Ordering.{is_le}
 use Rattle.plain_model.specs.declared.operation.Entry.{Entry}
 use Rattle.plain_model.specs.Paths.{is_below}
 use Rattle.plain_model.specs.Trees.{Tree, where_path}
-use Rattle.plain_laws.proofs.TreeLaws.{by_bytes}
+use Rattle.history_laws.proofs.TreeLaws.{by_bytes}
 use Rattle.path_tree.specs.PathMaps.{Becomes, IsInOrder, with_those, tree_in}
 use Rattle.path_tree.proofs.Below.{forward, between, ranged}
 use Rattle.path_tree.proofs.Changes.{puts, those_put}

@@ -25,7 +25,7 @@ returns c =
     let old = c.args.self.now in
     let coming = c.in_ok-coming.coming in
     let left = ap (λ (u : Tree). where_path (λ q. not (has u q)) old) c.in_ok-gone.ensures.those ∙ left_by (is_in_the_way t) old c.in_ok-gone.ensures.in_order in
-    let due : within_paths (exchanged c.in_ok-gone.gone coming old) ≡ placed s t (subtree s old) old =
+    let expected : within_paths (exchanged c.in_ok-gone.gone coming old) ≡ placed s t (subtree s old) old =
     ap (λ (u : Tree). put_over u coming) left
     ∙ sym (placed_by s t (subtree s old) old ∙ ap (λ (r : Result Tree Refusal). r >>= put_over (cleared_for t old)) c.in_ok-coming.ensures.ok) in
-    subst (λ (d : Result Tree Refusal). IsAnswer d old c.exchange.result c.exchange.new.self) due c.exchange.ensures
+    subst (λ (d : Result Tree Refusal). IsAnswer d old c.exchange.result c.exchange.new.self) expected c.exchange.ensures

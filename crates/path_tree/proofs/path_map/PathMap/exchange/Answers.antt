@@ -20,7 +20,7 @@ returns-then-count-gt-MAX_PATHS c =
     let refused : within_paths after ≡ Err Paths = cond-true (nat_lt MAX_PATHS (length after)) (Err Paths) (Ok after) (lt-ltb MAX_PATHS (length after) over) in
     record {
       done = tt;
-      refused = inr (subst (λ (due : Result Tree Refusal). IsErrAnd due (λ r. fault_of Paths ≡ fault_of r)) (sym refused) refl);
+      refused = inr (subst (λ (expected : Result Tree Refusal). IsErrAnd expected (λ r. fault_of Paths ≡ fault_of r)) (sym refused) refl);
       unchanged = refl;
     }
 

@@ -2,7 +2,7 @@ use Rattle.std.proofs.Common.{◌≡◌, ap, sym, subst, ◌∙◌}
 use Rattle.std.specs.Cmp.Lexicographic.{nat_list_cmp_total}
 use Rattle.std.specs.FinMap.Entries as entries
 use Rattle.plain_model.specs.Trees.{Tree, put}
-use Rattle.plain_laws.proofs.TreeLaws.{by_bytes}
+use Rattle.history_laws.proofs.TreeLaws.{by_bytes}
 use Rattle.path_tree.specs.PathMaps.{tree_in, IsInOrder}
 use Rattle.path_tree.proofs.MapEntries.{put_entries}
 use Rattle.path_tree.proofs.path_map.PathMap.insert.Goals as goal

@@ -24,7 +24,7 @@ returns-clause-ok c =
     let long : has_long_path (moved s t (subtree s from)) ≡ false =
     ap (λ (u : Tree). has_long_path (moved s t u)) (sym all) ∙ sym c.loop-path.invariant.long ∙ ap (λ (es : List (Vec ℕ Global × Entry)). has_long_path (entries es)) none in
     let put : made ≡ moved s t (subtree s from) =
-    ap (λ (es : List (Vec ℕ Global × Entry)). puts (entries es) made) (sym none) ∙ c.loop-path.invariant.due
+    ap (λ (es : List (Vec ℕ Global × Entry)). puts (entries es) made) (sym none) ∙ c.loop-path.invariant.expected
     ∙ ap (λ (u : Tree). puts (moved s t u) c.new-made.result) all
     ∙ ap (λ (u : Tree). puts (moved s t (subtree s from)) u) c.new-made.ensures ∙ moved_put s t from in_order in
     let some : length (subtree s from) ≡ 0 → ⊥ = λ e. c.if-len-eq0.false (c.len.ensures.number ∙ ap (λ (u : Tree). length u) is ∙ e) in

@@ -6,6 +6,6 @@ use Rattle.path_tree.proofs.path_map.PathMap.moved.Given as goal
 
 abbrev pub invariant-loop-path : goal.invariant-loop-path
 invariant-loop-path l = record {
-  due : puts (moved l.source l.target (tree_in l.path-iterator)) l.made ≡ puts (moved l.source l.target (tree_in l.initial.path-iterator)) l.initial.made;
+  expected : puts (moved l.source l.target (tree_in l.path-iterator)) l.made ≡ puts (moved l.source l.target (tree_in l.initial.path-iterator)) l.initial.made;
   long : has_long_path (moved l.source l.target (tree_in l.path-iterator)) ≡ has_long_path (moved l.source l.target (tree_in l.initial.path-iterator));
 }

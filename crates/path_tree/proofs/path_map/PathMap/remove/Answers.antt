@@ -2,7 +2,7 @@ use Rattle.std.proofs.Common.{◌≡◌, Bool, not, ap, sym, subst, ◌∙◌, b
 use Rattle.std.specs.FinMap.Entries as entries
 use Rattle.plain_model.specs.Paths.{Bytes}
 use Rattle.plain_model.specs.Trees.{Tree, where_path}
-use Rattle.plain_laws.proofs.TreeLaws.{by_bytes}
+use Rattle.history_laws.proofs.TreeLaws.{by_bytes}
 use Rattle.path_tree.specs.PathMaps.{tree_in, IsInOrder}
 use Rattle.path_tree.proofs.MapEntries.{removed_entries}
 use Rattle.path_tree.proofs.path_map.PathMap.remove.Goals as goal

@@ -28,7 +28,7 @@ returns c =
     let coming = c.in_ok-coming.coming in
     let gone = gone_for_move s t old c.in_ok-gone.gone c.add_at.new.found c.add_below.new.found c.in_ok-gone.ensures.in_order c.in_ok-gone.ensures.those c.in_ok-add_at.ensures c.in_ok-add_below.ensures in
     let left = ap (λ (u : Tree). where_path (λ q. not (has u q)) old) gone ∙ left_by (goes_for_move s t) old c.in_ok-gone.ensures.in_order ∙ sym (left_by_move s t old) in
-    let due : within_paths (exchanged c.add_below.new.found coming old) ≡ placed s t (subtree s old) (without s old) =
+    let expected : within_paths (exchanged c.add_below.new.found coming old) ≡ placed s t (subtree s old) (without s old) =
     ap (λ (u : Tree). put_over u coming) left
     ∙ sym (placed_by s t (subtree s old) (without s old) ∙ ap (λ (r : Result Tree Refusal). r >>= put_over (cleared_for t (without s old))) c.in_ok-coming.ensures.ok) in
-    subst (λ (d : Result Tree Refusal). IsAnswer d old c.exchange.result c.exchange.new.self) due c.exchange.ensures
+    subst (λ (d : Result Tree Refusal). IsAnswer d old c.exchange.result c.exchange.new.self) expected c.exchange.ensures

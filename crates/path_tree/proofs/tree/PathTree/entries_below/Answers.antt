@@ -1,7 +1,7 @@
 use Rattle.std.proofs.Common.{◌≡◌, true, subst}
 use Rattle.plain_model.specs.Paths.{is_at_or_below}
 use Rattle.plain_model.specs.Trees.{Tree, has}
-use Rattle.plain_laws.proofs.TreeLaws.{has_where}
+use Rattle.history_laws.proofs.TreeLaws.{has_where}
 use Rattle.path_tree.proofs.tree.PathTree.entries_below.Goals as goal
 
 pub listed-requires : goal.listed-requires

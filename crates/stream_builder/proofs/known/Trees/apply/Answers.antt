@@ -7,4 +7,4 @@ returns-in_ok-paths-in-Folded c = λ events parents ops m can.
 
 pub returns-in-NotFolded : goal.returns-in-NotFolded
 returns-in-NotFolded c = λ events parents ops m can.
-    on_none c.args.self.now events parents ops c.args.op.now m c.most_behind-self.result c.in-NotFolded.is can c.most_behind-self.ensures
+    on_none c.args.self.now events parents ops c.args.op.now m c.most_after-self.result c.in-NotFolded.is can c.most_after-self.ensures

@@ -1,5 +1,5 @@
 use Rattle.std.proofs.Common.{◌∙◌, ap, is_some}
-use Rattle.stream_drafts.proofs.Behind.{marked_blob, marked_commit}
+use Rattle.stream_drafts.proofs.After.{marked_blob, marked_commit}
 use Rattle.stream_drafts.proofs.drafts.Drafts.is_marked.Goals as goal
 
 pub returns-then-is_some : goal.returns-then-is_some

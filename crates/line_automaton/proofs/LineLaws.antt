@@ -1,0 +1,221 @@
+-- Lines in a text: where the first one ends, and how many there are.
+use Rattle.std.proofs.Common.{◌≡◌, ℕ, zero, suc, ◌+◌, ◌-◌, ◌≤◌, ◌<◌, Bool, true, false, cond, not, [], ◌∷◌, ◌++◌, length, take, drop, get_or, Some, None, refl, sym, ◌∙◌, ap, subst, inl, inr, ◌⊎◌, arith, eqb-true, append-nil}
+use Rattle.std.specs.Prelude.{nat_lt, count_by, ◌||◌}
+use Rattle.std.specs.List.{position, prefix_len}
+use Rattle.std.proofs.lemmas.Bool.{and_parts, and_from, not-true, ltb-true, ltb-false, cases_lt, cond-false}
+use Rattle.std.proofs.lemmas.List.{take_all, drop_all, drop_more, take-append-drop}
+use Rattle.std.proofs.lemmas.List.Sums.{sum_by-cons}
+use Rattle.std.proofs.lemmas.Option.{same_Some, none-some}
+use Rattle.plain_model.specs.Paths.{Bytes}
+use Rattle.plain_model.specs.Parts.{is_lf, has_no_lf, line_at, line_cut, skip_lf}
+use Rattle.plain_model.specs.Parts.{IsLine}
+use Rattle.line_automaton.specs.Lines.{line_count, number_after}
+use Rattle.line_automaton.proofs.FirstLines.{inside_after}
+
+-- ---- the first line
+
+abbrev is_plain : ℕ → Bool
+is_plain b = not (is_lf b)
+
+-- before the first LF there is none
+plain_front : (text : Bytes) → has_no_lf (take (prefix_len is_plain text) text) ≡ true
+plain_front [] = refl
+plain_front (b ∷ bs) = go (is_lf b) refl (plain_front bs)
+  where
+    go : (t : Bool) → is_lf b ≡ t → has_no_lf (take (prefix_len is_plain bs) bs) ≡ true
+        → has_no_lf (take (cond (not t) (1 + prefix_len is_plain bs) 0) (b ∷ bs)) ≡ true
+    go true e h = refl
+    go false e h =
+        let more : suc (prefix_len is_plain bs) ≡ 1 + prefix_len is_plain bs = omega arith in
+        subst (λ k. has_no_lf (take k (b ∷ bs)) ≡ true) more (and_from (not (is_lf b)) (has_no_lf (take (prefix_len is_plain bs) bs)) (ap not e) h)
+
+-- the text is cut at its first LF
+first_lf : (text : Bytes) → prefix_len is_plain text < length text
+    → text ≡ take (prefix_len is_plain text) text ++ 10 ∷ drop (prefix_len is_plain text + 1) text
+first_lf [] h = absurd (omega arith)
+first_lf (b ∷ bs) h = go (is_lf b) refl h (first_lf bs)
+  where
+    at : ℕ
+    at = prefix_len is_plain bs
+
+    go : (t : Bool) → is_lf b ≡ t → cond (not t) (1 + at) 0 < length (b ∷ bs) → (at < length bs → bs ≡ take at bs ++ 10 ∷ drop (at + 1) bs)
+        → b ∷ bs ≡ take (cond (not t) (1 + at) 0) (b ∷ bs) ++ 10 ∷ drop (cond (not t) (1 + at) 0 + 1) (b ∷ bs)
+    go true e h more = ap (λ c. c ∷ bs) (eqb-true b 10 e)
+    go false e h more =
+        let within : at < length bs = omega arith in
+        let front : suc at ≡ 1 + at = omega arith in
+        let after : suc (at + 1) ≡ 1 + at + 1 = omega arith in
+        ap (λ (l : Bytes). b ∷ l) (more within) ∙ (λ i. take (front i) (b ∷ bs) ++ 10 ∷ drop (after i) (b ∷ bs))
+
+-- the first line of a text is cut off
+pub line_is : (text line rest : Bytes) → line_at text ≡ Some (line, rest) → IsLine text line rest
+unfolding line_at
+line_is [] line rest e = absurd (none-some {A = Bytes × Bytes} (line, rest) e)
+line_is (b ∷ bs) line rest e =
+    subst (λ (l : Bytes × Bytes). IsLine text l.0 l.1) (same_Some {A = Bytes × Bytes} (line_cut text (position is_lf text)) (line, rest) e)
+    (go (nat_lt at (length text)) refl)
+  where
+    text : Bytes
+    text = b ∷ bs
+
+    at : ℕ
+    at = prefix_len is_plain text
+
+    go : (t : Bool) → nat_lt at (length text) ≡ t → (let l = line_cut text (cond t (Some at) None) in IsLine text l.0 l.1)
+    go true f = (plain_front text, inl (first_lf text (ltb-true at (length text) f)))
+    go false f =
+        let all : take at text ≡ text = take_all at text (ltb-false at (length text) f) in
+        (ap has_no_lf (sym all) ∙ plain_front text, inr (refl, refl, omega arith))
+
+-- the bytes before an LF at a known place
+found_front : (text : Bytes) (at : ℕ) → at ≤ length text → ((k : ℕ) → k < at → is_lf (get_or text k 0) ≡ false) → has_no_lf (take at text) ≡ true
+found_front text zero within before = refl
+found_front [] (suc at) within before = refl
+found_front (b ∷ bs) (suc at) within before =
+    and_from (not (is_lf b)) (has_no_lf (take at bs)) (ap not (before zero (omega arith)))
+    (found_front bs at (omega arith) (λ k lt. before (suc k) (omega arith)))
+
+found_lf : (text : Bytes) (at : ℕ) → at < length text → is_lf (get_or text at 0) ≡ true → text ≡ take at text ++ 10 ∷ drop (at + 1) text
+found_lf [] at lt here = absurd (omega arith)
+found_lf (b ∷ bs) zero lt here = ap (λ c. c ∷ bs) (eqb-true b 10 here)
+found_lf (b ∷ bs) (suc at) lt here =
+    let more : suc (at + 1) ≡ suc at + 1 = omega arith in
+    ap (λ (l : Bytes). b ∷ l) (found_lf bs at (omega arith) here) ∙ ap (λ k. (b ∷ take at bs) ++ 10 ∷ drop k (b ∷ bs)) more
+
+-- A line that is found by the place of its LF, or that goes to the end of the text.
+pub line_found : (text : Bytes) (at : ℕ) → at ≤ length text → 1 ≤ length text
+    → ((k : ℕ) → k < at → is_lf (get_or text k 0) ≡ false) → (at < length text → is_lf (get_or text at 0) ≡ true)
+    → IsLine text (take at text) (drop (at + 1) text)
+line_found text at within some before here = (found_front text at within before, go (cases_lt at (length text)))
+  where
+    go : (at < length text) ⊎ (length text ≤ at)
+        → (text ≡ take at text ++ 10 ∷ drop (at + 1) text) ⊎ ((text ≡ take at text) × (drop (at + 1) text ≡ []) × (1 ≤ length (take at text)))
+    go (inl lt) = inl (found_lf text at lt (here lt))
+    go (inr le) =
+        let all : take at text ≡ text = take_all at text le in
+        inr (sym all, drop_all (at + 1) text (omega arith), subst (λ (l : Bytes). 1 ≤ length l) (sym all) some)
+
+-- ---- how many lines
+
+-- the lines that are left, where a line may have begun
+abbrev pub lines_left : Bool → Bytes → ℕ
+lines_left inside [] = cond inside 1 0
+lines_left inside (b ∷ bs) = cond (is_lf b) (1 + lines_left false bs) (lines_left true bs)
+
+-- they are those of the text
+pub lines_left-some : (inside : Bool) (b : ℕ) (bs : Bytes) → lines_left inside (b ∷ bs) ≡ line_count (b ∷ bs)
+lines_left-some inside b [] = go (is_lf b)
+  where
+    go : (t : Bool) → cond t (1 + 0) 1 ≡ cond (t || true) (1 + 0) 0
+    go true = refl
+    go false = refl
+lines_left-some inside b (c ∷ cs) = go (is_lf b) (lines_left-some false c cs) (lines_left-some true c cs)
+  where
+    go : (t : Bool) → lines_left false (c ∷ cs) ≡ line_count (c ∷ cs) → lines_left true (c ∷ cs) ≡ line_count (c ∷ cs)
+        → cond t (1 + lines_left false (c ∷ cs)) (lines_left true (c ∷ cs)) ≡ cond (t || false) (1 + line_count (c ∷ cs)) (line_count (c ∷ cs))
+    go true p q = ap (λ n. 1 + n) p
+    go false p q = q
+
+pub line_count-left : (text : Bytes) → line_count text ≡ lines_left false text
+line_count-left [] = refl
+line_count-left (b ∷ bs) = sym (lines_left-some false b bs)
+
+pub count-cons : (b : ℕ) (bs : Bytes) → count_by is_lf (b ∷ bs) ≡ cond (is_lf b) 1 0 + count_by is_lf bs
+count-cons b bs = sum_by-cons (λ x. cond (is_lf x) 1 0) b bs
+
+-- the LFs of a front and the lines after it
+pub lines_left-append : (inside : Bool) (front rest : Bytes) → lines_left inside (front ++ rest) ≡ count_by is_lf front + lines_left (inside_after inside front) rest
+lines_left-append inside [] rest = omega arith
+lines_left-append inside (b ∷ bs) rest =
+    go (is_lf b) (lines_left-append false bs rest) (lines_left-append true bs rest)
+    ∙ ap (λ n. n + lines_left (inside_after (not (is_lf b)) bs) rest) (sym (count-cons b bs))
+  where
+    go : (t : Bool) → lines_left false (bs ++ rest) ≡ count_by is_lf bs + lines_left (inside_after false bs) rest
+        → lines_left true (bs ++ rest) ≡ count_by is_lf bs + lines_left (inside_after true bs) rest
+        → cond t (1 + lines_left false (bs ++ rest)) (lines_left true (bs ++ rest)) ≡ cond t 1 0 + count_by is_lf bs + lines_left (inside_after (not t) bs) rest
+    go true p q = omega arith
+    go false p q = omega arith
+
+-- The number of the line that begins with a byte is one more than the LFs before it, from line n on.
+pub number_after-some : (n b : ℕ) (before rest : Bytes) → number_after n (before ++ b ∷ rest) (b ∷ rest) ≡ n + count_by is_lf before
+number_after-some n b before rest =
+    let whole = line_count-left (before ++ b ∷ rest) in
+    let parts = lines_left-append false before (b ∷ rest) in
+    let same = lines_left-some (inside_after false before) b rest in
+    omega arith
+
+-- a line has begun where a text doesn't end in an LF
+inside_after-last : (text : Bytes) → inside_after false text ≡ not (is_lf (get_or text (length text - 1) 10))
+inside_after-last [] = refl
+inside_after-last (b ∷ []) = refl
+inside_after-last (b ∷ c ∷ cs) = inside_after-last (c ∷ cs) ∙ (λ i. not (is_lf (get_or (b ∷ c ∷ cs) (place i) 10)))
+  where
+    place : suc (length (c ∷ cs) - 1) ≡ length (b ∷ c ∷ cs) - 1
+    place = omega arith
+
+-- a text has a line for each LF, and a last one where it doesn't end in an LF
+pub line_count-last : (text : Bytes) → line_count text ≡ count_by is_lf text + cond (is_lf (get_or text (length text - 1) 10)) 0 1
+line_count-last text =
+    line_count-left text ∙ ap (lines_left false) (sym (append-nil text)) ∙ lines_left-append false text []
+    ∙ ap (λ k. count_by is_lf text + k) (ap (λ t. cond t 1 0) (inside_after-last text) ∙ turned (is_lf (get_or text (length text - 1) 10)))
+  where
+    turned : (t : Bool) → ◌≡◌ {A = ℕ} (cond (not t) 1 0) (cond t 0 1)
+    turned true = refl
+    turned false = refl
+
+-- the same by a place in the text
+pub number_after-at : (n at : ℕ) (text : Bytes) → at < length text → number_after n text (drop at text) ≡ n + count_by is_lf (take at text)
+number_after-at n at text lt =
+    let b = get_or text at 0 in
+    let more = drop (at + 1) text in
+    let split : drop at text ≡ b ∷ more = drop_more text at 0 lt in
+    (λ i. number_after n (sym (take-append-drop at text) i) (drop at text))
+    ∙ (λ i. number_after n (take at text ++ split i) (split i))
+    ∙ number_after-some n b (take at text) more
+
+-- no rest of a text has more lines
+pub line_count-rest : (before rest : Bytes) → line_count rest ≤ line_count (before ++ rest)
+line_count-rest before [] = omega arith
+line_count-rest before (b ∷ rest) =
+    let whole = line_count-left (before ++ b ∷ rest) in
+    let parts = lines_left-append false before (b ∷ rest) in
+    let same = lines_left-some (inside_after false before) b rest in
+    omega arith
+
+pub line_count-end : (text before rest : Bytes) → text ≡ before ++ rest → line_count rest ≤ line_count text
+line_count-end text before rest is = subst (λ (l : Bytes). line_count rest ≤ line_count l) (sym is) (line_count-rest before rest)
+
+-- without the LF that it may begin with a text has no more lines either
+pub line_count-skip_lf : (text : Bytes) → line_count (skip_lf text) ≤ line_count text
+line_count-skip_lf [] = omega arith
+line_count-skip_lf (b ∷ bs) = go (is_lf b) (lines_left-some false b bs)
+  where
+    go : (t : Bool) → cond t (1 + lines_left false bs) (lines_left true bs) ≡ line_count (b ∷ bs) → line_count (cond t bs (b ∷ bs)) ≤ line_count (b ∷ bs)
+    go true e = let more = line_count-left bs in omega arith
+    go false e = omega arith
+
+-- bytes of a line that has begun
+lines_left-plain : (front rest : Bytes) → has_no_lf front ≡ true → lines_left true (front ++ rest) ≡ lines_left true rest
+lines_left-plain [] rest h = refl
+lines_left-plain (b ∷ bs) rest h =
+    let p = and_parts (not (is_lf b)) (has_no_lf bs) h in
+    cond-false (is_lf b) (1 + lines_left false (bs ++ rest)) (lines_left true (bs ++ rest)) (not-true (is_lf b) p.0) ∙ lines_left-plain bs rest p.1
+
+-- a line and its LF
+whole_line_is_one : (line rest : Bytes) → has_no_lf line ≡ true → lines_left false (line ++ 10 ∷ rest) ≡ 1 + lines_left false rest
+whole_line_is_one [] rest h = refl
+whole_line_is_one (b ∷ bs) rest h = lines_left-plain (b ∷ bs) (10 ∷ rest) h
+
+-- a line is one line
+pub line_is_one : (text line rest : Bytes) → IsLine text line rest → line_count text ≡ 1 + line_count rest
+line_is_one text line rest (plain, inl e) =
+    ap line_count e ∙ line_count-left (line ++ 10 ∷ rest) ∙ whole_line_is_one line rest plain ∙ ap (λ n. 1 + n) (sym (line_count-left rest))
+line_is_one text [] rest (plain, inr e) = let some : 1 ≤ 0 = e.2 in absurd (omega arith)
+line_is_one text (b ∷ bs) rest (plain, inr e) =
+    ap line_count e.0 ∙ sym (lines_left-some true b bs)
+    ∙ ap (lines_left true) (sym (append-nil (b ∷ bs))) ∙ lines_left-plain (b ∷ bs) [] plain
+    ∙ ap (λ (l : Bytes). 1 + line_count l) (sym e.1)
+
+-- after a line stands the next one
+pub number_after-line : (n : ℕ) (text line rest : Bytes) → IsLine text line rest → number_after n text rest ≡ n + 1
+number_after-line n text line rest is = let one = line_is_one text line rest is in omega arith

@@ -1,8 +1,0 @@
-use Rattle.line_machine.specs.Machine.{all}
-use Rattle.line_machine.specs.Example.{example}
-use Rattle.line_machine.proofs.Runs.{run_append}
-use Rattle.line_machine.proofs.DrivingLaws.{any_pieces}
-use Rattle.line_machine.proofs.laws.any_pieces_are_read_alike.Goals as goal
-
-pub returns : goal.returns
-returns c = record { two = run_append example all; more = any_pieces example all }

@@ -1,5 +1,0 @@
-use Rattle.line_machine.proofs.ExampleLaws.{ends_early}
-use Rattle.line_machine.proofs.laws.early_end_is_the_defect.Goals as goal
-
-pub returns : goal.returns
-returns c = ends_early

@@ -1,5 +1,0 @@
-use Rattle.line_machine.proofs.ExampleLaws.{stops}
-use Rattle.line_machine.proofs.laws.first_refusal_is_the_defect.Goals as goal
-
-pub returns : goal.returns
-returns c = stops

@@ -1,6 +1,0 @@
-use Rattle.line_machine.specs.Machine.{up_to}
-use Rattle.line_machine.proofs.ExampleLaws.{spelled}
-use Rattle.line_machine.proofs.laws.what_is_clean_is_spelled.Goals as goal
-
-pub returns : goal.returns
-returns c = λ n. spelled (up_to n)

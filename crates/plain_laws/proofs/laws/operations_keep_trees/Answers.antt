@@ -1,5 +1,0 @@
-use Rattle.plain_laws.proofs.TreeLaws.{apply_tree}
-use Rattle.plain_laws.proofs.laws.operations_keep_trees.Goals as goal
-
-pub returns : goal.returns
-returns c = apply_tree

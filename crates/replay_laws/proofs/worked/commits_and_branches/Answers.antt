@@ -1,0 +1,16 @@
+use Rattle.std.proofs.Common.{refl}
+use Rattle.plain_model.specs.Parts.{cut_at, number_of, number_within, mark_of, name_of, zone_of, when_of, when_after, person_parts, rest_after}
+use Rattle.plain_model.specs.Fields.{mark_in, name_in, person_in, turn, path_by, quoted_path, path_in, mode_in, content_in, last_path_in, extent_in, data_text, modify_in, paths_in, op_in}
+use Rattle.replay_laws.proofs.worked.commits_and_branches.Goals as goal
+
+pub returns : goal.returns
+unfolding cut_at number_of number_within mark_of name_of zone_of when_of when_after person_parts rest_after mark_in name_in person_in turn path_by quoted_path path_in mode_in content_in last_path_in extent_in data_text modify_in paths_in op_in
+returns c = record {
+  empty = (refl, refl);
+  no_stream = refl;
+  root_of_a_merge = (refl, refl);
+  merge = (refl, refl);
+  branched = (refl, refl);
+  moved_tip = (refl, refl);
+  removed_tip = (refl, refl);
+}

@@ -1,5 +1,0 @@
-use Rattle.sound_laws.proofs.StreamKept.{read_is_sound}
-use Rattle.sound_laws.proofs.laws.what_is_read_is_sound.Goals as goal
-
-pub returns : goal.returns
-returns c = read_is_sound

@@ -1,5 +1,0 @@
-use Rattle.sound_laws.proofs.Counted.{read_is_within}
-use Rattle.sound_laws.proofs.laws.what_is_read_passes_no_limit.Goals as goal
-
-pub returns : goal.returns
-returns c = read_is_within

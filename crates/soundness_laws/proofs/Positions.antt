@@ -1,0 +1,76 @@
+-- What holds of an event at its position in a history such as reading gives it.
+use Rattle.std.proofs.Common.{◌≡◌, ℕ, suc, ◌+◌, true, false, not, List, [], ◌∷◌, ◌++◌, length, Option, Some, refl, sym, ap, subst, ◌∙◌, arith, eq-eqb, append_assoc, append-nil}
+use Rattle.std.specs.Prelude.{is_some, ◌==◌, ◌||◌, ◌&&◌, IsTrue, IsFalse}
+use Rattle.std.specs.List.{AllByRecursion}
+use Rattle.std.proofs.lemmas.Bool.{and_parts, or_left, not-true}
+use Rattle.plain_model.specs.declared.id.AnyId.TheVariants as any
+use Rattle.plain_model.specs.declared.operation.FileOp.{FileOp}
+use Rattle.plain_model.specs.declared.operation.FileOp.TheVariants.{Delete}
+use Rattle.plain_model.specs.declared.path.PathFault.{PathFault}
+use Rattle.plain_model.specs.declared.person.Signed.{Signed}
+use Rattle.plain_model.specs.declared.event.PlainEvent.{PlainEvent}
+use Rattle.plain_model.specs.declared.event.PlainEvent.TheVariants.{Blob, Commit, Tag}
+use Rattle.plain_model.specs.Lookups.{id_of, id_number}
+use Rattle.plain_model.specs.Paths.{Bytes, path_fault}
+use Rattle.plain_model.specs.Snapshots.{refs}
+use Rattle.plain_model.specs.Soundness.{AreSoundAfter, IsFormedEvent, IsSoundEvent, has_id}
+use Rattle.plain_model.specs.Streams.{is_marked}
+use Rattle.plain_model.specs.Trees.{at, has}
+use Rattle.round_trip_laws.specs.AsRead.{ArePlaced, IsRooted, AreRootedAfter, IsAsRead}
+
+-- ---- positions
+
+all_at : {A : Type 0} (P : A → Type 0) (front back : List A) (x : A) → AllByRecursion P (front ++ x ∷ back) → P x
+all_at P [] back x h = h.0
+all_at P (y ∷ front) back x h = all_at P front back x h.1
+
+placed_at : (k : ℕ) (front back : List PlainEvent) (e : PlainEvent) → ArePlaced k (front ++ e ∷ back) → id_number (id_of e) ≡ k + length front
+placed_at k [] back e h = h.0 ∙ (let same : k ≡ k + 0 = omega arith in same)
+placed_at k (x ∷ front) back e h = placed_at (suc k) front back e h.1 ∙ (let same : suc k + length front ≡ k + suc (length front) = omega arith in same)
+
+sound_at : (earlier front back : List PlainEvent) (e : PlainEvent) → AreSoundAfter earlier (front ++ e ∷ back) → IsSoundEvent (earlier ++ front) e
+sound_at earlier [] back e h = subst (λ (l : List PlainEvent). IsSoundEvent l e) (sym (append-nil earlier)) h.0
+sound_at earlier (x ∷ front) back e h = subst (λ (l : List PlainEvent). IsSoundEvent l e) (append_assoc earlier (x ∷ []) front) (sound_at (earlier ++ x ∷ []) front back e h.1)
+
+rooted_at : (earlier front back : List PlainEvent) (e : PlainEvent) → AreRootedAfter earlier (front ++ e ∷ back) → IsRooted (earlier ++ front) e
+rooted_at earlier [] back e h = subst (λ (l : List PlainEvent). IsRooted l e) (sym (append-nil earlier)) h.0
+rooted_at earlier (x ∷ front) back e h = subst (λ (l : List PlainEvent). IsRooted l e) (append_assoc earlier (x ∷ []) front) (rooted_at (earlier ++ x ∷ []) front back e h.1)
+
+module _ (front back : List PlainEvent) where
+  -- what holds of the event in soundness
+  own_sound : (e : PlainEvent) → IsAsRead (front ++ e ∷ back) → IsSoundEvent front e
+  own_sound e h = sound_at [] front back e h.sound.formed
+
+  pub own_place : (e : PlainEvent) → IsAsRead (front ++ e ∷ back) → id_number (id_of e) ≡ length front + 1
+  own_place e h = placed_at 1 front back e h.placed ∙ (let same : 1 + length front ≡ length front + 1 = omega arith in same)
+
+  -- ---- what is never read
+
+  pub no_mark : (id : ℕ) (bytes : Bytes) → IsAsRead (front ++ Blob id 0 bytes ∷ back) → ⊥
+  no_mark id bytes h = let least = (all_at IsFormedEvent front back (Blob id 0 bytes) h.sound.spelled).0 in absurd (omega arith)
+
+  pub mark_twice : (id mark : ℕ) (bytes : Bytes) → IsTrue (is_marked front mark) → IsAsRead (front ++ Blob id mark bytes ∷ back) → ⊥
+  mark_twice id mark bytes there h = let new = (own_sound (Blob id mark bytes) h).1 in absurd cc
+
+  module _ (id mark : ℕ) (branch : Bytes) (author committer : Signed) (encoding : Option Bytes) (comment : Bytes) where
+    abbrev commit : List ℕ → List FileOp → PlainEvent
+    commit parents ops = Commit id mark branch author committer encoding comment parents ops
+
+    pub parent_twice : (p : ℕ) (ops : List FileOp) → IsAsRead (front ++ commit (p ∷ p ∷ []) ops ∷ back) → ⊥
+    parent_twice p ops h =
+        let apart = and_parts (not ((p == p) || false)) (not false && true) (own_sound (commit (p ∷ p ∷ []) ops) h).7 in
+        let isnt : ((p == p) || false) ≡ false = not-true ((p == p) || false) apart.0 in
+        let is : ((p == p) || false) ≡ true = or_left (p == p) false (eq-eqb p p refl) in
+        absurd cc
+
+    pub later_parent : (p : ℕ) (ps : List ℕ) (ops : List FileOp) → IsFalse (has_id front (any.Commit p)) → IsAsRead (front ++ commit (p ∷ ps) ops ∷ back) → ⊥
+    later_parent p ps ops isnt h = let there = (own_sound (commit (p ∷ ps) ops) h).6.0 in absurd cc
+
+    pub root_on_tip : (tip : ℕ) (ops : List FileOp) → at (refs front) branch ≡ Some tip → IsAsRead (front ++ commit [] ops ∷ back) → ⊥
+    root_on_tip tip ops is h = let none = rooted_at [] front back (commit [] ops) h.rooted in let there : has (refs front) branch ≡ true = ap is_some is in absurd cc
+
+    pub no_path : (parents : List ℕ) (path : Bytes) (fault : PathFault) (ops : List FileOp) → path_fault path ≡ Some fault → IsAsRead (front ++ commit parents (Delete path ∷ ops) ∷ back) → ⊥
+    no_path parents path fault ops is h = let (mark_is, fit) = all_at IsFormedEvent front back (commit parents (Delete path ∷ ops)) h.sound.spelled in let none = fit.0 in absurd cc
+
+  pub later_target : (id target : ℕ) (name : Bytes) (tagger : Option Signed) (comment : Bytes) → IsFalse (has_id front (any.Commit target)) → IsAsRead (front ++ Tag id name target tagger comment ∷ back) → ⊥
+  later_target id target name tagger comment isnt h = let there = (own_sound (Tag id name target tagger comment) h).2 in absurd cc

@@ -1,0 +1,214 @@
+-- What the events so far and the commit that is being read keep, and what follows of ids, trees and branches.
+use Rattle.std.proofs.Common.{◌≡◌, ℕ, suc, ◌+◌, ◌<◌, ◌≤◌, Bool, true, false, cond, List, [], ◌∷◌, ◌++◌, length, Some, None, refl, sym, ap, subst, ◌∙◌, inl, inr, ◌⊎◌, eq-eqb, append_assoc, append-nil, length-append, arith}
+use Rattle.std.specs.Prelude.{◌==◌, ◌||◌, not, bytes_eq, IsSome, IfSome, is_some}
+use Rattle.std.specs.List.{AllByRecursion}
+use Rattle.std.specs.Ordering.{nat_cmp, eq_by_cmp}
+use Rattle.std.specs.declared.cmp.Ordering.{Ordering}
+use Rattle.std.specs.declared.cmp.Ordering.TheVariants.{Less, Equal, Greater}
+use Rattle.std.specs.Cmp.Lexicographic.{slice_cmp}
+use Rattle.std.specs.FinMap.Entries.{by_order}
+use Rattle.std.proofs.lemmas.Bool.{or_cases, or_right}
+use Rattle.plain_model.specs.declared.limit.TheConstants.{MAX_PARENTS}
+use Rattle.plain_model.specs.declared.id.AnyId.TheVariants as any
+use Rattle.plain_model.specs.declared.event.PlainEvent.{PlainEvent}
+use Rattle.plain_model.specs.declared.event.PlainEvent.TheVariants.{Blob, Commit, Tag, Reset, Pass}
+use Rattle.plain_model.specs.Histories.{Node, Past, nodes, folded, begun, tree_in, tree}
+use Rattle.plain_model.specs.Lookups.{id_of, id_number}
+use Rattle.plain_model.specs.Marks.{IsMark}
+use Rattle.plain_model.specs.Names.{is_name}
+use Rattle.plain_model.specs.Paths.{Bytes}
+use Rattle.plain_model.specs.Snapshots.{refs, refs_after}
+use Rattle.plain_model.specs.Soundness.{IsCommitOf, IsFormedOp, IsFormedSigned, RefersBack, are_distinct, has_id, is_passed_line}
+use Rattle.plain_model.specs.Parts.{has_no_lf}
+use Rattle.plain_model.specs.Streams.{is_marked}
+use Rattle.plain_model.specs.Trees.{TreeOf, at, put, where_path}
+use Rattle.stream_grammar.specs.Known.{OpenCommit}
+use Rattle.round_trip_laws.specs.AsRead.{ArePlaced}
+use Rattle.soundness_laws.proofs.Ids.{has_id-append, has_id_still, past_same, past_more, refs_append}
+
+-- ---- what is kept
+
+-- a mark so far: 0, which is none yet, or a mark that no earlier event has
+abbrev pub MarkFits : List PlainEvent → ℕ → Type 0
+MarkFits earlier mark = (mark ≡ 0) ⊎ (IsMark mark × (is_marked earlier mark ≡ false))
+
+-- a commit after earlier events, whose operations name blobs among those that are seen
+pub record IsCommitSoFar (bound : ℕ) (earlier seen : List PlainEvent) (c : OpenCommit) : Type 0 where
+  pub named : is_name c.branch ≡ true
+  pub marked : MarkFits earlier c.mark
+  pub authored : IfSome c.author IsFormedSigned
+  pub committed : IfSome c.committer IsFormedSigned
+  pub encoded : IfSome c.encoding (λ e. has_no_lf e ≡ true)
+  pub commented : length c.comment < bound
+  pub linked : AllByRecursion (IsCommitOf earlier) c.parents
+  pub apart : are_distinct c.parents ≡ true
+  pub few : length c.parents ≤ MAX_PARENTS
+  pub referring : AllByRecursion (RefersBack seen) c.ops
+  pub pathed : AllByRecursion IsFormedOp c.ops
+  pub has_tree : is_some (folded c.ops (begun (tree earlier) c.parents)) ≡ true
+  pub rooted : c.parents ≡ [] → at (refs earlier) c.branch ≡ None
+
+-- an event after earlier ones
+abbrev pub IsWellEvent : ℕ → List PlainEvent → PlainEvent → Type 0
+IsWellEvent bound earlier (Blob id mark bytes) = (id ≡ length earlier + 1) × MarkFits earlier mark × (length bytes < bound)
+IsWellEvent bound earlier (Commit id mark branch author committer encoding comment parents ops) =
+    (id ≡ length earlier + 1) × IsCommitSoFar bound earlier earlier (record {
+      branch = branch;
+      mark = mark;
+      author = Some author;
+      committer = Some committer;
+      encoding = encoding;
+      comment = comment;
+      parents = parents;
+      ops = ops;
+    })
+IsWellEvent bound earlier (Tag id name target tagger comment) =
+    (id ≡ length earlier + 1) × (is_name name ≡ true) × IsCommitOf earlier target × IfSome tagger IsFormedSigned × (length comment < bound)
+IsWellEvent bound earlier (Reset id branch target) = (id ≡ length earlier + 1) × (is_name branch ≡ true) × IfSome target (IsCommitOf earlier)
+IsWellEvent bound earlier (Pass id line) = (id ≡ length earlier + 1) × (is_passed_line line ≡ true)
+
+abbrev pub AreWellAfter : ℕ → List PlainEvent → List PlainEvent → Type 0
+AreWellAfter bound earlier [] = Unit {0}
+AreWellAfter bound earlier (e ∷ events) = IsWellEvent bound earlier e × AreWellAfter bound (earlier ++ e ∷ []) events
+
+-- the events so far
+abbrev pub AreWell : ℕ → List PlainEvent → Type 0
+AreWell bound events = AreWellAfter bound [] events
+
+-- one more event
+well_after : (bound : ℕ) (earlier events : List PlainEvent) (e : PlainEvent) → AreWellAfter bound earlier events → IsWellEvent bound (earlier ++ events) e
+    → AreWellAfter bound earlier (events ++ e ∷ [])
+well_after bound earlier [] e h w = (subst (λ (l : List PlainEvent). IsWellEvent bound l e) (append-nil earlier) w, tt)
+well_after bound earlier (x ∷ xs) e h w =
+    (h.0, well_after bound (earlier ++ x ∷ []) xs e h.1 (subst (λ (l : List PlainEvent). IsWellEvent bound l e) (sym (append_assoc earlier (x ∷ []) xs)) w))
+
+pub well_more : (bound : ℕ) (events : List PlainEvent) (e : PlainEvent) → AreWell bound events → IsWellEvent bound events e → AreWell bound (events ++ e ∷ [])
+well_more bound events e h w = well_after bound [] events e h w
+
+-- ---- places
+
+own_place : (bound : ℕ) (earlier : List PlainEvent) (e : PlainEvent) → IsWellEvent bound earlier e → id_number (id_of e) ≡ length earlier + 1
+own_place bound earlier (Blob id mark bytes) h = h.0
+own_place bound earlier (Commit id mark branch author committer encoding comment parents ops) h = h.0
+own_place bound earlier (Tag id name target tagger comment) h = h.0
+own_place bound earlier (Reset id branch target) h = h.0
+own_place bound earlier (Pass id line) h = h.0
+
+placed_after : (bound : ℕ) (earlier events : List PlainEvent) → AreWellAfter bound earlier events → ArePlaced (length earlier + 1) events
+placed_after bound earlier [] h = tt
+placed_after bound earlier (e ∷ events) h =
+    let size = length-append earlier (e ∷ []) in
+    let next : length (earlier ++ e ∷ []) + 1 ≡ suc (length earlier + 1) = omega arith in
+    (own_place bound earlier e h.0, subst (λ n. ArePlaced n events) next (placed_after bound (earlier ++ e ∷ []) events h.1))
+
+pub are_placed : (bound : ℕ) (events : List PlainEvent) → AreWell bound events → ArePlaced 1 events
+are_placed bound events h = placed_after bound [] events h
+
+-- ---- trees
+
+-- each commit has a tree
+abbrev pub HaveTrees : List PlainEvent → Type 0
+HaveTrees events = (c : ℕ) → IsCommitOf events c → IsSome (tree events c)
+
+-- a commit of the events or of the last one
+last_or : (events : List PlainEvent) (e : PlainEvent) (c : ℕ) → IsCommitOf (events ++ e ∷ []) c → IsCommitOf events c ⊎ (has_id (e ∷ []) (any.Commit c) ≡ true)
+last_or events e c h = or_cases (has_id events (any.Commit c)) (has_id (e ∷ []) (any.Commit c)) (sym (has_id-append events (e ∷ []) (any.Commit c)) ∙ h)
+
+trees_same : (events : List PlainEvent) (e : PlainEvent) → nodes (e ∷ []) ≡ [] → ((c : ℕ) → has_id (e ∷ []) (any.Commit c) ≡ true → ⊥) → HaveTrees events → HaveTrees (events ++ e ∷ [])
+trees_same events e none isnt h c is = go (last_or events e c is)
+  where
+    go : IsCommitOf events c ⊎ (has_id (e ∷ []) (any.Commit c) ≡ true) → IsSome (tree (events ++ e ∷ []) c)
+    go (inl earlier) = subst (λ (p : Past). IsSome (tree_in p c)) (sym (past_same events e none)) (h c earlier)
+    go (inr last) = absurd (isnt c last)
+
+trees_more : (bound : ℕ) (events : List PlainEvent) (e : PlainEvent) → IsWellEvent bound events e → HaveTrees events → HaveTrees (events ++ e ∷ [])
+trees_more bound events (Commit id mark branch author committer encoding comment parents ops) w h = λ c is.
+    let e : PlainEvent = Commit id mark branch author committer encoding comment parents ops in
+    subst (λ (p : Past). IsSome (tree_in p c)) (sym (past_more events e n refl)) (go c (id == c) refl (last_or events e c is))
+  where
+    n : Node
+    n = record { id = id; parents = parents; ops = ops }
+
+    go : (c : ℕ) (t : Bool) → (id == c) ≡ t → IsCommitOf events c ⊎ (((id == c) || false) ≡ true) → IsSome (cond t (folded ops (begun (tree events) parents)) (tree events c))
+    go c true e last = w.1.has_tree
+    go c false e (inl earlier) = h c earlier
+    go c false e (inr last) = absurd (let isnt : ((id == c) || false) ≡ false = ap (λ t. t || false) e in cc)
+trees_more bound events (Blob id mark bytes) w h = trees_same events (Blob id mark bytes) refl (λ c e. absurd cc) h
+trees_more bound events (Tag id name target tagger comment) w h = trees_same events (Tag id name target tagger comment) refl (λ c e. absurd cc) h
+trees_more bound events (Reset id branch target) w h = trees_same events (Reset id branch target) refl (λ c e. absurd cc) h
+trees_more bound events (Pass id line) w h = trees_same events (Pass id line) refl (λ c e. absurd cc) h
+
+trees_after : (bound : ℕ) (earlier events : List PlainEvent) → HaveTrees earlier → AreWellAfter bound earlier events → HaveTrees (earlier ++ events)
+trees_after bound earlier [] h w = subst HaveTrees (sym (append-nil earlier)) h
+trees_after bound earlier (e ∷ events) h w =
+    subst HaveTrees (append_assoc earlier (e ∷ []) events) (trees_after bound (earlier ++ e ∷ []) events (trees_more bound earlier e w.0 h) w.1)
+
+pub have_trees : (bound : ℕ) (events : List PlainEvent) → AreWell bound events → HaveTrees events
+have_trees bound events w = trees_after bound [] events (λ c e. absurd cc) w
+
+-- ---- branches
+
+-- what holds of all entries holds after a put of such a one
+all_put : (P : ℕ → Type 0) (k : Bytes) (v : ℕ) (t : TreeOf ℕ) → P v → AllByRecursion (λ e. P e.1) t → AllByRecursion (λ e. P e.1) (put k v t)
+all_put P k v [] h a = (h, tt)
+all_put P k v (e ∷ t) h a = go (slice_cmp nat_cmp k e.0) (all_put P k v t h a.1)
+  where
+    go : (r : Ordering) → AllByRecursion (λ e. P e.1) (put k v t) → AllByRecursion (λ e. P e.1) (by_order r ((k, v) ∷ e ∷ t) ((e.0, v) ∷ t) (e ∷ put k v t))
+    go Less b = (h, a)
+    go Equal b = (h, a.1)
+    go Greater b = (a.0, b)
+
+-- what holds of all entries holds of the one that is found
+all_at : (P : ℕ → Type 0) (t : TreeOf ℕ) (q : Bytes) (v : ℕ) → AllByRecursion (λ e. P e.1) t → at t q ≡ Some v → P v
+all_at P [] q v a h = absurd cc
+all_at P (e ∷ t) q v a h = go (eq_by_cmp (slice_cmp nat_cmp) q e.0) h (λ x. all_at P t q v a.1 x)
+  where
+    go : (b : Bool) → cond b (Some e.1) (at t q) ≡ Some v → (at t q ≡ Some v → P v) → P v
+    go true x f = let is : e.1 ≡ v = cc in subst P is a.0
+    go false x f = f x
+
+-- what holds of all entries holds of some of them
+all_where : (P : ℕ → Type 0) (test : Bytes → Bool) (t : TreeOf ℕ) → AllByRecursion (λ e. P e.1) t → AllByRecursion (λ e. P e.1) (where_path test t)
+all_where P test [] a = tt
+all_where P test (e ∷ t) a = go (test e.0) (all_where P test t a.1)
+  where
+    go : (b : Bool) → AllByRecursion (λ e. P e.1) (where_path test t) → AllByRecursion (λ e. P e.1) (cond b (e ∷ where_path test t) (where_path test t))
+    go true rest = (a.0, rest)
+    go false rest = rest
+
+-- what follows from what holds
+pub all_imply : {A : Type 0} (P Q : A → Type 0) → ((x : A) → P x → Q x) → (xs : List A) → AllByRecursion P xs → AllByRecursion Q xs
+all_imply P Q f [] a = tt
+all_imply P Q f (x ∷ xs) a = (f x a.0, all_imply P Q f xs a.1)
+
+abbrev AreCommits : List PlainEvent → TreeOf ℕ → Type 0
+AreCommits events tips = AllByRecursion (λ e. IsCommitOf events e.1) tips
+
+tips_more : (bound : ℕ) (events : List PlainEvent) (e : PlainEvent) (tips : TreeOf ℕ) → IsWellEvent bound events e → AreCommits (events ++ e ∷ []) tips → AreCommits (events ++ e ∷ []) (refs_after tips (e ∷ []))
+tips_more bound events (Commit id mark branch author committer encoding comment parents ops) tips w h =
+    let e : PlainEvent = Commit id mark branch author committer encoding comment parents ops in
+    all_put (IsCommitOf (events ++ e ∷ [])) branch id tips (own events e id (or_true (eq-eqb id id refl))) h
+  where
+    or_true : (id == id) ≡ true → ((id == id) || false) ≡ true
+    or_true e = ap (λ t. t || false) e
+
+    own : (events : List PlainEvent) (e : PlainEvent) (c : ℕ) → has_id (e ∷ []) (any.Commit c) ≡ true → IsCommitOf (events ++ e ∷ []) c
+    own events e c h = has_id-append events (e ∷ []) (any.Commit c) ∙ or_right (has_id events (any.Commit c)) (has_id (e ∷ []) (any.Commit c)) h
+tips_more bound events (Reset id branch (Some c)) tips w h = all_put (IsCommitOf (events ++ Reset id branch (Some c) ∷ [])) branch c tips (has_id_still events (Reset id branch (Some c) ∷ []) (any.Commit c) w.2) h
+tips_more bound events (Reset id branch None) tips w h = all_where (IsCommitOf (events ++ Reset id branch None ∷ [])) (λ b. not (bytes_eq branch b)) tips h
+tips_more bound events (Blob id mark bytes) tips w h = h
+tips_more bound events (Tag id name target tagger comment) tips w h = h
+tips_more bound events (Pass id line) tips w h = h
+
+tips_after : (bound : ℕ) (earlier events : List PlainEvent) → AreCommits earlier (refs earlier) → AreWellAfter bound earlier events → AreCommits (earlier ++ events) (refs (earlier ++ events))
+tips_after bound earlier [] h w = subst (λ (l : List PlainEvent). AreCommits l (refs l)) (sym (append-nil earlier)) h
+tips_after bound earlier (e ∷ events) h w =
+    subst (λ (l : List PlainEvent). AreCommits l (refs l)) (append_assoc earlier (e ∷ []) events) (tips_after bound (earlier ++ e ∷ []) events here w.1)
+  where
+    here : AreCommits (earlier ++ e ∷ []) (refs (earlier ++ e ∷ []))
+    here = subst (λ (t : TreeOf ℕ). AreCommits (earlier ++ e ∷ []) t) (sym (refs_append [] earlier (e ∷ [])))
+        (tips_more bound earlier e (refs earlier) w.0 (all_imply (λ x. IsCommitOf earlier x.1) (λ x. IsCommitOf (earlier ++ e ∷ []) x.1) (λ x i. has_id_still earlier (e ∷ []) (any.Commit x.1) i) (refs earlier) h))
+
+-- where a branch stands is a commit
+pub tip_is_commit : (bound : ℕ) (events : List PlainEvent) → AreWell bound events → (branch : Bytes) (c : ℕ) → at (refs events) branch ≡ Some c → IsCommitOf events c
+tip_is_commit bound events w branch c e = all_at (IsCommitOf events) (refs events) branch c (tips_after bound [] events tt w) e

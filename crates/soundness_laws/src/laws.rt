@@ -1,0 +1,90 @@
+//! Laws of what is read. Each function's contract is one, and its body is empty.
+ghost use Rattle.std.specs.Prelude.{
+  ◌≡◌,
+  ◌≤◌,
+  ◌+◌,
+  ◌++◌,
+  [],
+  ◌∷◌,
+  ℕ,
+  IsFalse,
+  IsTrue,
+  List,
+  Ok,
+  Option,
+  Some,
+  length,
+};
+ghost use Rattle.plain_model.specs.declared.event.PlainEvent.{PlainEvent};
+ghost use Rattle.plain_model.specs.declared.event.PlainEvent.TheVariants.{Blob, Commit, Tag};
+ghost use Rattle.plain_model.specs.declared.id.AnyId.TheVariants as any;
+ghost use Rattle.plain_model.specs.declared.limit.TheConstants.{MAX_EVENTS, MAX_OPERATIONS};
+ghost use Rattle.plain_model.specs.declared.operation.FileOp.{FileOp};
+ghost use Rattle.plain_model.specs.declared.operation.FileOp.TheVariants.{Delete};
+ghost use Rattle.plain_model.specs.declared.path.PathFault.{PathFault};
+ghost use Rattle.plain_model.specs.declared.person.Signed.{Signed};
+ghost use Rattle.plain_model.specs.Lookups.{id_number, id_of};
+ghost use Rattle.plain_model.specs.Paths.{path_fault};
+ghost use Rattle.plain_model.specs.Snapshots.{refs};
+ghost use Rattle.plain_model.specs.Soundness.{has_id};
+ghost use Rattle.plain_model.specs.Streams.{is_marked};
+ghost use Rattle.plain_model.specs.Text.{text};
+ghost use Rattle.plain_model.specs.Trees.{at};
+ghost use Rattle.stream_grammar.specs.Limits.{ops_in, stream_of};
+ghost use Rattle.stream_grammar.specs.Lines.{history_in};
+ghost use Rattle.round_trip_laws.specs.AsRead.{IsAsRead};
+
+/// What a stream gives is a sound history, such as reading gives it.
+pub fn what_is_read_is_sound()
+    ensures { (bytes : List ℕ) (events : List PlainEvent) →
+        stream_of bytes ≡ Ok events → IsAsRead events }
+{}
+
+/// What a stream gives is written as a text that is read again as the same history.
+pub fn what_is_read_is_read_again()
+    ensures { (bytes : List ℕ) (events : List PlainEvent) →
+        stream_of bytes ≡ Ok events →
+        history_in (text events) ≡ Some events }
+{}
+
+/// What a stream gives passes neither the limit of events nor that of operations.
+pub fn what_is_read_passes_no_limit()
+    ensures { (bytes : List ℕ) (events : List PlainEvent) → stream_of bytes ≡ Ok events →
+        (length events ≤ MAX_EVENTS) × (ops_in events ≤ MAX_OPERATIONS) }
+{}
+
+/// The id of each event is its place, from 1.
+pub fn ids_are_places()
+    ensures { (front back : List PlainEvent) (e : PlainEvent) → IsAsRead (front ++ e ∷ back) →
+        id_number (id_of e) ≡ length front + 1 }
+{}
+
+/// A mark that is none or stands twice, a parent that stands twice or not before, a root where its
+/// branch has a tip, an operation on what is no path, and a tag of what doesn't stand before.
+pub fn what_reading_never_gives()
+    ensures no_mark { (front back : List PlainEvent) (id : ℕ) (bytes : List ℕ) →
+        IsAsRead (front ++ Blob id 0 bytes ∷ back) → ⊥ }
+    ensures mark_twice { (front back : List PlainEvent) (id mark : ℕ) (bytes : List ℕ) →
+        IsTrue (is_marked front mark) → IsAsRead (front ++ Blob id mark bytes ∷ back) → ⊥ }
+    ensures parent_twice { (front back : List PlainEvent) (id mark : ℕ) (branch : List ℕ)
+        (author committer : Signed) (encoding : Option (List ℕ)) (comment : List ℕ) (p : ℕ)
+        (ops : List FileOp) → IsAsRead (front
+        ++ Commit id mark branch author committer encoding comment (p ∷ p ∷ []) ops ∷ back) → ⊥ }
+    ensures later_parent { (front back : List PlainEvent) (id mark : ℕ) (branch : List ℕ)
+        (author committer : Signed) (encoding : Option (List ℕ)) (comment : List ℕ) (p : ℕ)
+        (ps : List ℕ) (ops : List FileOp) → IsFalse (has_id front (any.Commit p)) →
+        IsAsRead (front
+        ++ Commit id mark branch author committer encoding comment (p ∷ ps) ops ∷ back) → ⊥ }
+    ensures root_on_tip { (front back : List PlainEvent) (id mark : ℕ) (branch : List ℕ)
+        (author committer : Signed) (encoding : Option (List ℕ)) (comment : List ℕ) (tip : ℕ)
+        (ops : List FileOp) → at (refs front) branch ≡ Some tip → IsAsRead (front
+        ++ Commit id mark branch author committer encoding comment [] ops ∷ back) → ⊥ }
+    ensures no_path { (front back : List PlainEvent) (id mark : ℕ) (branch : List ℕ)
+        (author committer : Signed) (encoding : Option (List ℕ)) (comment : List ℕ)
+        (parents path : List ℕ) (fault : PathFault) (ops : List FileOp) →
+        path_fault path ≡ Some fault → IsAsRead (front ++ Commit id mark branch author committer
+        encoding comment parents (Delete path ∷ ops) ∷ back) → ⊥ }
+    ensures later_target { (front back : List PlainEvent) (id target : ℕ) (name : List ℕ)
+        (tagger : Option Signed) (comment : List ℕ) → IsFalse (has_id front (any.Commit target)) →
+        IsAsRead (front ++ Tag id name target tagger comment ∷ back) → ⊥ }
+{}

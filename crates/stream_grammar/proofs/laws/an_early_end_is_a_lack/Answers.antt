@@ -1,5 +1,0 @@
-use Rattle.stream_grammar.proofs.FirstDefect.{ends_early}
-use Rattle.stream_grammar.proofs.laws.an_early_end_is_a_lack.Goals as goal
-
-pub returns : goal.returns
-returns c = ends_early

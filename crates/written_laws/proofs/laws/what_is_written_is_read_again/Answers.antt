@@ -1,5 +1,0 @@
-use Rattle.written_laws.proofs.Again.{again}
-use Rattle.written_laws.proofs.laws.what_is_written_is_read_again.Goals as goal
-
-pub returns : goal.returns
-returns c = again
