@@ -3,8 +3,8 @@
 use Rattle.std.proofs.Common.{◌≡◌, Bool, true, false, not, refl, sym, ap, ◌∙◌, Result, Ok, Err}
 use Rattle.std.specs.Prelude.{◌||◌}
 use Rattle.plain_model.specs.declared.fault.Why.{Why}
-use Rattle.stream_grammar.specs.declared.lines.Due.{Due}
-use Rattle.stream_grammar.specs.declared.lines.Due.TheVariants as expected
+use Rattle.stream_grammar.specs.declared.lines.Expected.{Expected}
+use Rattle.stream_grammar.specs.declared.lines.Expected.TheVariants as expected
 use Rattle.stream_grammar.specs.declared.lines.Follow.{Follow}
 use Rattle.stream_grammar.specs.declared.lines.Follow.TheVariants.{Goes, Missing, Finished}
 use Rattle.stream_grammar.specs.declared.lines.Follow.TheVariants as follow
@@ -14,7 +14,7 @@ use Rattle.stream_grammar.specs.declared.lines.Word.TheVariants as word
 use Rattle.stream_grammar.specs.Lines.{follows, begun_by, gone_on, is_required, must_go_on}
 
 -- no merge and no operation of the event can have been read
-abbrev pub is_before : Due → Bool
+abbrev pub is_before : Expected → Bool
 is_before expected.Event = false
 is_before expected.CommitMerge = false
 is_before expected.CommitOperation = false
@@ -101,36 +101,36 @@ module _ (s standing : Standing) where
   no_more w f k b h e = let no = gone_after w f k b h in absurd cc
 
   -- what stands before operations after a line stood there before it
-  pub still_before : (w : Word) → begins_event w ≡ false → (d : Due) → gone_on s w (follows d w) ≡ Ok standing → is_before standing.expected ≡ true → is_before d ≡ true
+  pub still_before : (w : Word) → begins_event w ≡ false → (d : Expected) → gone_on s w (follows d w) ≡ Ok standing → is_before standing.expected ≡ true → is_before d ≡ true
   still_before w b expected.Event h e = absurd (no_more w Finished refl b h e)
   still_before w b expected.CommitMerge h e = absurd (no_more w (follows expected.CommitMerge w) (after_merge w) b h e)
   still_before w b expected.CommitOperation h e = absurd (no_more w (follows expected.CommitOperation w) (after_operation w) b h e)
   still_before w b expected.InlineData h e = absurd (no_more w (follows expected.InlineData w) (after_inline w) b h e)
   still_before w b _ h e = refl
 
-  leads : (w : Word) (d : Due) → gone_on s w (Goes d) ≡ Ok standing → standing.expected ≡ d
+  leads : (w : Word) (d : Expected) → gone_on s w (Goes d) ≡ Ok standing → standing.expected ≡ d
   leads w d h = sym (ap (λ (x : Standing). x.expected) (standing_of (record s { expected = d }) (gone_on s w (Goes d)) standing h refl))
 
   -- `from` stands before merges and operations
-  pub from_before : (d : Due) → gone_on s word.From (follows d word.From) ≡ Ok standing → is_before d ≡ true
+  pub from_before : (d : Expected) → gone_on s word.From (follows d word.From) ≡ Ok standing → is_before d ≡ true
   from_before expected.Event h = absurd cc
   from_before expected.CommitMerge h = absurd cc
   from_before expected.CommitOperation h = absurd cc
   from_before expected.InlineData h = absurd cc
   from_before _ h = refl
 
-  pub merge_expected : (d : Due) → gone_on s word.Merge (follows d word.Merge) ≡ Ok standing → standing.expected ≡ expected.CommitMerge
+  pub merge_expected : (d : Expected) → gone_on s word.Merge (follows d word.Merge) ≡ Ok standing → standing.expected ≡ expected.CommitMerge
   merge_expected expected.CommitFrom h = leads word.Merge expected.CommitMerge h
   merge_expected expected.CommitMerge h = leads word.Merge expected.CommitMerge h
   merge_expected _ h = absurd cc
 
-  pub operation_expected : (d : Due) → gone_on s word.Operation (follows d word.Operation) ≡ Ok standing → standing.expected ≡ expected.CommitOperation
+  pub operation_expected : (d : Expected) → gone_on s word.Operation (follows d word.Operation) ≡ Ok standing → standing.expected ≡ expected.CommitOperation
   operation_expected expected.CommitFrom h = leads word.Operation expected.CommitOperation h
   operation_expected expected.CommitMerge h = leads word.Operation expected.CommitOperation h
   operation_expected expected.CommitOperation h = leads word.Operation expected.CommitOperation h
   operation_expected _ h = absurd cc
 
-  pub inline_expected : (d : Due) → gone_on s word.InlineOperation (follows d word.InlineOperation) ≡ Ok standing → standing.expected ≡ expected.InlineData
+  pub inline_expected : (d : Expected) → gone_on s word.InlineOperation (follows d word.InlineOperation) ≡ Ok standing → standing.expected ≡ expected.InlineData
   inline_expected expected.CommitFrom h = leads word.InlineOperation expected.InlineData h
   inline_expected expected.CommitMerge h = leads word.InlineOperation expected.InlineData h
   inline_expected expected.CommitOperation h = leads word.InlineOperation expected.InlineData h

@@ -20,7 +20,7 @@ use Rattle.plain_model.specs.Trees.Change.{Put, Remove, CopyTo, MoveTo, Clear}
 use Rattle.plain_model.specs.Snapshots.{Shown, blob_bytes, shown, shown_tree, refs}
 use Rattle.plain_model.specs.Snapshots.ShownContent.{ShownBytes, ShownObject}
 use Rattle.plain_model.specs.Streams.{is_marked}
-use Rattle.stream_grammar.specs.declared.lines.Due.TheVariants as expected
+use Rattle.stream_grammar.specs.declared.lines.Expected.TheVariants as expected
 use Rattle.stream_grammar.specs.declared.lines.Standing.{Standing}
 use Rattle.stream_grammar.specs.declared.lines.Word.{Word}
 use Rattle.stream_grammar.specs.declared.lines.Word.TheVariants as word

@@ -14,8 +14,8 @@ use Rattle.plain_model.specs.Trees.Change.{Put}
 use Rattle.plain_model.specs.Lookups.{greatest_mark}
 use Rattle.plain_model.specs.Snapshots.{Shown, blob_bytes, shown_tree, refs}
 use Rattle.plain_model.specs.Snapshots.ShownContent.{ShownBytes}
-use Rattle.stream_grammar.specs.declared.lines.Due.{Due}
-use Rattle.stream_grammar.specs.declared.lines.Due.TheVariants as expected
+use Rattle.stream_grammar.specs.declared.lines.Expected.{Expected}
+use Rattle.stream_grammar.specs.declared.lines.Expected.TheVariants as expected
 use Rattle.stream_grammar.specs.declared.lines.Standing.{Standing}
 use Rattle.stream_grammar.specs.Known.{Known, OpenCommit, Open, closed, closed_commit, with_data, with_event, next_id}
 use Rattle.stream_grammar.specs.Known.Open.{Nothing, ABlob, ACommit, ATag, AReset}
@@ -52,24 +52,24 @@ reading_of (ATag name target tagger) files waiting = InTag name target tagger
 reading_of (AReset branch target) files waiting = InReset branch target
 
 -- where an operation may wait for its bytes: before the line of its data, and after it
-abbrev pub Waits : Place → Due → Type 0
+abbrev pub Waits : Place → Expected → Type 0
 Waits AtLine d = d ≡ expected.InlineData
 Waits AtBlock d = d ≡ expected.CommitOperation
 Waits AtEnd d = ⊥
 
 -- the files are those after the operations but the one that waits
-abbrev pub HasFiles : Place → Due → List PlainEvent → List FileOp → List ℕ → Option (TreeOf Shown) → Option (Mode × Bytes) → Type 0
+abbrev pub HasFiles : Place → Expected → List PlainEvent → List FileOp → List ℕ → Option (TreeOf Shown) → Option (Mode × Bytes) → Type 0
 HasFiles p d events ops parents files None = (files ≡ files_now events ops parents) × AllBelow (length events + 1) (blobs_of ops)
 HasFiles p d events ops parents files (Some w) =
     Waits p d × (before : List FileOp) × (ops ≡ before ++ Modify w.0 (OfBlob (next_id events)) w.1 ∷ [])
     × (files ≡ files_now events before parents) × AllBelow (length events + 1) (blobs_of before)
 
-pub record CommitGoes (p : Place) (d : Due) (events : List PlainEvent) (ops : List FileOp) (earlier : List ℕ) (tree : Option (TreeOf Shown)) (waiting : Option (Mode × Bytes)) : Type 0 where
+pub record CommitGoes (p : Place) (d : Expected) (events : List PlainEvent) (ops : List FileOp) (earlier : List ℕ) (tree : Option (TreeOf Shown)) (waiting : Option (Mode × Bytes)) : Type 0 where
   pub below : AllBelow (length events + 1) earlier
   pub first : is_before d ≡ true → ops ≡ []
   pub has_files : HasFiles p d events ops earlier tree waiting
 
-abbrev pub Goes : Place → Due → List PlainEvent → Open → Option (TreeOf Shown) → Option (Mode × Bytes) → Type 0
+abbrev pub Goes : Place → Expected → List PlainEvent → Open → Option (TreeOf Shown) → Option (Mode × Bytes) → Type 0
 Goes p d events Nothing files waiting = Unit {0}
 Goes p d events (ABlob mark) files waiting = Unit {0}
 Goes p d events (ACommit c) files waiting = CommitGoes p d events c.ops c.parents files waiting
@@ -85,10 +85,10 @@ Became p standing k t =
 
 -- ---- where nothing waits
 
-abbrev Settled : Place → Due → List PlainEvent → Open → Option (TreeOf Shown) → Option (Mode × Bytes) → Type 0
+abbrev Settled : Place → Expected → List PlainEvent → Open → Option (TreeOf Shown) → Option (Mode × Bytes) → Type 0
 Settled p d events current files waiting = (reading_of current files waiting ≡ reading_of current files None) × Goes p d events current files None
 
-pub settled : (p : Place) (d : Due) (events : List PlainEvent) (current : Open) (files : Option (TreeOf Shown)) (waiting : Option (Mode × Bytes)) → (Waits p d → ⊥) → Goes p d events current files waiting → Settled p d events current files waiting
+pub settled : (p : Place) (d : Expected) (events : List PlainEvent) (current : Open) (files : Option (TreeOf Shown)) (waiting : Option (Mode × Bytes)) → (Waits p d → ⊥) → Goes p d events current files waiting → Settled p d events current files waiting
 settled p d events Nothing files waiting n g = (refl, tt)
 settled p d events (ABlob mark) files waiting n g = (refl, tt)
 settled p d events (ACommit c) files None n g = (refl, g)
@@ -213,7 +213,7 @@ commit_ends events s c files b g (Some committer) = (
 )
 
 -- where nothing waits, the event that is being read ends in both alike
-pub ends_alike : (p : Place) (d : Due) (k : Known) (files : Option (TreeOf Shown)) → IsSoFar k.events → Goes p d k.events k.current files None → EndsAlike k (ended (seen_of k.events) (reading_of k.current files None))
+pub ends_alike : (p : Place) (d : Expected) (k : Known) (files : Option (TreeOf Shown)) → IsSoFar k.events → Goes p d k.events k.current files None → EndsAlike k (ended (seen_of k.events) (reading_of k.current files None))
 ends_alike p d k files s g = go k.current g
   where
     go : (o : Open) → Goes p d k.events o files None → EndsAlike (record k { current = o }) (ended (seen_of k.events) (reading_of o files None))

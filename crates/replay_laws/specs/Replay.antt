@@ -20,7 +20,7 @@ use Rattle.plain_model.specs.Snapshots.ShownContent.{ShownBytes, ShownObject}
 use Rattle.line_automaton.specs.Machine.{Next, Automaton, Outcome, outcome, all}
 use Rattle.line_automaton.specs.Machine.Next.{More}
 use Rattle.line_automaton.specs.Machine.Outcome.{Reads, Refuses, Misses}
-use Rattle.stream_grammar.specs.declared.lines.Due.TheVariants as expected
+use Rattle.stream_grammar.specs.declared.lines.Expected.TheVariants as expected
 use Rattle.stream_grammar.specs.declared.lines.Standing.{Standing}
 use Rattle.stream_grammar.specs.declared.lines.Word.{Word}
 use Rattle.stream_grammar.specs.declared.lines.Word.TheVariants as word

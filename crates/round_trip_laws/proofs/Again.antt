@@ -15,8 +15,8 @@ use Rattle.plain_model.specs.Snapshots.{refs_after, refs}
 use Rattle.plain_model.specs.Soundness.{AreSoundAfter, IsCommitOf, IsFormedEvent, has_id}
 use Rattle.plain_model.specs.Text.{line, event_text, text_from, end_text, is_feature_done, text as text_of_history}
 use Rattle.plain_model.specs.Trees.{TreeOf, put, has}
-use Rattle.stream_grammar.specs.declared.lines.Due.{Due}
-use Rattle.stream_grammar.specs.declared.lines.Due.TheVariants as expected
+use Rattle.stream_grammar.specs.declared.lines.Expected.{Expected}
+use Rattle.stream_grammar.specs.declared.lines.Expected.TheVariants as expected
 use Rattle.stream_grammar.specs.declared.lines.Word.TheVariants as word
 use Rattle.stream_grammar.specs.Known.{next_id, with_marks, history_of}
 use Rattle.stream_grammar.specs.Known.Open.{Nothing}
@@ -44,7 +44,7 @@ all_marked n (Reset id branch target ∷ events) h = ap (λ (l : List PlainEvent
 all_marked n (Pass id line ∷ events) h = ap (λ (l : List PlainEvent). Pass id line ∷ l) (all_marked n events h.1)
 
 -- between events a stream can end, unless a last line was promised
-free_between : (d : Due) (wants : Bool) → is_between d ≡ true → wants ≡ false → must_go_on (record { expected = d; wants_done = wants }) ≡ false
+free_between : (d : Expected) (wants : Bool) → is_between d ≡ true → wants ≡ false → must_go_on (record { expected = d; wants_done = wants }) ≡ false
 free_between expected.Event wants h e = e
 free_between expected.ResetFrom wants h e = e
 free_between expected.ResetEnd wants h e = e

@@ -12,8 +12,8 @@ use Rattle.plain_model.specs.Soundness.{is_passed_line}
 use Rattle.plain_model.specs.Parts.{begins, has_no_lf}
 use Rattle.field_laws.proofs.FieldSteps.{ok_then}
 use Rattle.line_automaton.specs.Machine.Next.{More}
-use Rattle.stream_grammar.specs.declared.lines.Due.{Due}
-use Rattle.stream_grammar.specs.declared.lines.Due.TheVariants as expected
+use Rattle.stream_grammar.specs.declared.lines.Expected.{Expected}
+use Rattle.stream_grammar.specs.declared.lines.Expected.TheVariants as expected
 use Rattle.stream_grammar.specs.declared.lines.Word.{Word}
 use Rattle.stream_grammar.specs.declared.lines.Word.TheVariants as word
 use Rattle.stream_grammar.specs.Known.{Known, Open, ensure, closed, next_id}
@@ -53,7 +53,7 @@ kept_feature text true b c n h f = absurd cc
 kept_feature text false false c n h f = refl
 kept_feature text false true c n h f = let parts = and_parts c n h in ap not (f parts.0 parts.1)
 
-module _ (d : Due) (between : is_between d ≡ true) (wants : Bool) (events done : List PlainEvent) (current : Open) (are : closed (record { events = events; current = current }) ≡ done) where
+module _ (d : Expected) (between : is_between d ≡ true) (wants : Bool) (events done : List PlainEvent) (current : Open) (are : closed (record { events = events; current = current }) ≡ done) where
   abbrev after_pass : Bytes → Point
   after_pass text = point expected.Event (bytes_eq text (codes "feature done") || wants) (done ++ plain.Pass (next_id done) text ∷ []) Nothing
 

@@ -23,7 +23,7 @@ use Rattle.line_automaton.specs.Machine.Machine.{At}
 use Rattle.line_automaton.specs.Machine.Outcome.{Reads, Misses}
 use Rattle.line_automaton.specs.Lines.{number_after}
 use Rattle.line_automaton.proofs.BlockLaws.{line_more, line_made, line_over, block_there, no_line}
-use Rattle.stream_grammar.specs.declared.lines.Due.{Due}
+use Rattle.stream_grammar.specs.declared.lines.Expected.{Expected}
 use Rattle.stream_grammar.specs.declared.lines.Standing.{Standing}
 use Rattle.stream_grammar.specs.declared.lines.Word.{Word}
 use Rattle.stream_grammar.specs.declared.lines.Word.TheVariants as word
@@ -35,7 +35,7 @@ pub record Point : Type 0 where
   pub standing : Standing
   pub known : Known
 
-abbrev pub point : Due → Bool → List PlainEvent → Open → Point
+abbrev pub point : Expected → Bool → List PlainEvent → Open → Point
 point expected wants events current =
     record { standing = record { expected = expected; wants_done = wants }; known = record { events = events; current = current } }
 

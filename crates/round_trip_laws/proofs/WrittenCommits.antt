@@ -18,8 +18,8 @@ use Rattle.plain_model.specs.Parts.{has_no_lf}
 use Rattle.plain_model.specs.Streams.{is_marked}
 use Rattle.plain_model.specs.Names.{is_name}
 use Rattle.field_laws.proofs.Lines.{eqb_turned}
-use Rattle.stream_grammar.specs.declared.lines.Due.{Due}
-use Rattle.stream_grammar.specs.declared.lines.Due.TheVariants as expected
+use Rattle.stream_grammar.specs.declared.lines.Expected.{Expected}
+use Rattle.stream_grammar.specs.declared.lines.Expected.TheVariants as expected
 use Rattle.stream_grammar.specs.declared.lines.Word.TheVariants as word
 use Rattle.stream_grammar.specs.Known.{Open, OpenCommit, next_id, with_parent}
 use Rattle.stream_grammar.specs.Known.Open.{ACommit}
@@ -68,7 +68,7 @@ module _ (whole done : List PlainEvent) (found : AreFound whole done) (wants : B
     ops = ops;
   }
 
-  abbrev pub at_commit : Due → List ℕ → List FileOp → Point
+  abbrev pub at_commit : Expected → List ℕ → List FileOp → Point
   at_commit d parents ops = point d wants done (ACommit (so_far parents ops))
 
   -- ---- operations
@@ -78,7 +78,7 @@ module _ (whole done : List PlainEvent) (found : AreFound whole done) (wants : B
 
   -- wherever a commit may end, the rest goes on
   abbrev pub GivesAfterOps : List ℕ → List FileOp → Bytes → Type 0
-  GivesAfterOps parents ops rest = (d : Due) → may_end d ≡ true → Gives (at_commit d parents ops) rest history
+  GivesAfterOps parents ops rest = (d : Expected) → may_end d ≡ true → Gives (at_commit d parents ops) rest history
 
   pub ops_go : (parents : List ℕ) (front ops : List FileOp) (rest : Bytes) → AllByRecursion (RefersBack done) ops → AllByRecursion IsFormedOp ops → IsSome (folded ops (folded front (begun (tree done) parents)))
       → GivesAfterOps parents (front ++ ops) rest → GivesAfterOps parents front (ops_text ops ++ rest)
@@ -194,7 +194,7 @@ no_reset : (whole : List PlainEvent) (tips : TreeOf ℕ) (branch : Bytes) (paren
 no_reset whole tips branch [] h = cond-false (has tips branch) (line (codes "reset " ++ branch)) [] (h refl)
 no_reset whole tips branch (p ∷ ps) h = refl
 
-module _ (d : Due) (wants : Bool) (events : List PlainEvent) (current : Open) (whole done : List PlainEvent) (h : IsAfter d wants events current done) (found : AreFound whole done)
+module _ (d : Expected) (wants : Bool) (events : List PlainEvent) (current : Open) (whole done : List PlainEvent) (h : IsAfter d wants events current done) (found : AreFound whole done)
     (id mark : ℕ) (branch : Bytes) (author committer : Signed) (encoding : Option Bytes) (comment : Bytes) (parents : List ℕ) (ops : List FileOp)
     (fits : CommitFits whole done id mark branch author committer encoding comment parents ops) (rest : Bytes) (history : List PlainEvent)
     (k : GivesAfter (done ++ Commit id mark branch author committer encoding comment parents ops ∷ []) rest history) where

@@ -12,8 +12,8 @@ use Rattle.plain_model.specs.Text.{line, marked, data_block, person, event_text,
 use Rattle.plain_model.specs.Marks.{IsMark}
 use Rattle.plain_model.specs.Names.{is_name}
 use Rattle.plain_model.specs.Streams.{is_marked}
-use Rattle.stream_grammar.specs.declared.lines.Due.{Due}
-use Rattle.stream_grammar.specs.declared.lines.Due.TheVariants as expected
+use Rattle.stream_grammar.specs.declared.lines.Expected.{Expected}
+use Rattle.stream_grammar.specs.declared.lines.Expected.TheVariants as expected
 use Rattle.stream_grammar.specs.declared.lines.Word.TheVariants as word
 use Rattle.stream_grammar.specs.Known.{Open, closed, next_id}
 use Rattle.stream_grammar.specs.Known.Open.{Nothing, ABlob, ATag, AReset}
@@ -25,7 +25,7 @@ use Rattle.round_trip_laws.proofs.FoundAgain.{FindsCommit}
 -- ---- between events
 
 -- This is a place between events, after these events. A last line is wanted where one of them promised it.
-pub record IsAfter (d : Due) (wants : Bool) (events : List PlainEvent) (current : Open) (done : List PlainEvent) : Type 0 where
+pub record IsAfter (d : Expected) (wants : Bool) (events : List PlainEvent) (current : Open) (done : List PlainEvent) : Type 0 where
   pub between : is_between d ≡ true
   pub are : closed (record { events = events; current = current }) ≡ done
   pub promised : wants ≡ list_any is_feature_done done
@@ -33,7 +33,7 @@ pub record IsAfter (d : Due) (wants : Bool) (events : List PlainEvent) (current 
 -- from each place after these events on, the rest has this history
 abbrev pub GivesAfter : List PlainEvent → Bytes → List PlainEvent → Type 0
 GivesAfter done rest history =
-    (d : Due) (wants : Bool) (events : List PlainEvent) (current : Open) → IsAfter d wants events current done
+    (d : Expected) (wants : Bool) (events : List PlainEvent) (current : Open) → IsAfter d wants events current done
     → Gives (point d wants events current) rest history
 
 -- a promise among one event more
@@ -46,7 +46,7 @@ promise_more (x ∷ done) e = swap (is_feature_done e) (is_feature_done x) (list
     swap true false c = refl
     swap false b c = refl
 
-module _ (d : Due) (wants : Bool) (events : List PlainEvent) (current : Open) (done : List PlainEvent) (h : IsAfter d wants events current done) (rest : Bytes) (history : List PlainEvent) where
+module _ (d : Expected) (wants : Bool) (events : List PlainEvent) (current : Open) (done : List PlainEvent) (h : IsAfter d wants events current done) (rest : Bytes) (history : List PlainEvent) where
   abbrev from_here : Bytes → Type 0
   from_here text = Gives (point d wants events current) text history
 

@@ -22,8 +22,8 @@ use Rattle.field_laws.proofs.Written.{plain_name, plain_mark, mark_numeral, Sign
 use Rattle.field_laws.proofs.FieldSteps.{ok_then, or_defect_found}
 use Rattle.field_laws.proofs.FieldsAgain.{mark_again, person_again}
 use Rattle.line_automaton.specs.Machine.Next.{More, Over}
-use Rattle.stream_grammar.specs.declared.lines.Due.{Due}
-use Rattle.stream_grammar.specs.declared.lines.Due.TheVariants as expected
+use Rattle.stream_grammar.specs.declared.lines.Expected.{Expected}
+use Rattle.stream_grammar.specs.declared.lines.Expected.TheVariants as expected
 use Rattle.stream_grammar.specs.declared.lines.Follow.TheVariants.{Finished}
 use Rattle.stream_grammar.specs.declared.lines.Word.{Word}
 use Rattle.stream_grammar.specs.declared.lines.Word.TheVariants as word
@@ -35,14 +35,14 @@ use Rattle.round_trip_laws.proofs.Points.{Point, point, Leads, digits_plain}
 -- ---- between events
 
 -- an event is over here, or may be
-abbrev pub is_between : Due → Bool
+abbrev pub is_between : Expected → Bool
 is_between expected.Event = true
 is_between expected.ResetFrom = true
 is_between expected.ResetEnd = true
 is_between _ = false
 
 -- a line that no reset goes on with begins an event there
-pub finishes : (d : Due) (w : Word) → is_between d ≡ true → follows expected.ResetFrom w ≡ Finished → follows d w ≡ Finished
+pub finishes : (d : Expected) (w : Word) → is_between d ≡ true → follows expected.ResetFrom w ≡ Finished → follows d w ≡ Finished
 finishes expected.Event w h e = refl
 finishes expected.ResetFrom w h e = e
 finishes expected.ResetEnd w h e = refl
@@ -55,7 +55,7 @@ unfolding name_in
 name_read name h = cond-true (is_name name) (Ok name) (Err BadName) h
 
 -- a line that begins an event, where these events are after
-module _ (d : Due) (between : is_between d ≡ true) (wants : Bool) (events done : List PlainEvent) (current : Open) (are : closed (record { events = events; current = current }) ≡ done) where
+module _ (d : Expected) (between : is_between d ≡ true) (wants : Bool) (events done : List PlainEvent) (current : Open) (are : closed (record { events = events; current = current }) ≡ done) where
   abbrev here : Point
   here = point d wants events current
 
@@ -280,19 +280,19 @@ pub encoding_leads : (wants : Bool) (done : List PlainEvent) (c : OpenCommit) (e
 encoding_leads wants done c encoding h = record { plain = h; no_comment = refl; word_is = refl; stands = refl; follows = refl; fits = refl }
 
 -- a commit can end here
-abbrev pub may_end : Due → Bool
+abbrev pub may_end : Expected → Bool
 may_end expected.CommitFrom = true
 may_end expected.CommitMerge = true
 may_end expected.CommitOperation = true
 may_end _ = false
 
-ends_empty : (d : Due) → may_end d ≡ true → follows d word.Empty ≡ Finished
+ends_empty : (d : Expected) → may_end d ≡ true → follows d word.Empty ≡ Finished
 ends_empty expected.CommitFrom h = refl
 ends_empty expected.CommitMerge h = refl
 ends_empty expected.CommitOperation h = refl
 ends_empty _ h = absurd cc
 
-pub empty_leads : (d : Due) → may_end d ≡ true → (wants : Bool) (done : List PlainEvent) (current : Open) → Leads (point d wants done current) [] word.Empty More (point expected.Event wants done current)
+pub empty_leads : (d : Expected) → may_end d ≡ true → (wants : Bool) (done : List PlainEvent) (current : Open) → Leads (point d wants done current) [] word.Empty More (point expected.Event wants done current)
 empty_leads d h wants done current = record {
   plain = refl;
   no_comment = refl;

@@ -33,8 +33,8 @@ use Rattle.field_laws.proofs.FieldsAgain.{content_again}
 use Rattle.field_laws.proofs.PathsAgain.{path_again}
 use Rattle.field_laws.proofs.Written.{plain_join, plain_mark, mark_numeral}
 use Rattle.line_automaton.specs.Machine.Next.{More}
-use Rattle.stream_grammar.specs.declared.lines.Due.{Due}
-use Rattle.stream_grammar.specs.declared.lines.Due.TheVariants as expected
+use Rattle.stream_grammar.specs.declared.lines.Expected.{Expected}
+use Rattle.stream_grammar.specs.declared.lines.Expected.TheVariants as expected
 use Rattle.stream_grammar.specs.declared.lines.Follow.TheVariants.{Goes}
 use Rattle.stream_grammar.specs.declared.lines.Word.TheVariants as word
 use Rattle.stream_grammar.specs.Known.{OpenCommit, op_after, paths_after, placed, has_source, is_empty_list, tree_now, ensure}
@@ -239,7 +239,7 @@ renamed_source source target ops (Some t) h = go (subtree source t) h
 
 -- ---- the line of an operation
 
-goes_operation : (d : Due) → may_end d ≡ true → follows d word.Operation ≡ Goes expected.CommitOperation
+goes_operation : (d : Expected) → may_end d ≡ true → follows d word.Operation ≡ Goes expected.CommitOperation
 goes_operation expected.CommitFrom h = refl
 goes_operation expected.CommitMerge h = refl
 goes_operation expected.CommitOperation h = refl
@@ -291,7 +291,7 @@ module _ (whole done : List PlainEvent) (found : AreFound whole done) (c : OpenC
   abbrev pub with_op : FileOp → OpenCommit
   with_op op = record c { ops = c.ops ++ op ∷ [] }
 
-  pub op_leads : (d : Due) → may_end d ≡ true → (wants : Bool) (op : FileOp) (ops : List FileOp) → RefersBack done op → IsFormedOp op → IsSome (folded (op ∷ ops) (tree_now done c))
+  pub op_leads : (d : Expected) → may_end d ≡ true → (wants : Bool) (op : FileOp) (ops : List FileOp) → RefersBack done op → IsFormedOp op → IsSome (folded (op ∷ ops) (tree_now done c))
       → Leads (point d wants done (ACommit c)) (raw_op_text (raw_op whole op)) word.Operation More (point expected.CommitOperation wants done (ACommit (with_op op)))
   op_leads d may wants op ops refers formed tree =
       let l = op_line op ops refers formed tree in

@@ -20,8 +20,8 @@ use Rattle.line_automaton.specs.Limits.{Cause, limited_step}
 use Rattle.line_automaton.specs.Machine.{Next, Outcome, outcome, all}
 use Rattle.line_automaton.specs.Machine.Next.{More, Block, Until, Over}
 use Rattle.line_automaton.specs.Machine.Outcome.{Reads, Refuses, Misses}
-use Rattle.stream_grammar.specs.declared.lines.Due.{Due}
-use Rattle.stream_grammar.specs.declared.lines.Due.TheVariants as expected
+use Rattle.stream_grammar.specs.declared.lines.Expected.{Expected}
+use Rattle.stream_grammar.specs.declared.lines.Expected.TheVariants as expected
 use Rattle.stream_grammar.specs.declared.lines.Standing.{Standing}
 use Rattle.stream_grammar.specs.declared.lines.Word.{Word}
 use Rattle.stream_grammar.specs.declared.lines.Word.TheVariants as word
@@ -143,36 +143,36 @@ not_passed most count which other h = go (nat_lt most count) refl h
 -- ---- where a stream stands
 
 -- an event that was counted is to come: the blob of the bytes that are due
-abbrev owed : Due → ℕ
+abbrev owed : Expected → ℕ
 owed expected.InlineData = 1
 owed _ = 0
 
 -- the same while these bytes come
-abbrev coming : Due → ℕ
+abbrev coming : Expected → ℕ
 coming expected.CommitOperation = 1
 coming _ = 0
 
-abbrev IsPaid : Due → Type 0
+abbrev IsPaid : Expected → Type 0
 IsPaid expected.InlineData = ⊥
 IsPaid _ = Unit {0}
 
-paid : (d : Due) → IsPaid d → owed d ≡ 0
+paid : (d : Expected) → IsPaid d → owed d ≡ 0
 paid expected.InlineData h = absurd h
 paid _ h = refl
 
 -- after the line of data stands the stream where bytes come only if they were due
-abbrev IsDataAfter : Due → Due → Type 0
+abbrev IsDataAfter : Expected → Expected → Type 0
 IsDataAfter expected.InlineData expected.InlineData = ⊥
 IsDataAfter expected.InlineData old = ⊥
 IsDataAfter expected.CommitOperation expected.InlineData = Unit {0}
 IsDataAfter expected.CommitOperation old = ⊥
 IsDataAfter new old = Unit {0}
 
-data_goes : (d : Due) → GoesWith (λ new. IsDataAfter new d) (follows d word.Data)
+data_goes : (d : Expected) → GoesWith (λ new. IsDataAfter new d) (follows d word.Data)
 data_goes expected.Event = tt
 data_goes _ = tt
 
-data_owed : (new old : Due) → IsDataAfter new old → (coming new ≤ owed old) × IsPaid new
+data_owed : (new old : Expected) → IsDataAfter new old → (coming new ≤ owed old) × IsPaid new
 data_owed expected.InlineData expected.InlineData h = absurd h
 data_owed expected.InlineData _ h = absurd h
 data_owed expected.CommitOperation expected.InlineData h = (omega arith, tt)
@@ -182,13 +182,13 @@ data_owed _ old h = (omega arith, tt)
 -- ---- lines, by their words
 
 -- what holds after a line
-abbrev AfterLine : Next → Due → Known → Type 0
+abbrev AfterLine : Next → Expected → Known → Type 0
 AfterLine More d k = IsWithin (owed d) k
 AfterLine (Block n) d k = IsWithin (coming d) k × IsPaid d
 AfterLine (Until n) d k = IsWithin (coming d) k × IsPaid d
 AfterLine Over d k = AreWithin (closed k)
 
-more_after : (d : Due) (k : Known) (next : Next) → IsWithin (owed d) k → ◌≡◌ {A = Result Next Why} (Ok More) (Ok next) → AfterLine next d k
+more_after : (d : Expected) (k : Known) (next : Next) → IsWithin (owed d) k → ◌≡◌ {A = Result Next Why} (Ok More) (Ok next) → AfterLine next d k
 more_after d k next h e = subst (λ (n : Next). AfterLine n d k) (same_Ok More next e) h
 
 -- after a line that begins or ends an event
@@ -196,7 +196,7 @@ after_start : (t new : Standing) (k : Known) (next : Next) → ◌≡◌ {A = Re
 after_start t new k next e h f = subst (λ (q : Standing). AfterLine next q.expected k) (same_Ok t new e) (more_after t.expected k next h f)
 
 -- after a line in an event
-after_inside : (a : ℕ) (d : Due) (k : Known) (next : Next) → IsPaid d → IsWithin a k → ◌≡◌ {A = Result Next Why} (Ok More) (Ok next) → AfterLine next d k
+after_inside : (a : ℕ) (d : Expected) (k : Known) (next : Next) → IsPaid d → IsWithin a k → ◌≡◌ {A = Result Next Why} (Ok More) (Ok next) → AfterLine next d k
 after_inside a d k next free h f = more_after d k next (let none = paid d free in within_less a (owed d) k (omega arith) h) f
 
 begun_within : (more : ℕ) (k : Known) (o : Open) → IsWithin more k → open_ops o ≡ 0 → limit_if MAX_EVENTS (event_count (begun_with k o)) Events None ≡ None → IsWithin 0 (begun_with k o)
@@ -277,7 +277,7 @@ module _ (line : Bytes) where
   after_change s new k after next change keeps free h g f =
       after_inside (owed s.expected) new.expected after next free (subst (IsWithin (owed s.expected)) (same_Ok (changed k change) after g) (changed_within (owed s.expected) k change keeps h)) f
 
-  mark_goes : (d : Due) → GoesWith IsPaid (follows d word.Mark)
+  mark_goes : (d : Expected) → GoesWith IsPaid (follows d word.Mark)
   mark_goes expected.Event = tt
   mark_goes _ = tt
 
@@ -287,7 +287,7 @@ module _ (line : Bytes) where
       let u = bind_ok (ensure (not (is_marked k.events m.0)) RepeatedMark) (λ fresh. Ok (changed k (with_mark m.0))) after m.2 in
       after_change s new k after next (with_mark m.0) (mark_counts m.0) (goes_ok IsPaid word.Mark s new (λ t x. absurd cc) e (mark_goes s.expected)) h u.2 f
 
-  oid_goes : (d : Due) → GoesWith IsPaid (follows d word.Oid)
+  oid_goes : (d : Expected) → GoesWith IsPaid (follows d word.Oid)
   oid_goes expected.Event = tt
   oid_goes _ = tt
 
@@ -295,7 +295,7 @@ module _ (line : Bytes) where
   keeps_oid s new k after next h e f g limit =
       after_change s new k after next (λ o. o) (λ o. (refl, refl)) (goes_ok IsPaid word.Oid s new (λ t x. absurd cc) e (oid_goes s.expected)) h g f
 
-  author_goes : (d : Due) → GoesWith IsPaid (follows d word.Author)
+  author_goes : (d : Expected) → GoesWith IsPaid (follows d word.Author)
   author_goes expected.Event = tt
   author_goes _ = tt
 
@@ -304,7 +304,7 @@ module _ (line : Bytes) where
       let p = bind_ok (person_in (text_of line)) (λ who. Ok (changed k (with_commit (λ c. record c { author = Some who })))) after g in
       after_change s new k after next (with_commit (λ c. record c { author = Some p.0 })) (commit_counts (λ c. record c { author = Some p.0 }) (λ c. refl)) (goes_ok IsPaid word.Author s new (λ t x. absurd cc) e (author_goes s.expected)) h p.2 f
 
-  committer_goes : (d : Due) → GoesWith IsPaid (follows d word.Committer)
+  committer_goes : (d : Expected) → GoesWith IsPaid (follows d word.Committer)
   committer_goes expected.Event = tt
   committer_goes _ = tt
 
@@ -313,7 +313,7 @@ module _ (line : Bytes) where
       let p = bind_ok (person_in (text_of line)) (λ who. Ok (changed k (with_commit (λ c. record c { committer = Some who })))) after g in
       after_change s new k after next (with_commit (λ c. record c { committer = Some p.0 })) (commit_counts (λ c. record c { committer = Some p.0 }) (λ c. refl)) (goes_ok IsPaid word.Committer s new (λ t x. absurd cc) e (committer_goes s.expected)) h p.2 f
 
-  encoding_goes : (d : Due) → GoesWith IsPaid (follows d word.Encoding)
+  encoding_goes : (d : Expected) → GoesWith IsPaid (follows d word.Encoding)
   encoding_goes expected.Event = tt
   encoding_goes _ = tt
 
@@ -322,7 +322,7 @@ module _ (line : Bytes) where
       let change : OpenCommit → OpenCommit = λ (c : OpenCommit). record c { encoding = Some (text_of line) } in
       after_change s new k after next (with_commit change) (commit_counts change (λ c. refl)) (goes_ok IsPaid word.Encoding s new (λ t x. absurd cc) e (encoding_goes s.expected)) h g f
 
-  tagger_goes : (d : Due) → GoesWith IsPaid (follows d word.Tagger)
+  tagger_goes : (d : Expected) → GoesWith IsPaid (follows d word.Tagger)
   tagger_goes expected.Event = tt
   tagger_goes _ = tt
 
@@ -331,7 +331,7 @@ module _ (line : Bytes) where
       let p = bind_ok (person_in (text_of line)) (λ who. Ok (changed k (with_tagger who))) after g in
       after_change s new k after next (with_tagger p.0) (tagger_counts p.0) (goes_ok IsPaid word.Tagger s new (λ t x. absurd cc) e (tagger_goes s.expected)) h p.2 f
 
-  from_goes : (d : Due) → GoesWith IsPaid (follows d word.From)
+  from_goes : (d : Expected) → GoesWith IsPaid (follows d word.From)
   from_goes expected.Event = tt
   from_goes _ = tt
 
@@ -340,7 +340,7 @@ module _ (line : Bytes) where
       let c = bind_ok (ref_in k.events (text_of line)) (λ commit. Ok (changed k (with_from commit))) after g in
       after_change s new k after next (with_from c.0) (from_counts c.0) (goes_ok IsPaid word.From s new (λ t x. absurd cc) e (from_goes s.expected)) h c.2 f
 
-  merge_goes : (d : Due) → GoesWith IsPaid (follows d word.Merge)
+  merge_goes : (d : Expected) → GoesWith IsPaid (follows d word.Merge)
   merge_goes expected.Event = tt
   merge_goes _ = tt
 
@@ -369,7 +369,7 @@ module _ (line : Bytes) where
       let few = not_passed MAX_EVENTS (event_count k + more) Events (limit_if MAX_OPERATIONS (op_count k) Operations (tree_limit k)) limit in
       record { few = few.0; few_ops = (not_passed MAX_OPERATIONS (op_count k) Operations (tree_limit k) few.1).0 }
 
-  operation_goes : (d : Due) → GoesWith IsPaid (follows d word.Operation)
+  operation_goes : (d : Expected) → GoesWith IsPaid (follows d word.Operation)
   operation_goes expected.Event = tt
   operation_goes _ = tt
 
@@ -377,7 +377,7 @@ module _ (line : Bytes) where
   keeps_operation s new k after next h e f g limit =
       after_inside 0 new.expected after next (goes_ok IsPaid word.Operation s new (λ t x. absurd cc) e (operation_goes s.expected)) (op_within 0 after limit) f
 
-  owed_one : (d : Due) → owed d ≤ 1
+  owed_one : (d : Expected) → owed d ≤ 1
   owed_one expected.InlineData = omega arith
   owed_one _ = omega arith
 
@@ -401,7 +401,7 @@ module _ (line : Bytes) where
   keeps_other : Keeps word.Other
   keeps_other s new k after next h e f g limit = absurd (goes_ok (λ d. ⊥) word.Other s new (λ t x. absurd cc) e (never s.expected))
     where
-      never : (d : Due) → GoesWith (λ d. ⊥) (follows d word.Other)
+      never : (d : Expected) → GoesWith (λ d. ⊥) (follows d word.Other)
       never expected.Event = tt
       never _ = tt
 
@@ -449,11 +449,11 @@ data_counts inline events (ATag name target tagger) bytes = (
 )
 data_counts inline events (AReset branch target) bytes = (omega arith, refl)
 
-coming_inline : (d : Due) → coming d ≡ cond (is_inline_expected d) 1 0
+coming_inline : (d : Expected) → coming d ≡ cond (is_inline_expected d) 1 0
 coming_inline expected.CommitOperation = refl
 coming_inline _ = refl
 
-arrived_within : (d : Due) (k : Known) (bytes : Bytes) → IsWithin (coming d) k → IsPaid d → IsWithin (owed d) (with_data (is_inline_expected d) bytes k)
+arrived_within : (d : Expected) (k : Known) (bytes : Bytes) → IsWithin (coming d) k → IsPaid d → IsWithin (owed d) (with_data (is_inline_expected d) bytes k)
 arrived_within d k bytes h free =
     let none = paid d free in
     let one = coming_inline d in

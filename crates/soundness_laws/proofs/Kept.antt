@@ -12,8 +12,8 @@ use Rattle.plain_model.specs.Paths.{Bytes}
 use Rattle.plain_model.specs.Soundness.{IsCommitOf, IsFormedSigned, RefersBack, has_id}
 use Rattle.plain_model.specs.Streams.{is_marked}
 use Rattle.plain_model.specs.Trees.{TreeOf, at}
-use Rattle.stream_grammar.specs.declared.lines.Due.{Due}
-use Rattle.stream_grammar.specs.declared.lines.Due.TheVariants as expected
+use Rattle.stream_grammar.specs.declared.lines.Expected.{Expected}
+use Rattle.stream_grammar.specs.declared.lines.Expected.TheVariants as expected
 use Rattle.stream_grammar.specs.Known.{Known, OpenCommit, Open, next_id, with_event, closed, closed_commit, with_data}
 use Rattle.stream_grammar.specs.Known.Open.{Nothing, ABlob, ACommit, ATag, AReset}
 use Rattle.stream_grammar.specs.Lines.{is_required, is_inline_expected}
@@ -52,12 +52,12 @@ abbrev pub awaited : List PlainEvent → List PlainEvent
 awaited events = with_event events (Blob (next_id events) 0 [])
 
 -- the blobs that operations may name: where bytes are due, theirs too
-abbrev pub seen_at : Due → List PlainEvent → List PlainEvent
+abbrev pub seen_at : Expected → List PlainEvent → List PlainEvent
 seen_at expected.InlineData events = awaited events
 seen_at _ events = events
 
 -- what a line that is due needs
-abbrev pub Needs : Due → List PlainEvent → Open → Type 0
+abbrev pub Needs : Expected → List PlainEvent → Open → Type 0
 Needs expected.Event events o = Unit {0}
 Needs expected.BlobMark events o = HasTarget events o
 Needs expected.BlobOid events o = HasTarget events o
@@ -80,13 +80,13 @@ Needs expected.ResetFrom events o = HasNoOps o
 Needs expected.ResetEnd events o = Unit {0}
 
 -- where a line is expected
-pub record IsReady (bound : ℕ) (d : Due) (events : List PlainEvent) (o : Open) : Type 0 where
+pub record IsReady (bound : ℕ) (d : Expected) (events : List PlainEvent) (o : Open) : Type 0 where
   pub so_far : AreWell bound events
   pub current : IsOpenWell bound events (seen_at d events) o
   pub needs : Needs d events o
 
 -- where a block lands
-abbrev pub Arrives : Due → Type 0
+abbrev pub Arrives : Expected → Type 0
 Arrives expected.Event = Unit {0}
 Arrives expected.CommitFrom = Unit {0}
 Arrives expected.CommitOperation = Unit {0}
@@ -97,23 +97,23 @@ seen_if true events = awaited events
 seen_if false events = events
 
 -- where a block is expected
-pub record IsAwaiting (bound : ℕ) (d : Due) (events : List PlainEvent) (o : Open) : Type 0 where
+pub record IsAwaiting (bound : ℕ) (d : Expected) (events : List PlainEvent) (o : Open) : Type 0 where
   pub so_far : AreWell bound events
   pub current : IsOpenWell bound events (seen_if (is_inline_expected d) events) o
   pub needs : Needs d events o
   pub target : HasTarget events o
   pub arrives : Arrives d
 
-abbrev pub ready : ℕ → Due → Known → Type 0
+abbrev pub ready : ℕ → Expected → Known → Type 0
 ready bound d k = IsReady bound d k.events k.current
 
-abbrev pub awaiting : ℕ → Due → Known → Type 0
+abbrev pub awaiting : ℕ → Expected → Known → Type 0
 awaiting bound d k = IsAwaiting bound d k.events k.current
 
 -- ---- the end of an event
 
 -- where an event can end, no bytes are due
-pub seen_same : (d : Due) (events : List PlainEvent) → is_required d ≡ false → seen_at d events ≡ events
+pub seen_same : (d : Expected) (events : List PlainEvent) → is_required d ≡ false → seen_at d events ≡ events
 seen_same expected.InlineData events e = absurd cc
 seen_same _ events e = refl
 
@@ -152,7 +152,7 @@ closed_well bound events (ATag name target tagger) h w = h
 closed_well bound events (AReset branch target) h w = well_more bound events (Reset (next_id events) branch target) h (refl, w.0, w.1)
 
 -- the events with the one that was read last
-pub ready_closed : (bound : ℕ) (d : Due) (k : Known) → ready bound d k → is_required d ≡ false → AreWell bound (closed k)
+pub ready_closed : (bound : ℕ) (d : Expected) (k : Known) → ready bound d k → is_required d ≡ false → AreWell bound (closed k)
 ready_closed bound d k h e = closed_well bound k.events k.current h.so_far (subst (λ (seen : List PlainEvent). IsOpenWell bound k.events seen k.current) (seen_same d k.events e) h.current)
 
 -- ---- a block
@@ -236,7 +236,7 @@ arrived_inline bound events (ATag name target tagger) bytes few h =
 arrived_inline bound events (AReset branch target) bytes few h = record { so_far = h.so_far; current = h.current; needs = tt }
 
 -- the block is there
-pub arrived_ready : (bound : ℕ) (d : Due) (k : Known) (bytes : Bytes) → awaiting bound d k → length bytes < bound → ready bound d (with_data (is_inline_expected d) bytes k)
+pub arrived_ready : (bound : ℕ) (d : Expected) (k : Known) (bytes : Bytes) → awaiting bound d k → length bytes < bound → ready bound d (with_data (is_inline_expected d) bytes k)
 arrived_ready bound expected.Event k bytes h few = arrived_between bound k.events k.current bytes few h
 arrived_ready bound expected.CommitFrom k bytes h few = arrived_comment bound k.events k.current bytes few h
 arrived_ready bound expected.CommitOperation k bytes h few = arrived_inline bound k.events k.current bytes few h

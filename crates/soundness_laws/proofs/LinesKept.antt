@@ -20,8 +20,8 @@ use Rattle.plain_model.specs.Streams.{commit_marked}
 use Rattle.plain_model.specs.Trees.{at}
 use Rattle.line_automaton.specs.Machine.{Next}
 use Rattle.line_automaton.specs.Machine.Next.{More, Block, Until, Over}
-use Rattle.stream_grammar.specs.declared.lines.Due.{Due}
-use Rattle.stream_grammar.specs.declared.lines.Due.TheVariants as expected
+use Rattle.stream_grammar.specs.declared.lines.Expected.{Expected}
+use Rattle.stream_grammar.specs.declared.lines.Expected.TheVariants as expected
 use Rattle.stream_grammar.specs.declared.lines.Follow.{Follow}
 use Rattle.stream_grammar.specs.declared.lines.Follow.TheVariants.{Goes, Missing, Finished}
 use Rattle.stream_grammar.specs.declared.lines.Follow.TheVariants as follow
@@ -57,7 +57,7 @@ starts word.Empty = true
 starts _ = false
 
 -- where such a word may follow, the event can end
-finished : (d : Due) (w : Word) → follows d w ≡ Finished → is_required d ≡ false
+finished : (d : Expected) (w : Word) → follows d w ≡ Finished → is_required d ≡ false
 finished expected.Event w e = refl
 finished expected.CommitFrom w e = refl
 finished expected.CommitMerge w e = refl
@@ -67,7 +67,7 @@ finished expected.ResetEnd w e = refl
 finished _ word.Blob e = absurd cc
 finished _ _ e = absurd cc
 
-never_goes : (d after : Due) (w : Word) → starts w ≡ true → follows d w ≡ Goes after → ⊥
+never_goes : (d after : Expected) (w : Word) → starts w ≡ true → follows d w ≡ Goes after → ⊥
 never_goes expected.Event after word.Blob st e = absurd cc
 never_goes _ after word.Blob st e = absurd cc
 never_goes _ after _ st e = absurd cc
@@ -83,20 +83,20 @@ start_ok w s new st e = go (follows s.expected w) refl e
     go follow.LeftOut is e = absurd cc
 
 -- P of where the stream stands then, if it goes on
-abbrev pub GoesWith : (Due → Type 0) → Follow → Type 0
+abbrev pub GoesWith : (Expected → Type 0) → Follow → Type 0
 GoesWith P (Goes after) = P after
 GoesWith P Missing = Unit {0}
 GoesWith P Finished = Unit {0}
 GoesWith P follow.LeftOut = Unit {0}
 
 -- any other word goes on
-pub goes_ok : (P : Due → Type 0) (w : Word) (s new : Standing) → ((t : Standing) → begun_by s w ≡ Ok t → ⊥) → gone_on s w (follows s.expected w) ≡ Ok new → GoesWith P (follows s.expected w) → P new.expected
+pub goes_ok : (P : Expected → Type 0) (w : Word) (s new : Standing) → ((t : Standing) → begun_by s w ≡ Ok t → ⊥) → gone_on s w (follows s.expected w) ≡ Ok new → GoesWith P (follows s.expected w) → P new.expected
 goes_ok P w s new inside e h = go (follows s.expected w) e h
   where
     go : (f : Follow) → gone_on s w f ≡ Ok new → GoesWith P f → P new.expected
     go (Goes after) e h = let is : after ≡ new.expected = ap (λ (r : Result Standing Why). or_defect_or r) e in subst P is h
       where
-        or_defect_or : Result Standing Why → Due
+        or_defect_or : Result Standing Why → Expected
         or_defect_or (Ok t) = t.expected
         or_defect_or (Err why) = after
     go Missing e h = absurd cc
@@ -127,13 +127,13 @@ ensured false why u e = absurd cc
 -- ---- lines, by their words
 
 -- what holds after a line
-abbrev pub AfterLine : ℕ → Next → Due → Known → Type 0
+abbrev pub AfterLine : ℕ → Next → Expected → Known → Type 0
 AfterLine bound More d k = ready bound d k
 AfterLine bound (Block n) d k = awaiting bound d k
 AfterLine bound (Until n) d k = awaiting bound d k
 AfterLine bound Over d k = AreWell bound (closed k)
 
-pub more_after : (bound : ℕ) (d : Due) (k : Known) (next : Next) → ready bound d k → ◌≡◌ {A = Result Next Why} (Ok More) (Ok next) → AfterLine bound next d k
+pub more_after : (bound : ℕ) (d : Expected) (k : Known) (next : Next) → ready bound d k → ◌≡◌ {A = Result Next Why} (Ok More) (Ok next) → AfterLine bound next d k
 more_after bound d k next h e = subst (λ (n : Next). AfterLine bound n d k) (same_Ok More next e) h
 
 module _ (bound : ℕ) (some_bytes : 0 < bound) (line : Bytes) (plain : has_no_lf line ≡ true) (k : Known) where
@@ -158,12 +158,12 @@ module _ (bound : ℕ) (some_bytes : 0 < bound) (line : Bytes) (plain : has_no_l
   pub pass_ready : AreWell bound (closed k) → is_passed_line line ≡ true → ready bound expected.Event (passed k line)
   pass_ready h fits = record { so_far = well_more bound (closed k) (Pass (next_id (closed k)) line) h (refl, fits); current = tt; needs = tt }
 
-  pub empty_ready : (d : Due) → ready bound d k → is_required d ≡ false → ready bound expected.Event k
+  pub empty_ready : (d : Expected) → ready bound d k → is_required d ≡ false → ready bound expected.Event k
   empty_ready d h e = record { so_far = h.so_far; current = subst (λ (seen : List PlainEvent). IsOpenWell bound k.events seen k.current) (seen_same d k.events e) h.current; needs = tt }
 
   -- ---- lines inside an event
 
-  pub mark_line : (m : ℕ) → MarkFits k.events m → (d : Due) → ready bound d k → GoesWith (λ after. ready bound after (changed k (with_mark m))) (follows d word.Mark)
+  pub mark_line : (m : ℕ) → MarkFits k.events m → (d : Expected) → ready bound d k → GoesWith (λ after. ready bound after (changed k (with_mark m))) (follows d word.Mark)
   mark_line m fits expected.BlobMark h = record { so_far = h.so_far; current = mark_kept bound k.events k.events m k.current fits h.current; needs = mark_target k.events m k.current h.needs }
   mark_line m fits expected.CommitMark h = record {
     so_far = h.so_far;
@@ -172,7 +172,7 @@ module _ (bound : ℕ) (some_bytes : 0 < bound) (line : Bytes) (plain : has_no_l
   }
   mark_line m fits _ h = tt
 
-  pub oid_line : (d : Due) → ready bound d k → GoesWith (λ after. ready bound after k) (follows d word.Oid)
+  pub oid_line : (d : Expected) → ready bound d k → GoesWith (λ after. ready bound after k) (follows d word.Oid)
   oid_line expected.BlobMark h = record { so_far = h.so_far; current = h.current; needs = h.needs }
   oid_line expected.BlobOid h = record { so_far = h.so_far; current = h.current; needs = h.needs }
   oid_line expected.CommitMark h = record { so_far = h.so_far; current = h.current; needs = h.needs }
@@ -187,7 +187,7 @@ module _ (bound : ℕ) (some_bytes : 0 < bound) (line : Bytes) (plain : has_no_l
   field_changed change kept same h w needs =
       (commit_changed bound k.events k.events change kept k.current w, (commit_target k.events change k.current needs.0, commit_no_ops change same k.current needs.1))
 
-  pub author_line : (who : Signed) → IsFormedSigned who → (d : Due) → ready bound d k → GoesWith (λ after. ready bound after (changed k (with_commit (λ c. record c { author = Some who })))) (follows d word.Author)
+  pub author_line : (who : Signed) → IsFormedSigned who → (d : Expected) → ready bound d k → GoesWith (λ after. ready bound after (changed k (with_commit (λ c. record c { author = Some who })))) (follows d word.Author)
   author_line who formed expected.CommitMark h =
       let x = field_changed (λ c. record c { author = Some who }) (authored_commit bound k.events k.events who formed) (λ c. refl) h.so_far h.current h.needs in record { so_far = h.so_far; current = x.0; needs = x.1 }
   author_line who formed expected.CommitOid h =
@@ -196,7 +196,7 @@ module _ (bound : ℕ) (some_bytes : 0 < bound) (line : Bytes) (plain : has_no_l
       let x = field_changed (λ c. record c { author = Some who }) (authored_commit bound k.events k.events who formed) (λ c. refl) h.so_far h.current h.needs in record { so_far = h.so_far; current = x.0; needs = x.1 }
   author_line who formed _ h = tt
 
-  pub committer_line : (who : Signed) → IsFormedSigned who → (d : Due) → ready bound d k → GoesWith (λ after. ready bound after (changed k (with_commit (λ c. record c { committer = Some who })))) (follows d word.Committer)
+  pub committer_line : (who : Signed) → IsFormedSigned who → (d : Expected) → ready bound d k → GoesWith (λ after. ready bound after (changed k (with_commit (λ c. record c { committer = Some who })))) (follows d word.Committer)
   committer_line who formed expected.CommitMark h =
       let x = field_changed (λ c. record c { committer = Some who }) (committed_commit bound k.events k.events who formed) (λ c. refl) h.so_far h.current h.needs in record { so_far = h.so_far; current = x.0; needs = x.1 }
   committer_line who formed expected.CommitOid h =
@@ -207,24 +207,24 @@ module _ (bound : ℕ) (some_bytes : 0 < bound) (line : Bytes) (plain : has_no_l
       let x = field_changed (λ c. record c { committer = Some who }) (committed_commit bound k.events k.events who formed) (λ c. refl) h.so_far h.current h.needs in record { so_far = h.so_far; current = x.0; needs = x.1 }
   committer_line who formed _ h = tt
 
-  pub encoding_line : (d : Due) → ready bound d k → GoesWith (λ after. ready bound after (changed k (with_commit (λ c. record c { encoding = Some (text_of line) })))) (follows d word.Encoding)
+  pub encoding_line : (d : Expected) → ready bound d k → GoesWith (λ after. ready bound after (changed k (with_commit (λ c. record c { encoding = Some (text_of line) })))) (follows d word.Encoding)
   encoding_line expected.CommitEncoding h =
       let x = field_changed (λ c. record c { encoding = Some (text_of line) }) (encoded_commit bound k.events k.events (text_of line) (plain_text line plain)) (λ c. refl) h.so_far h.current h.needs in
       record { so_far = h.so_far; current = x.0; needs = x.1 }
   encoding_line _ h = tt
 
-  pub tagger_line : (who : Signed) → IsFormedSigned who → (d : Due) → ready bound d k → GoesWith (λ after. ready bound after (changed k (with_tagger who))) (follows d word.Tagger)
+  pub tagger_line : (who : Signed) → IsFormedSigned who → (d : Expected) → ready bound d k → GoesWith (λ after. ready bound after (changed k (with_tagger who))) (follows d word.Tagger)
   tagger_line who formed expected.TagOid h = record { so_far = h.so_far; current = tagger_kept bound k.events k.events who formed k.current h.current; needs = tagger_target k.events who k.current h.needs }
   tagger_line who formed expected.TagTagger h = record { so_far = h.so_far; current = tagger_kept bound k.events k.events who formed k.current h.current; needs = tagger_target k.events who k.current h.needs }
   tagger_line who formed _ h = tt
 
-  pub from_line : (c : ℕ) → IsCommitOf k.events c → (d : Due) → ready bound d k → GoesWith (λ after. ready bound after (changed k (with_from c))) (follows d word.From)
+  pub from_line : (c : ℕ) → IsCommitOf k.events c → (d : Expected) → ready bound d k → GoesWith (λ after. ready bound after (changed k (with_from c))) (follows d word.From)
   from_line c there expected.CommitFrom h = record { so_far = h.so_far; current = from_kept bound k.events (have_trees bound k.events h.so_far) c k.current there h.needs.1 h.current; needs = from_target bound k.events (have_trees bound k.events h.so_far) c k.current there }
   from_line c there expected.TagFrom h = record { so_far = h.so_far; current = from_kept bound k.events (have_trees bound k.events h.so_far) c k.current there h.needs h.current; needs = from_target bound k.events (have_trees bound k.events h.so_far) c k.current there }
   from_line c there expected.ResetFrom h = record { so_far = h.so_far; current = from_kept bound k.events (have_trees bound k.events h.so_far) c k.current there h.needs h.current; needs = tt }
   from_line c there _ h = tt
 
-  pub merge_line : (c : ℕ) → IsCommitOf k.events c → limit_at word.Merge (changed k (with_commit (with_parent c))) ≡ None → (d : Due) → ready bound d k
+  pub merge_line : (c : ℕ) → IsCommitOf k.events c → limit_at word.Merge (changed k (with_commit (with_parent c))) ≡ None → (d : Expected) → ready bound d k
       → GoesWith (λ after. ready bound after (changed k (with_commit (with_parent c)))) (follows d word.Merge)
   merge_line c there limit expected.CommitFrom h = record {
     so_far = h.so_far;
@@ -270,13 +270,13 @@ module _ (bound : ℕ) (some_bytes : 0 < bound) (line : Bytes) (plain : has_no_l
       let x = operation_kept bound k.events (awaited k.events) refers_awaited 1 line k.current new inline_op e limit w target in
       subst (λ (l : List PlainEvent). IsReady bound expected.InlineData l new.current) (sym x.0) (record { so_far = h; current = x.1; needs = x.2 })
 
-  pub operation_line : word_of line ≡ word.Operation → (new : Known) → with_operation k line ≡ Ok new → op_limit 0 new ≡ None → (d : Due) → ready bound d k → GoesWith (λ after. ready bound after new) (follows d word.Operation)
+  pub operation_line : word_of line ≡ word.Operation → (new : Known) → with_operation k line ≡ Ok new → op_limit 0 new ≡ None → (d : Expected) → ready bound d k → GoesWith (λ after. ready bound after new) (follows d word.Operation)
   operation_line is new e limit expected.CommitFrom h = op_ready is new e limit h.so_far h.current h.needs.0
   operation_line is new e limit expected.CommitMerge h = op_ready is new e limit h.so_far h.current h.needs
   operation_line is new e limit expected.CommitOperation h = op_ready is new e limit h.so_far h.current h.needs
   operation_line is new e limit _ h = tt
 
-  pub inline_line : (new : Known) → with_operation k line ≡ Ok new → op_limit 1 new ≡ None → (d : Due) → ready bound d k → GoesWith (λ after. ready bound after new) (follows d word.InlineOperation)
+  pub inline_line : (new : Known) → with_operation k line ≡ Ok new → op_limit 1 new ≡ None → (d : Expected) → ready bound d k → GoesWith (λ after. ready bound after new) (follows d word.InlineOperation)
   inline_line new e limit expected.CommitFrom h = inline_ready new e limit h.so_far h.current h.needs.0
   inline_line new e limit expected.CommitMerge h = inline_ready new e limit h.so_far h.current h.needs
   inline_line new e limit expected.CommitOperation h = inline_ready new e limit h.so_far h.current h.needs
@@ -284,7 +284,7 @@ module _ (bound : ℕ) (some_bytes : 0 < bound) (line : Bytes) (plain : has_no_l
 
   -- ---- data
 
-  pub data_line : (d : Due) → ready bound d k → GoesWith (λ after. awaiting bound after k) (follows d word.Data)
+  pub data_line : (d : Expected) → ready bound d k → GoesWith (λ after. awaiting bound after k) (follows d word.Data)
   data_line expected.BlobMark h = record { so_far = h.so_far; current = h.current; needs = tt; target = h.needs; arrives = tt }
   data_line expected.BlobOid h = record { so_far = h.so_far; current = h.current; needs = tt; target = h.needs; arrives = tt }
   data_line expected.BlobData h = record { so_far = h.so_far; current = h.current; needs = tt; target = h.needs; arrives = tt }
@@ -296,7 +296,7 @@ module _ (bound : ℕ) (some_bytes : 0 < bound) (line : Bytes) (plain : has_no_l
   data_line expected.TagData h = record { so_far = h.so_far; current = h.current; needs = tt; target = h.needs; arrives = tt }
   data_line _ h = tt
 
-  pub data_after : (d : Due) (next : Next) → awaiting bound d k → next_of word.Data line ≡ Ok next → AfterLine bound next d k
+  pub data_after : (d : Expected) (next : Next) → awaiting bound d k → next_of word.Data line ≡ Ok next → AfterLine bound next d k
   data_after d next h e =
       let x = bind_ok (extent_in line) (λ extent. Ok (next_by extent)) next e in
       subst (λ (n : Next). AfterLine bound n d k) (same_Ok (next_by x.0) next x.2) (go x.0)

@@ -17,8 +17,8 @@ use Rattle.line_automaton.specs.Limits.{Cause, limited_step, within}
 use Rattle.line_automaton.specs.Machine.{Next, Outcome, outcome, all}
 use Rattle.line_automaton.specs.Machine.Next.{More, Block, Until, Over}
 use Rattle.line_automaton.specs.Machine.Outcome.{Reads, Refuses, Misses}
-use Rattle.stream_grammar.specs.declared.lines.Due.{Due}
-use Rattle.stream_grammar.specs.declared.lines.Due.TheVariants as expected
+use Rattle.stream_grammar.specs.declared.lines.Expected.{Expected}
+use Rattle.stream_grammar.specs.declared.lines.Expected.TheVariants as expected
 use Rattle.stream_grammar.specs.declared.lines.Standing.{Standing}
 use Rattle.stream_grammar.specs.declared.lines.Word.{Word}
 use Rattle.stream_grammar.specs.declared.lines.Word.TheVariants as word
@@ -45,7 +45,7 @@ module _ (bound : ℕ) (some_bytes : 0 < bound) (line : Bytes) (plain : has_no_l
       → limit_at w after ≡ None → AfterLine bound next new.expected after
 
   -- where a word that begins an event leads
-  stands_at : (s new : Standing) (d : Due) (wants : Bool) (k : Known) (next : Next) → ◌≡◌ {A = Result Standing Why} (Ok (record { expected = d; wants_done = wants })) (Ok new) → AfterLine bound next d k → AfterLine bound next new.expected k
+  stands_at : (s new : Standing) (d : Expected) (wants : Bool) (k : Known) (next : Next) → ◌≡◌ {A = Result Standing Why} (Ok (record { expected = d; wants_done = wants })) (Ok new) → AfterLine bound next d k → AfterLine bound next new.expected k
   stands_at s new d wants k next e h = subst (λ (t : Standing). AfterLine bound next t.expected k) (same_Ok (record { expected = d; wants_done = wants }) new e) h
 
   keeps_blob : Keeps word.Blob
@@ -178,7 +178,7 @@ module _ (bound : ℕ) (some_bytes : 0 < bound) (line : Bytes) (plain : has_no_l
   keeps_other : Keeps word.Other
   keeps_other s new k after next is h e f g limit = absurd (goes_ok (λ d. ⊥) word.Other s new (λ t x. absurd cc) e (never s.expected))
     where
-      never : (d : Due) → GoesWith (λ d. ⊥) (follows d word.Other)
+      never : (d : Expected) → GoesWith (λ d. ⊥) (follows d word.Other)
       never expected.Event = tt
       never _ = tt
 

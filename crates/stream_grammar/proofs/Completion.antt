@@ -8,8 +8,8 @@ use Rattle.line_automaton.specs.Machine.{outcome_from, none, Completes}
 use Rattle.line_automaton.specs.Machine.Mode.{InLine}
 use Rattle.line_automaton.specs.Machine.Machine.{At}
 use Rattle.line_automaton.specs.Machine.Outcome.{Reads}
-use Rattle.stream_grammar.specs.declared.lines.Due.{Due}
-use Rattle.stream_grammar.specs.declared.lines.Due.TheVariants as expected
+use Rattle.stream_grammar.specs.declared.lines.Expected.{Expected}
+use Rattle.stream_grammar.specs.declared.lines.Expected.TheVariants as expected
 use Rattle.stream_grammar.specs.Known.{Known}
 use Rattle.stream_grammar.specs.Lines.{State, stream}
 
@@ -20,7 +20,7 @@ abbrev no_data : Bytes
 no_data = lf (codes "data 0") ++ 10 ∷ []
 
 -- the lines that are due, with any fields
-abbrev misses : Due → Bytes
+abbrev misses : Expected → Bytes
 misses expected.Event = []
 misses expected.BlobMark = no_data
 misses expected.BlobOid = no_data
@@ -46,7 +46,7 @@ abbrev ending : Bool → Bytes
 ending true = lf (codes "done")
 ending false = []
 
-completes_at : (n : ℕ) (d : Due) (wants : Bool) (spelled : List Bytes) (known : Known)
+completes_at : (n : ℕ) (d : Expected) (wants : Bool) (spelled : List Bytes) (known : Known)
     → (last : State) × (outcome_from stream none (At n (InLine []) (record { standing = record { expected = d; wants_done = wants }; spelled = spelled; known = known })) (misses d ++ ending wants) ≡ Reads last)
 unfolding extent_in data_text number_of
 completes_at n expected.Event true spelled known = (_, refl)

@@ -16,8 +16,8 @@ use Rattle.plain_model.specs.Trees.{at}
 use Rattle.line_automaton.specs.Machine.{Next, Automaton, Outcome, outcome, all, Stops, EndsEarly}
 use Rattle.line_automaton.specs.Machine.Next.{More, Block, Until, Over}
 use Rattle.line_automaton.specs.Machine.Outcome.{Reads, Refuses, Misses}
-use Rattle.stream_grammar.specs.declared.lines.Due.{Due}
-use Rattle.stream_grammar.specs.declared.lines.Due.TheVariants as expected
+use Rattle.stream_grammar.specs.declared.lines.Expected.{Expected}
+use Rattle.stream_grammar.specs.declared.lines.Expected.TheVariants as expected
 use Rattle.stream_grammar.specs.declared.lines.Follow.{Follow}
 use Rattle.stream_grammar.specs.declared.lines.Follow.TheVariants.{Goes, Missing, Finished}
 use Rattle.stream_grammar.specs.declared.lines.Follow.TheVariants as follow
@@ -73,7 +73,7 @@ is_comment line = begins (codes "#") line
 
 -- ---- what may follow
 
-abbrev pub follows : Due → Word → Follow
+abbrev pub follows : Expected → Word → Follow
 follows expected.Event w = Finished
 follows expected.BlobMark word.Mark = Goes expected.BlobOid
 follows expected.BlobMark word.Oid = Goes expected.BlobData
@@ -137,7 +137,7 @@ follows expected.ResetFrom w = Finished
 follows expected.ResetEnd w = Finished
 
 -- the event can't end here
-abbrev pub is_required : Due → Bool
+abbrev pub is_required : Expected → Bool
 is_required expected.Event = false
 is_required expected.CommitFrom = false
 is_required expected.CommitMerge = false
@@ -297,7 +297,7 @@ abbrev pub line_step : Bool → State → Bytes → Result (State × Next) Why
 line_step judge s line = if is_comment line then Ok (s, More) else word_step judge s line (word_of line)
 
 -- the bytes after an operation's line, and not a comment, where the commit's operations have begun
-abbrev pub is_inline_expected : Due → Bool
+abbrev pub is_inline_expected : Expected → Bool
 is_inline_expected expected.CommitOperation = true
 is_inline_expected _ = false
 

@@ -10,21 +10,21 @@ ghost use Rattle.stream_grammar.specs.Lines.{
   must_go_on,
 };
 
-use crate::lines::{Due, Follow, Standing, Word};
+use crate::lines::{Expected, Follow, Standing, Word};
 use plain_model::Why;
 
-impl Due {
+impl Expected {
     /// The event lacks a line.
     pub fn is_required(self) -> bool
         ensures { result ≡ is_required self }
     {
         match self {
-            Due::Event
-            | Due::CommitFrom
-            | Due::CommitMerge
-            | Due::CommitOperation
-            | Due::ResetFrom
-            | Due::ResetEnd => false,
+            Expected::Event
+            | Expected::CommitFrom
+            | Expected::CommitMerge
+            | Expected::CommitOperation
+            | Expected::ResetFrom
+            | Expected::ResetEnd => false,
             _ => true,
         }
     }
@@ -34,102 +34,102 @@ impl Due {
         ensures { result ≡ follows self word }
     {
         match self {
-            Due::Event => Follow::Finished,
-            Due::BlobMark => match word {
-                Word::Mark => Follow::Goes(Due::BlobOid),
-                Word::Oid => Follow::Goes(Due::BlobData),
-                Word::Data => Follow::Goes(Due::Event),
+            Expected::Event => Follow::Finished,
+            Expected::BlobMark => match word {
+                Word::Mark => Follow::Goes(Expected::BlobOid),
+                Word::Oid => Follow::Goes(Expected::BlobData),
+                Word::Data => Follow::Goes(Expected::Event),
                 _ => Follow::Missing,
             },
-            Due::BlobOid => match word {
-                Word::Oid => Follow::Goes(Due::BlobData),
-                Word::Data => Follow::Goes(Due::Event),
+            Expected::BlobOid => match word {
+                Word::Oid => Follow::Goes(Expected::BlobData),
+                Word::Data => Follow::Goes(Expected::Event),
                 _ => Follow::Missing,
             },
-            Due::BlobData => match word {
-                Word::Data => Follow::Goes(Due::Event),
+            Expected::BlobData => match word {
+                Word::Data => Follow::Goes(Expected::Event),
                 _ => Follow::Missing,
             },
-            Due::CommitMark => match word {
-                Word::Mark => Follow::Goes(Due::CommitOid),
-                Word::Oid => Follow::Goes(Due::CommitAuthor),
-                Word::Author => Follow::Goes(Due::CommitCommitter),
-                Word::Committer => Follow::Goes(Due::CommitEncoding),
+            Expected::CommitMark => match word {
+                Word::Mark => Follow::Goes(Expected::CommitOid),
+                Word::Oid => Follow::Goes(Expected::CommitAuthor),
+                Word::Author => Follow::Goes(Expected::CommitCommitter),
+                Word::Committer => Follow::Goes(Expected::CommitEncoding),
                 _ => Follow::Missing,
             },
-            Due::CommitOid => match word {
-                Word::Oid => Follow::Goes(Due::CommitAuthor),
-                Word::Author => Follow::Goes(Due::CommitCommitter),
-                Word::Committer => Follow::Goes(Due::CommitEncoding),
+            Expected::CommitOid => match word {
+                Word::Oid => Follow::Goes(Expected::CommitAuthor),
+                Word::Author => Follow::Goes(Expected::CommitCommitter),
+                Word::Committer => Follow::Goes(Expected::CommitEncoding),
                 _ => Follow::Missing,
             },
-            Due::CommitAuthor => match word {
-                Word::Author => Follow::Goes(Due::CommitCommitter),
-                Word::Committer => Follow::Goes(Due::CommitEncoding),
+            Expected::CommitAuthor => match word {
+                Word::Author => Follow::Goes(Expected::CommitCommitter),
+                Word::Committer => Follow::Goes(Expected::CommitEncoding),
                 _ => Follow::Missing,
             },
-            Due::CommitCommitter => match word {
-                Word::Committer => Follow::Goes(Due::CommitEncoding),
+            Expected::CommitCommitter => match word {
+                Word::Committer => Follow::Goes(Expected::CommitEncoding),
                 _ => Follow::Missing,
             },
-            Due::CommitEncoding => match word {
-                Word::Encoding => Follow::Goes(Due::CommitData),
-                Word::Data => Follow::Goes(Due::CommitFrom),
+            Expected::CommitEncoding => match word {
+                Word::Encoding => Follow::Goes(Expected::CommitData),
+                Word::Data => Follow::Goes(Expected::CommitFrom),
                 _ => Follow::Missing,
             },
-            Due::CommitData => match word {
-                Word::Data => Follow::Goes(Due::CommitFrom),
+            Expected::CommitData => match word {
+                Word::Data => Follow::Goes(Expected::CommitFrom),
                 _ => Follow::Missing,
             },
-            Due::CommitFrom => match word {
-                Word::From | Word::Merge => Follow::Goes(Due::CommitMerge),
-                Word::Operation => Follow::Goes(Due::CommitOperation),
-                Word::InlineOperation => Follow::Goes(Due::InlineData),
+            Expected::CommitFrom => match word {
+                Word::From | Word::Merge => Follow::Goes(Expected::CommitMerge),
+                Word::Operation => Follow::Goes(Expected::CommitOperation),
+                Word::InlineOperation => Follow::Goes(Expected::InlineData),
                 _ => Follow::Finished,
             },
-            Due::CommitMerge => match word {
-                Word::Merge => Follow::Goes(Due::CommitMerge),
-                Word::Operation => Follow::Goes(Due::CommitOperation),
-                Word::InlineOperation => Follow::Goes(Due::InlineData),
+            Expected::CommitMerge => match word {
+                Word::Merge => Follow::Goes(Expected::CommitMerge),
+                Word::Operation => Follow::Goes(Expected::CommitOperation),
+                Word::InlineOperation => Follow::Goes(Expected::InlineData),
                 _ => Follow::Finished,
             },
-            Due::CommitOperation => match word {
-                Word::Operation => Follow::Goes(Due::CommitOperation),
-                Word::InlineOperation => Follow::Goes(Due::InlineData),
+            Expected::CommitOperation => match word {
+                Word::Operation => Follow::Goes(Expected::CommitOperation),
+                Word::InlineOperation => Follow::Goes(Expected::InlineData),
                 _ => Follow::Finished,
             },
-            Due::InlineData => match word {
-                Word::Data => Follow::Goes(Due::CommitOperation),
+            Expected::InlineData => match word {
+                Word::Data => Follow::Goes(Expected::CommitOperation),
                 _ => Follow::Missing,
             },
-            Due::TagFrom => match word {
-                Word::From => Follow::Goes(Due::TagOid),
+            Expected::TagFrom => match word {
+                Word::From => Follow::Goes(Expected::TagOid),
                 Word::Mark => Follow::LeftOut,
                 _ => Follow::Missing,
             },
-            Due::TagOid => match word {
-                Word::Oid => Follow::Goes(Due::TagTagger),
-                Word::Tagger => Follow::Goes(Due::TagData),
-                Word::Data => Follow::Goes(Due::Event),
+            Expected::TagOid => match word {
+                Word::Oid => Follow::Goes(Expected::TagTagger),
+                Word::Tagger => Follow::Goes(Expected::TagData),
+                Word::Data => Follow::Goes(Expected::Event),
                 Word::Mark => Follow::LeftOut,
                 _ => Follow::Missing,
             },
-            Due::TagTagger => match word {
-                Word::Tagger => Follow::Goes(Due::TagData),
-                Word::Data => Follow::Goes(Due::Event),
+            Expected::TagTagger => match word {
+                Word::Tagger => Follow::Goes(Expected::TagData),
+                Word::Data => Follow::Goes(Expected::Event),
                 Word::Mark => Follow::LeftOut,
                 _ => Follow::Missing,
             },
-            Due::TagData => match word {
-                Word::Data => Follow::Goes(Due::Event),
+            Expected::TagData => match word {
+                Word::Data => Follow::Goes(Expected::Event),
                 Word::Mark => Follow::LeftOut,
                 _ => Follow::Missing,
             },
-            Due::ResetFrom => match word {
-                Word::From => Follow::Goes(Due::ResetEnd),
+            Expected::ResetFrom => match word {
+                Word::From => Follow::Goes(Expected::ResetEnd),
                 _ => Follow::Finished,
             },
-            Due::ResetEnd => Follow::Finished,
+            Expected::ResetEnd => Follow::Finished,
         }
     }
 }
@@ -140,11 +140,11 @@ impl Standing {
         ensures { result ≡ begun_by self word }
     {
         let expected = match word {
-            Word::Blob => Due::BlobMark,
-            Word::Commit => Due::CommitMark,
-            Word::Tag => Due::TagFrom,
-            Word::Reset => Due::ResetFrom,
-            Word::Pass | Word::Empty | Word::FeatureDone | Word::Done => Due::Event,
+            Word::Blob => Expected::BlobMark,
+            Word::Commit => Expected::CommitMark,
+            Word::Tag => Expected::TagFrom,
+            Word::Reset => Expected::ResetFrom,
+            Word::Pass | Word::Empty | Word::FeatureDone | Word::Done => Expected::Event,
             _ => return Err(Why::UnknownLine),
         };
         let wants_done = match word {
@@ -174,7 +174,7 @@ impl Standing {
     pub fn is_inline(self) -> bool
         ensures { result ≡ is_inline_expected self.expected }
     {
-        self.expected == Due::CommitOperation
+        self.expected == Expected::CommitOperation
     }
 
     /// A stream can't end here.

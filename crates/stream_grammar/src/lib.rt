@@ -13,7 +13,7 @@ pub use laws::{
     limits_refuse_nothing_else, what_is_clean_is_spelled, what_is_no_history_has_a_first_defect,
 };
 pub use limits::limit_number;
-pub use lines::{Due, Follow, Standing, Word};
+pub use lines::{Expected, Follow, Standing, Word};
 pub use words::{is_comment, text_of};
 pub use worked::{
     ends_come_early, fields_have_first_defects, forms_have_first_defects, streams_have_histories,

@@ -36,7 +36,7 @@ pub enum Word {
 
 /// Which lines of an event were read, so which are expected next.
 #[derive(Clone, Copy, Debug, PartialEq, Eq)]
-pub enum Due {
+pub enum Expected {
     /// Between events.
     Event,
     BlobMark,
@@ -64,7 +64,7 @@ pub enum Due {
 /// Where a stream stands between two lines.
 #[derive(Clone, Copy, Debug, PartialEq, Eq)]
 pub struct Standing {
-    pub expected: Due,
+    pub expected: Expected,
     /// A line `done` was promised, and hasn't come.
     pub wants_done: bool,
 }
@@ -73,7 +73,7 @@ pub struct Standing {
 #[derive(Clone, Copy, Debug, PartialEq, Eq)]
 pub enum Follow {
     /// It goes on in the event, where this is expected next.
-    Goes(Due),
+    Goes(Expected),
     /// Another line is expected.
     Missing,
     /// The event is over, or there was none: the line stands between events.

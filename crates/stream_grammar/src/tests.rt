@@ -1,5 +1,5 @@
 //! One answer of each call.
-use crate::{Due, Follow, Standing, Word, is_comment, text_of};
+use crate::{Expected, Follow, Standing, Word, is_comment, text_of};
 use plain_model::Why;
 use std::test::*;
 
@@ -15,18 +15,18 @@ fn lines_have_words(rt: HostRuntime) {
 #[test]
 fn a_stream_goes_on_or_stops(rt: HostRuntime) {
     let start = Standing {
-        expected: Due::Event,
+        expected: Expected::Event,
         wants_done: false,
     };
     assert!(rt;
         start.after(Word::Blob)
             == Ok(Standing {
-                expected: Due::BlobMark,
+                expected: Expected::BlobMark,
                 wants_done: false
             })
     );
     assert!(rt; start.after(Word::Data) == Err(Why::UnknownLine));
     assert!(rt; !start.must_go_on());
-    assert!(rt; Due::TagFrom.follow(Word::Mark) == Follow::LeftOut);
-    assert!(rt; Due::InlineData.is_required());
+    assert!(rt; Expected::TagFrom.follow(Word::Mark) == Follow::LeftOut);
+    assert!(rt; Expected::InlineData.is_required());
 }

@@ -12,7 +12,7 @@ use crate::keeping::KeepsEvents;
 use plain_model::Why;
 use std::alloc::Global;
 use stream_fields::{Cursor, count_line_ends};
-use stream_grammar::{Due, Standing, Word, is_comment, limit_number};
+use stream_grammar::{Expected, Standing, Word, is_comment, limit_number};
 
 /// What was reached after a line.
 #[derive(Clone, Copy, Debug)]
@@ -123,7 +123,7 @@ pub fn read_lines<K: KeepsEvents>(
     let lines = count_lines(text);
     let mut cursor = Cursor::new(text);
     let mut standing = Standing {
-        expected: Due::Event,
+        expected: Expected::Event,
         wants_done: false,
     };
     for _ in 0..lines {
