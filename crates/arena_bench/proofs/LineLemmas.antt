@@ -54,10 +54,10 @@ OneFile o = (entry : Entry) × (o ≡ Some ((codes "f", entry) ∷ []))
 
 nodes-append : (xs ys : List PlainEvent) → nodes (xs ++ ys) ≡ nodes xs ++ nodes ys
 nodes-append [] ys = refl
-nodes-append (plain.Commit id mark branch author committer encoding comment parents ops ∷ xs) ys =
+nodes-append (plain.Commit id mark branch author committer encoding comment parents ops aliases ∷ xs) ys =
     ap (λ ns. record { id = id; parents = parents; ops = ops } ∷ ns) (nodes-append xs ys)
 nodes-append (plain.Blob id mark bytes ∷ xs) ys = nodes-append xs ys
-nodes-append (plain.Tag id name target tagger comment ∷ xs) ys = nodes-append xs ys
+nodes-append (plain.Tag id name target tagger comment mark ∷ xs) ys = nodes-append xs ys
 nodes-append (plain.Reset id branch target ∷ xs) ys = nodes-append xs ys
 nodes-append (plain.Pass id line ∷ xs) ys = nodes-append xs ys
 

@@ -44,10 +44,10 @@ falling k (e ∷ es) a = go e a.0 (falling (suc k) es a.1)
 
     go : (x : PlainEvent) → id_number (id_of x) ≡ k → AreFalling (suc k) (length es + suc k) (past es) → AreFalling k (suc (length es) + k) (past (x ∷ es))
     go (Blob id mark bytes) is h = lower k (suc (length es) + k) (past es) (next h)
-    go (Tag id name target tagger comment) is h = lower k (suc (length es) + k) (past es) (next h)
+    go (Tag id name target tagger comment mark) is h = lower k (suc (length es) + k) (past es) (next h)
     go (Reset id branch target) is h = lower k (suc (length es) + k) (past es) (next h)
     go (Pass id line) is h = lower k (suc (length es) + k) (past es) (next h)
-    go (Commit id mark branch author committer encoding comment parents ops) is h =
+    go (Commit id mark branch author committer encoding comment parents ops aliases) is h =
         subst (λ (l : Past). AreFalling k (suc (length es) + k) l) (sym (reverse-append (record { id = id; parents = parents; ops = ops } ∷ []) (nodes es)))
         (oldest k (suc (length es) + k) (past es) (record { id = id; parents = parents; ops = ops }) (next h) is (omega arith))
 

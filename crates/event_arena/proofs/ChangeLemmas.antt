@@ -38,12 +38,12 @@ pub id-with_field : (f : Field) (e : PlainEvent) → id_of (with_field f e) ≡ 
 id-with_field (field.Parents new) e = parents new e
   where
     parents : (new : List ℕ) (e : PlainEvent) → id_of (with_parents new e) ≡ id_of e
-    parents new (plain.Commit id mark branch author committer encoding comment ps ops) = refl
+    parents new (plain.Commit id mark branch author committer encoding comment ps ops aliases) = refl
     parents new _ = refl
 id-with_field (field.Ops new) e = ops new e
   where
     ops : (new : List FileOp) (e : PlainEvent) → id_of (with_ops new e) ≡ id_of e
-    ops new (plain.Commit id mark branch author committer encoding comment ps os) = refl
+    ops new (plain.Commit id mark branch author committer encoding comment ps os aliases) = refl
     ops new _ = refl
 id-with_field (field.Mark new) e = mark new e
   where
@@ -53,19 +53,19 @@ id-with_field (field.Mark new) e = mark new e
 id-with_field (field.Target new) e = target new e
   where
     target : (new : ℕ) (e : PlainEvent) → id_of (with_target new e) ≡ id_of e
-    target new (plain.Tag id name t tagger comment) = refl
+    target new (plain.Tag id name t tagger comment mark) = refl
     target new _ = refl
 id-with_field (field.Comment new) e = comment new e
   where
     comment : (new : List ℕ) (e : PlainEvent) → id_of (with_comment new e) ≡ id_of e
-    comment new (plain.Tag id name target tagger c) = refl
+    comment new (plain.Tag id name target tagger c mark) = refl
     comment new _ = refl
 id-with_field (field.Signed role new) e = signed role new e
   where
     signed : (role : Role) (new : Signed) (e : PlainEvent) → id_of (with_signed role new e) ≡ id_of e
-    signed Author new (plain.Commit id mark branch author committer encoding comment ps ops) = refl
-    signed Committer new (plain.Commit id mark branch author committer encoding comment ps ops) = refl
-    signed Tagger new (plain.Tag id name target tagger comment) = refl
+    signed Author new (plain.Commit id mark branch author committer encoding comment ps ops aliases) = refl
+    signed Committer new (plain.Commit id mark branch author committer encoding comment ps ops aliases) = refl
+    signed Tagger new (plain.Tag id name target tagger comment mark) = refl
     signed _ new _ = refl
 
 -- ---- lists of ids

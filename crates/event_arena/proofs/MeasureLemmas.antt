@@ -34,13 +34,13 @@ need-part es k e h =
 
 -- parents are among what an event refers to
 parents-referents : (e : PlainEvent) → length (event_parents e) ≤ length (referents_of e)
-parents-referents (plain.Commit id mark branch author committer encoding comment parents ops) = rw length-append (rw (mapped parents) (omega arith))
+parents-referents (plain.Commit id mark branch author committer encoding comment parents ops aliases) = rw length-append (rw (mapped parents) (omega arith))
   where
     mapped : (ps : List ℕ) → length (map any.Commit ps) ≡ length ps
     mapped [] = refl
     mapped (p ∷ ps) = ap suc (mapped ps)
 parents-referents (plain.Blob id mark bytes) = omega arith
-parents-referents (plain.Tag id name target tagger comment) = omega arith
+parents-referents (plain.Tag id name target tagger comment mark) = omega arith
 parents-referents (plain.Reset id branch target) = omega arith
 parents-referents (plain.Pass id line) = omega arith
 

@@ -39,8 +39,8 @@ or_true false = refl
 
 has_id-cons : (e : PlainEvent) (es : List PlainEvent) (id : AnyId) → has_id (e ∷ es) id ≡ same_id id (id_of e) || has_id es id
 has_id-cons (plain.Blob i mark bytes) es (any.Blob b) = ap (λ t. t || has_id es (any.Blob b)) (turned i b)
-has_id-cons (plain.Commit i mark branch author committer encoding comment parents ops) es (any.Commit c) = ap (λ t. t || has_id es (any.Commit c)) (turned i c)
-has_id-cons (plain.Tag i name target tagger comment) es (any.Tag t) = ap (λ b. b || has_id es (any.Tag t)) (turned i t)
+has_id-cons (plain.Commit i mark branch author committer encoding comment parents ops aliases) es (any.Commit c) = ap (λ t. t || has_id es (any.Commit c)) (turned i c)
+has_id-cons (plain.Tag i name target tagger comment mark) es (any.Tag t) = ap (λ b. b || has_id es (any.Tag t)) (turned i t)
 has_id-cons (plain.Reset i branch target) es (any.Reset r) = ap (λ t. t || has_id es (any.Reset r)) (turned i r)
 has_id-cons (plain.Pass i line) es (any.Pass p) = ap (λ t. t || has_id es (any.Pass p)) (turned i p)
 has_id-cons _ es _ = refl
@@ -61,8 +61,8 @@ has_id-append (x ∷ xs) ys id =
 
 event-new : (earlier : List PlainEvent) (e : PlainEvent) → IsSoundEvent earlier e → has_id earlier (id_of e) ≡ false
 event-new earlier (plain.Blob id mark bytes) h = h.0
-event-new earlier (plain.Commit id mark branch author committer encoding comment parents ops) h = h.0
-event-new earlier (plain.Tag id name target tagger comment) h = h.0
+event-new earlier (plain.Commit id mark branch author committer encoding comment parents ops aliases) h = h.0
+event-new earlier (plain.Tag id name target tagger comment mark) h = h.0
 event-new earlier (plain.Reset id branch target) h = h.0
 event-new earlier (plain.Pass id line) h = h.0
 
@@ -87,8 +87,8 @@ distinct earlier (e ∷ es) h = (apart (earlier ++ e ∷ []) es h.1 (id_of e) ow
 
 is_marked-cons : (e : PlainEvent) (es : List PlainEvent) (m : ℕ) → is_marked (e ∷ es) m ≡ is_marked (e ∷ []) m || is_marked es m
 is_marked-cons (plain.Blob id mark bytes) es m = or_assoc (eqb mark m) false (is_marked es m)
-is_marked-cons (plain.Commit id mark branch author committer encoding comment parents ops) es m = or_assoc (eqb mark m) false (is_marked es m)
-is_marked-cons (plain.Tag id name target tagger comment) es m = refl
+is_marked-cons (plain.Commit id mark branch author committer encoding comment parents ops aliases) es m = or_assoc (eqb mark m) false (is_marked es m)
+is_marked-cons (plain.Tag id name target tagger comment mark) es m = refl
 is_marked-cons (plain.Reset id branch target) es m = refl
 is_marked-cons (plain.Pass id line) es m = refl
 
@@ -113,8 +113,8 @@ other-mark earlier mark m id new there = elim (cases_Bool (eqb m mark)) [
 
 event-other : (earlier : List PlainEvent) (e : PlainEvent) → IsSoundEvent earlier e → (m : ℕ) → is_marked earlier m ≡ true → lookup (λ n. eqb m n) (own_mark e) ≡ None
 event-other earlier (plain.Blob id mark bytes) h m there = other-mark earlier mark m (any.Blob id) h.1 there
-event-other earlier (plain.Commit id mark branch author committer encoding comment parents ops) h m there = other-mark earlier mark m (any.Commit id) h.1 there
-event-other earlier (plain.Tag id name target tagger comment) h m there = refl
+event-other earlier (plain.Commit id mark branch author committer encoding comment parents ops aliases) h m there = other-mark earlier mark m (any.Commit id) h.1 there
+event-other earlier (plain.Tag id name target tagger comment mark) h m there = refl
 event-other earlier (plain.Reset id branch target) h m there = refl
 event-other earlier (plain.Pass id line) h m there = refl
 
@@ -133,10 +133,10 @@ marked-once earlier [] h = tt
 marked-once earlier (plain.Blob id mark bytes ∷ es) h =
     let e = plain.Blob id mark bytes in
     (unmarked (earlier ++ e ∷ []) es h.1 mark (own-marked earlier e mark (ap (λ b. b || false) (self mark))), marked-once (earlier ++ e ∷ []) es h.1)
-marked-once earlier (plain.Commit id mark branch author committer encoding comment parents ops ∷ es) h =
-    let e = plain.Commit id mark branch author committer encoding comment parents ops in
+marked-once earlier (plain.Commit id mark branch author committer encoding comment parents ops aliases ∷ es) h =
+    let e = plain.Commit id mark branch author committer encoding comment parents ops aliases in
     (unmarked (earlier ++ e ∷ []) es h.1 mark (own-marked earlier e mark (ap (λ b. b || false) (self mark))), marked-once (earlier ++ e ∷ []) es h.1)
-marked-once earlier (plain.Tag id name target tagger comment ∷ es) h = marked-once (earlier ++ plain.Tag id name target tagger comment ∷ []) es h.1
+marked-once earlier (plain.Tag id name target tagger comment mark ∷ es) h = marked-once (earlier ++ plain.Tag id name target tagger comment mark ∷ []) es h.1
 marked-once earlier (plain.Reset id branch target ∷ es) h = marked-once (earlier ++ plain.Reset id branch target ∷ []) es h.1
 marked-once earlier (plain.Pass id line ∷ es) h = marked-once (earlier ++ plain.Pass id line ∷ []) es h.1
 
@@ -147,9 +147,9 @@ parents-once earlier [] h = tt
 parents-once earlier (e ∷ es) h = (once e h.0, parents-once (earlier ++ e ∷ []) es h.1)
   where
     once : (e : PlainEvent) → IsSoundEvent earlier e → are_distinct (event_parents e) ≡ true
-    once (plain.Commit id mark branch author committer encoding comment parents ops) h = h.7
+    once (plain.Commit id mark branch author committer encoding comment parents ops aliases) h = h.7
     once (plain.Blob id mark bytes) h = refl
-    once (plain.Tag id name target tagger comment) h = refl
+    once (plain.Tag id name target tagger comment mark) h = refl
     once (plain.Reset id branch target) h = refl
     once (plain.Pass id line) h = refl
 
@@ -162,9 +162,9 @@ not-among earlier c absent (p ∷ ps) h = elim (cases_Bool (eqb p c)) [
 ]
 
 no-child : (earlier : List PlainEvent) (c : ℕ) → has_id earlier (any.Commit c) ≡ false → (e : PlainEvent) → IsSoundEvent earlier e → own_child c e ≡ []
-no-child earlier c absent (plain.Commit id mark branch author committer encoding comment parents ops) h = rw (not-among earlier c absent parents h.6) refl
+no-child earlier c absent (plain.Commit id mark branch author committer encoding comment parents ops aliases) h = rw (not-among earlier c absent parents h.6) refl
 no-child earlier c absent (plain.Blob id mark bytes) h = refl
-no-child earlier c absent (plain.Tag id name target tagger comment) h = refl
+no-child earlier c absent (plain.Tag id name target tagger comment mark) h = refl
 no-child earlier c absent (plain.Reset id branch target) h = refl
 no-child earlier c absent (plain.Pass id line) h = refl
 
@@ -204,8 +204,8 @@ placeless (e ∷ es) id h = elim (cases_Bool (same_id id (id_of e))) [
 -- a commit that isn't there is nobody's child
 no_child : (c n : ℕ) (es : List PlainEvent) → find_event (any.Commit n) es ≡ None → list_any (λ m. eqb m n) (children_of c es) ≡ false
 no_child c n [] h = refl
-no_child c n (plain.Commit id mark branch author committer encoding comment parents ops ∷ es) h =
-    let e = plain.Commit id mark branch author committer encoding comment parents ops in
+no_child c n (plain.Commit id mark branch author committer encoding comment parents ops aliases ∷ es) h =
+    let e = plain.Commit id mark branch author committer encoding comment parents ops aliases in
     let rest = absent-cons (any.Commit n) e es h in
     let later = no_child c n es rest.1 in
     elim (cases_Bool (list_any (λ p. eqb p c) parents)) [
@@ -213,20 +213,20 @@ no_child c n (plain.Commit id mark branch author committer encoding comment pare
       | inr no_it ↦ rw no_it later
     ]
 no_child c n (plain.Blob id mark bytes ∷ es) h = no_child c n es h
-no_child c n (plain.Tag id name target tagger comment ∷ es) h = no_child c n es h
+no_child c n (plain.Tag id name target tagger comment mark ∷ es) h = no_child c n es h
 no_child c n (plain.Reset id branch target ∷ es) h = no_child c n es h
 no_child c n (plain.Pass id line ∷ es) h = no_child c n es h
 
 -- each child stands once
 pub children-once : (c : ℕ) (es : List PlainEvent) → AreDistinct es → are_distinct (children_of c es) ≡ true
 children-once c [] h = refl
-children-once c (plain.Commit id mark branch author committer encoding comment parents ops ∷ es) h =
+children-once c (plain.Commit id mark branch author committer encoding comment parents ops aliases ∷ es) h =
     let later = children-once c es h.1 in
     elim (cases_Bool (list_any (λ p. eqb p c) parents)) [
       | inl it ↦ rw it (rw (no_child c id es h.0) later)
       | inr no_it ↦ rw no_it later
     ]
 children-once c (plain.Blob id mark bytes ∷ es) h = children-once c es h.1
-children-once c (plain.Tag id name target tagger comment ∷ es) h = children-once c es h.1
+children-once c (plain.Tag id name target tagger comment mark ∷ es) h = children-once c es h.1
 children-once c (plain.Reset id branch target ∷ es) h = children-once c es h.1
 children-once c (plain.Pass id line ∷ es) h = children-once c es h.1

@@ -52,37 +52,37 @@ changed id change (e ∷ events) = if same_id id (id_of e) then change e ∷ eve
 
 -- a commit with other parents
 abbrev pub with_parents : List ℕ → PlainEvent → PlainEvent
-with_parents new (Commit id mark branch author committer encoding comment parents ops) = Commit id mark branch author committer encoding comment new ops
+with_parents new (Commit id mark branch author committer encoding comment parents ops aliases) = Commit id mark branch author committer encoding comment new ops aliases
 with_parents new other = other
 
 -- a commit with other operations
 abbrev pub with_ops : List FileOp → PlainEvent → PlainEvent
-with_ops new (Commit id mark branch author committer encoding comment parents ops) = Commit id mark branch author committer encoding comment parents new
+with_ops new (Commit id mark branch author committer encoding comment parents ops aliases) = Commit id mark branch author committer encoding comment parents new aliases
 with_ops new other = other
 
 -- a blob or a commit with another mark
 abbrev pub with_mark : ℕ → PlainEvent → PlainEvent
 with_mark new (Blob id mark bytes) = Blob id new bytes
-with_mark new (Commit id mark branch author committer encoding comment parents ops) = Commit id new branch author committer encoding comment parents ops
+with_mark new (Commit id mark branch author committer encoding comment parents ops aliases) = Commit id new branch author committer encoding comment parents ops aliases
 with_mark new other = other
 
 -- a tag or a reset of another commit
 abbrev pub with_target : ℕ → PlainEvent → PlainEvent
-with_target new (Tag id name target tagger comment) = Tag id name new tagger comment
+with_target new (Tag id name target tagger comment mark) = Tag id name new tagger comment mark
 with_target new (Reset id branch target) = Reset id branch (Some new)
 with_target new other = other
 
 -- a commit or a tag with another comment
 abbrev pub with_comment : Bytes → PlainEvent → PlainEvent
-with_comment new (Commit id mark branch author committer encoding comment parents ops) = Commit id mark branch author committer encoding new parents ops
-with_comment new (Tag id name target tagger comment) = Tag id name target tagger new
+with_comment new (Commit id mark branch author committer encoding comment parents ops aliases) = Commit id mark branch author committer encoding new parents ops aliases
+with_comment new (Tag id name target tagger comment mark) = Tag id name target tagger new mark
 with_comment new other = other
 
 -- a commit with another author or committer, a tag with another tagger
 abbrev pub with_signed : Role → Signed → PlainEvent → PlainEvent
-with_signed Author new (Commit id mark branch author committer encoding comment parents ops) = Commit id mark branch new committer encoding comment parents ops
-with_signed Committer new (Commit id mark branch author committer encoding comment parents ops) = Commit id mark branch author new encoding comment parents ops
-with_signed Tagger new (Tag id name target tagger comment) = Tag id name target (Some new) comment
+with_signed Author new (Commit id mark branch author committer encoding comment parents ops aliases) = Commit id mark branch new committer encoding comment parents ops aliases
+with_signed Committer new (Commit id mark branch author committer encoding comment parents ops aliases) = Commit id mark branch author new encoding comment parents ops aliases
+with_signed Tagger new (Tag id name target tagger comment mark) = Tag id name target (Some new) comment mark
 with_signed role new other = other
 
 -- an event with a value in a field

@@ -12,10 +12,10 @@ signed seconds = record { person = record { name = codes "A"; email = codes "e" 
 
 -- a commit with its number as its mark
 abbrev pub commit : ℕ → List ℕ → PlainEvent
-commit n parents = Commit n n (codes "main") (signed n) (signed n) None (codes "why") parents []
+commit n parents = Commit n n (codes "main") (signed n) (signed n) None (codes "why") parents [] []
 
 abbrev pub tag : ℕ → ℕ → PlainEvent
-tag n target = Tag n (codes "v1") target None (codes "tagged")
+tag n target = Tag n (codes "v1") target None (codes "tagged") None
 
 abbrev pub reset : PlainEvent
 reset = Reset 7 (codes "side") (Some 4)

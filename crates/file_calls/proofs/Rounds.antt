@@ -9,7 +9,8 @@ use Rattle.plain_model.specs.declared.status.Status.{Status}
 use Rattle.plain_model.specs.declared.status.Status.TheVariants as status
 use Rattle.script_reader.specs.declared.script.ScriptItem.{ScriptItem}
 use Rattle.history_machine.proofs.Runs.{done_more, refused_ends, breaks_here}
-use Rattle.surgeon_store.specs.Outside.{StoreState, SinkState, Rose}
+use Rattle.plain_model.specs.Counts.{Rose}
+use Rattle.surgeon_store.specs.Outside.{StoreState, SinkState}
 use Rattle.file_calls.specs.Calls.{world, world_of, Later, Carries, Refuses, Turns, CausedEnd, NoFaults}
 use Rattle.surgeon_store.specs.Outside.{Puts, PutsSome}
 

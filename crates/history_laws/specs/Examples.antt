@@ -29,7 +29,7 @@ someone_at seconds = record {
 
 -- a commit on master
 abbrev pub commit : ℕ → ℕ → ℕ → Bytes → List ℕ → List FileOp → PlainEvent
-commit id mark seconds comment parents ops = Commit id mark master (someone_at seconds) (someone_at seconds) None comment parents ops
+commit id mark seconds comment parents ops = Commit id mark master (someone_at seconds) (someone_at seconds) None comment parents ops []
 
 -- the blob with the id comes to a path
 abbrev pub put : ℕ → Bytes → FileOp

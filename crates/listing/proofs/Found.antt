@@ -45,9 +45,9 @@ right_fails false b h = h
 
 has_id-cons : (e : PlainEvent) (es : List PlainEvent) (id : AnyId) → has_id (e ∷ es) id ≡ same_id id (id_of e) || has_id es id
 has_id-cons (plain.Blob i mark bytes) es (any.Blob b) = ap (λ t. t || has_id es (any.Blob b)) (turned i b)
-has_id-cons (plain.Commit i mark branch author committer encoding comment parents ops) es (any.Commit c) =
+has_id-cons (plain.Commit i mark branch author committer encoding comment parents ops aliases) es (any.Commit c) =
     ap (λ t. t || has_id es (any.Commit c)) (turned i c)
-has_id-cons (plain.Tag i name target tagger comment) es (any.Tag t) = ap (λ b. b || has_id es (any.Tag t)) (turned i t)
+has_id-cons (plain.Tag i name target tagger comment mark) es (any.Tag t) = ap (λ b. b || has_id es (any.Tag t)) (turned i t)
 has_id-cons (plain.Reset i branch target) es (any.Reset r) = ap (λ t. t || has_id es (any.Reset r)) (turned i r)
 has_id-cons (plain.Pass i line) es (any.Pass p) = ap (λ t. t || has_id es (any.Pass p)) (turned i p)
 has_id-cons _ es _ = refl
@@ -60,8 +60,8 @@ has_id-append (x ∷ xs) ys id =
 
 new_id : (earlier : List PlainEvent) (e : PlainEvent) → IsSoundEvent earlier e → has_id earlier (id_of e) ≡ false
 new_id earlier (plain.Blob id mark bytes) h = h.0
-new_id earlier (plain.Commit id mark branch author committer encoding comment parents ops) h = h.0
-new_id earlier (plain.Tag id name target tagger comment) h = h.0
+new_id earlier (plain.Commit id mark branch author committer encoding comment parents ops aliases) h = h.0
+new_id earlier (plain.Tag id name target tagger comment mark) h = h.0
 new_id earlier (plain.Reset id branch target) h = h.0
 new_id earlier (plain.Pass id line) h = h.0
 
@@ -98,8 +98,8 @@ dated_tagger None h = tt
 
 dated_event : (earlier : List PlainEvent) (e : PlainEvent) → IsSoundEvent earlier e → IsDated e
 dated_event earlier (plain.Blob id mark bytes) h = tt
-dated_event earlier (plain.Commit id mark branch author committer encoding comment parents ops) h = h.4.1
-dated_event earlier (plain.Tag id name target tagger comment) h = dated_tagger tagger h.3
+dated_event earlier (plain.Commit id mark branch author committer encoding comment parents ops aliases) h = h.4.1
+dated_event earlier (plain.Tag id name target tagger comment mark) h = dated_tagger tagger h.3
 dated_event earlier (plain.Reset id branch target) h = tt
 dated_event earlier (plain.Pass id line) h = tt
 
@@ -115,12 +115,12 @@ dated earlier (e ∷ es) id h = elim (cases_Bool (same_id id (id_of e))) [
 pub mark_found : (events : List PlainEvent) (c : ℕ)
     → commit_mark events c ≡ unwrap_or (option_map own_commit_mark (find_event (any.Commit c) events)) 0
 mark_found [] c = refl
-mark_found (plain.Commit id mark branch author committer encoding comment parents ops ∷ es) c = elim (cases_Bool (eqb c id)) [
+mark_found (plain.Commit id mark branch author committer encoding comment parents ops aliases ∷ es) c = elim (cases_Bool (eqb c id)) [
   | inl it ↦ rw (turned id c, it) refl
   | inr no_it ↦ rw (turned id c, no_it) (mark_found es c)
 ]
 mark_found (plain.Blob id mark bytes ∷ es) c = mark_found es c
-mark_found (plain.Tag id name target tagger comment ∷ es) c = mark_found es c
+mark_found (plain.Tag id name target tagger comment mark ∷ es) c = mark_found es c
 mark_found (plain.Reset id branch target ∷ es) c = mark_found es c
 mark_found (plain.Pass id line ∷ es) c = mark_found es c
 

@@ -80,8 +80,8 @@ padded count into new few is =
 noted : (tips : TreeOf ℕ) (e : PlainEvent) (events : List PlainEvent)
     → refs_after tips (e ∷ events) ≡ refs_after (refs_after tips (e ∷ [])) events
 noted tips (Blob id mark bytes) events = refl
-noted tips (Commit id mark branch author committer encoding comment parents ops) events = refl
-noted tips (Tag id name target tagger comment) events = refl
+noted tips (Commit id mark branch author committer encoding comment parents ops aliases) events = refl
+noted tips (Tag id name target tagger comment mark) events = refl
 noted tips (Reset id branch (Some c)) events = refl
 noted tips (Reset id branch None) events = refl
 noted tips (Pass id bytes) events = refl

@@ -6,16 +6,16 @@ use Rattle.plain_model.specs.declared.event.PlainEvent.TheVariants.{Blob, Commit
 
 -- the dates that are printed are no greater than the greatest
 abbrev pub IsDated : PlainEvent → Type 0
-IsDated (Commit id mark branch author committer encoding comment parents ops) = committer.when.seconds ≤ MAX_SECONDS
-IsDated (Tag id name target tagger comment) = IfSome tagger (λ t. t.when.seconds ≤ MAX_SECONDS)
+IsDated (Commit id mark branch author committer encoding comment parents ops aliases) = committer.when.seconds ≤ MAX_SECONDS
+IsDated (Tag id name target tagger comment mark) = IfSome tagger (λ t. t.when.seconds ≤ MAX_SECONDS)
 IsDated (Blob id mark bytes) = Unit {0}
 IsDated (Reset id branch target) = Unit {0}
 IsDated (Pass id line) = Unit {0}
 
 -- the mark of a commit; of other events 0
 abbrev pub own_commit_mark : PlainEvent → ℕ
-own_commit_mark (Commit id mark branch author committer encoding comment parents ops) = mark
+own_commit_mark (Commit id mark branch author committer encoding comment parents ops aliases) = mark
 own_commit_mark (Blob id mark bytes) = 0
-own_commit_mark (Tag id name target tagger comment) = 0
+own_commit_mark (Tag id name target tagger comment mark) = 0
 own_commit_mark (Reset id branch target) = 0
 own_commit_mark (Pass id line) = 0

@@ -36,10 +36,10 @@ target_text whole None = codes "-"
 
 -- a commit with the date of its committer, or a tag; other events have no line
 abbrev pub list_line : ℕ → PlainEvent → Bytes
-list_line n (Commit id mark branch author committer encoding comment parents ops) =
+list_line n (Commit id mark branch author committer encoding comment parents ops aliases) =
     line (number_text n ++ codes " " ++ date_text committer.when.seconds ++ codes " " ++ marked mark
     ++ codes " " ++ first_line comment)
-list_line n (Tag id name target tagger comment) =
+list_line n (Tag id name target tagger comment mark) =
     line (number_text n ++ codes " " ++ tagged_text tagger ++ codes " " ++ name ++ codes " " ++ first_line comment)
 list_line n (Blob id mark bytes) = []
 list_line n (Reset id branch target) = []
@@ -48,9 +48,9 @@ list_line n (Pass id bytes) = []
 -- an event's kind and what it is known by
 abbrev pub index_words : List PlainEvent → PlainEvent → Bytes
 index_words whole (Blob id mark bytes) = codes "blob " ++ marked mark
-index_words whole (Commit id mark branch author committer encoding comment parents ops) =
+index_words whole (Commit id mark branch author committer encoding comment parents ops aliases) =
     codes "commit " ++ marked mark ++ codes " " ++ branch
-index_words whole (Tag id name target tagger comment) = codes "tag " ++ marked (commit_mark whole target) ++ codes " " ++ name
+index_words whole (Tag id name target tagger comment mark) = codes "tag " ++ marked (commit_mark whole target) ++ codes " " ++ name
 index_words whole (Reset id branch target) = codes "reset " ++ target_text whole target ++ codes " " ++ branch
 index_words whole (Pass id bytes) = codes "passthrough " ++ bytes
 
@@ -59,9 +59,9 @@ index_line whole n e = line (number_text n ++ codes " " ++ index_words whole e)
 
 -- a tag and the mark of its target; other events have no line
 abbrev pub tag_line : List PlainEvent → PlainEvent → Bytes
-tag_line whole (Tag id name target tagger comment) = line (codes "tag " ++ name ++ codes " " ++ marked (commit_mark whole target))
+tag_line whole (Tag id name target tagger comment mark) = line (codes "tag " ++ name ++ codes " " ++ marked (commit_mark whole target))
 tag_line whole (Blob id mark bytes) = []
-tag_line whole (Commit id mark branch author committer encoding comment parents ops) = []
+tag_line whole (Commit id mark branch author committer encoding comment parents ops aliases) = []
 tag_line whole (Reset id branch target) = []
 tag_line whole (Pass id bytes) = []
 

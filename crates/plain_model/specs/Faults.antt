@@ -31,6 +31,7 @@ which_text limit.LineBytes = codes "LineBytes"
 which_text limit.Events = codes "Events"
 which_text limit.Operations = codes "Operations"
 which_text limit.Parents = codes "Parents"
+which_text limit.Aliases = codes "Aliases"
 which_text limit.Paths = codes "Paths"
 which_text limit.PathBytes = codes "PathBytes"
 which_text limit.NameBytes = codes "NameBytes"
@@ -83,9 +84,15 @@ fault_text (fault.NameTaken name) = codes "59 NameTaken" ++ text_field (codes "n
 fault_text (fault.Limit which number) = codes "60 Limit" ++ text_field (codes "which") (which_text which) ++ number_field (codes "number") number
 fault_text fault.MarksSpent = codes "61 MarksSpent"
 fault_text (fault.NameAssigned name) = codes "62 NameAssigned" ++ text_field (codes "name") name
+fault_text (fault.PathCollision mark op path) = codes "63 PathCollision" ++ mark_field mark ++ number_field (codes "op") op ++ text_field (codes "path") path
+fault_text (fault.StillConnected mark) = codes "64 StillConnected" ++ mark_field mark
+fault_text (fault.ChildCount mark found) = codes "65 ChildCount" ++ mark_field mark ++ number_field (codes "found") found
+fault_text (fault.NotAdjacent mark) = codes "66 NotAdjacent" ++ mark_field mark
+fault_text (fault.MomentRange event) = codes "67 MomentRange" ++ number_field (codes "event") event
 fault_text (fault.BadMessage line) = codes "70 BadMessage" ++ number_field (codes "line") line
 fault_text (fault.NoSuchTarget line) = codes "71 NoSuchTarget" ++ number_field (codes "line") line
 fault_text (fault.CheckText line) = codes "72 CheckText" ++ number_field (codes "line") line
+fault_text (fault.BadAuthors line) = codes "73 BadAuthors" ++ number_field (codes "line") line
 
 -- the line that is printed where the command of a script's line is refused
 unfoldable pub refusal : ℕ → Fault → List ℕ

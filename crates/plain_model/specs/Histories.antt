@@ -15,9 +15,9 @@ pub record Node : Type 0 where
 -- the commits, in order
 abbrev pub nodes : List PlainEvent → List Node
 nodes [] = []
-nodes (Commit id mark branch author committer encoding comment parents ops ∷ events) = record { id = id; parents = parents; ops = ops } ∷ nodes events
+nodes (Commit id mark branch author committer encoding comment parents ops aliases ∷ events) = record { id = id; parents = parents; ops = ops } ∷ nodes events
 nodes (Blob id mark bytes ∷ events) = nodes events
-nodes (Tag id name target tagger comment ∷ events) = nodes events
+nodes (Tag id name target tagger comment mark ∷ events) = nodes events
 nodes (Reset id branch target ∷ events) = nodes events
 nodes (Pass id line ∷ events) = nodes events
 

@@ -1,5 +1,5 @@
 -- What is looked up in a list of events: by id, by number and by mark; whose child a commit is; what an event refers to. (own)
-use Rattle.std.specs.Prelude.{ℕ, suc, ◌+◌, ◌-◌, ◌<◌, Bool, false, ◌==◌, List, [], ◌∷◌, ◌++◌, Option, Some, None, IsSome, option_map, if◌then◌else◌, flat_map, map, max, slice_get}
+use Rattle.std.specs.Prelude.{ℕ, suc, ◌+◌, ◌-◌, ◌<◌, Bool, false, ◌==◌, List, [], ◌∷◌, ◌++◌, Option, Some, None, IsSome, option_map, option_to_list, unwrap_or, if◌then◌else◌, flat_map, map, max, slice_get}
 use Rattle.std.specs.List.{fold, list_any}
 use Rattle.std.specs.Map.{lookup}
 use Rattle.plain_model.specs.declared.limit.TheConstants.{MAX_MARK}
@@ -15,8 +15,8 @@ use Rattle.plain_model.specs.declared.event.PlainEvent.TheVariants.{Blob, Commit
 
 abbrev pub id_of : PlainEvent → AnyId
 id_of (Blob id mark bytes) = any.Blob id
-id_of (Commit id mark branch author committer encoding comment parents ops) = any.Commit id
-id_of (Tag id name target tagger comment) = any.Tag id
+id_of (Commit id mark branch author committer encoding comment parents ops aliases) = any.Commit id
+id_of (Tag id name target tagger comment mark) = any.Tag id
 id_of (Reset id branch target) = any.Reset id
 id_of (Pass id line) = any.Pass id
 
@@ -70,33 +70,41 @@ event_at n events = if n == 0 then None else option_map id_of (slice_get events 
 
 -- ---- marks
 
--- the mark of a blob or a commit, with its id
-abbrev pub own_mark : PlainEvent → List (ℕ × AnyId)
-own_mark (Blob id mark bytes) = (mark, any.Blob id) ∷ []
-own_mark (Commit id mark branch author committer encoding comment parents ops) = (mark, any.Commit id) ∷ []
-own_mark (Tag id name target tagger comment) = []
-own_mark (Reset id branch target) = []
-own_mark (Pass id line) = []
+-- the marks of an event: a commit's own and then its aliases; that of a tag, if it has one
+abbrev pub event_marks : PlainEvent → List ℕ
+event_marks (Blob id mark bytes) = mark ∷ []
+event_marks (Commit id mark branch author committer encoding comment parents ops aliases) = mark ∷ aliases
+event_marks (Tag id name target tagger comment mark) = option_to_list mark
+event_marks (Reset id branch target) = []
+event_marks (Pass id line) = []
 
--- the marks, each with the id of the event that has it
+-- the same, each with the event's id
+abbrev pub own_marks : PlainEvent → List (ℕ × AnyId)
+own_marks e = map (λ mark. (mark, id_of e)) (event_marks e)
+
+-- all marks, each with the id of the event that has it
 abbrev pub marks_of : List PlainEvent → List (ℕ × AnyId)
-marks_of events = flat_map own_mark events
+marks_of events = flat_map own_marks events
 
 -- the id of the event with the mark
 abbrev pub find_mark : ℕ → List PlainEvent → Option AnyId
 find_mark mark events = lookup (λ m. mark == m) (marks_of events)
 
--- the mark of a blob or a commit, or 0
-abbrev pub mark_number : PlainEvent → ℕ
-mark_number (Blob id mark bytes) = mark
-mark_number (Commit id mark branch author committer encoding comment parents ops) = mark
-mark_number (Tag id name target tagger comment) = 0
-mark_number (Reset id branch target) = 0
-mark_number (Pass id line) = 0
+-- the greatest of some marks and a number
+abbrev pub greatest_of : ℕ → List ℕ → ℕ
+greatest_of n marks = fold max n marks
 
--- the greatest mark, or 0
+-- the greatest mark of an event, or 0
+abbrev pub top_mark : PlainEvent → ℕ
+top_mark (Blob id mark bytes) = mark
+top_mark (Commit id mark branch author committer encoding comment parents ops aliases) = greatest_of mark aliases
+top_mark (Tag id name target tagger comment mark) = unwrap_or mark 0
+top_mark (Reset id branch target) = 0
+top_mark (Pass id line) = 0
+
+-- the greatest mark of all, or 0
 abbrev pub greatest_mark : List PlainEvent → ℕ
-greatest_mark events = fold (λ n e. max n (mark_number e)) 0 events
+greatest_mark events = fold (λ n e. max n (top_mark e)) 0 events
 
 -- one above the greatest mark, if that is a mark
 abbrev pub next_mark : List PlainEvent → Option ℕ
@@ -106,17 +114,17 @@ next_mark events = if greatest_mark events == MAX_MARK then None else Some (grea
 
 -- the parents of a commit
 abbrev pub event_parents : PlainEvent → List ℕ
-event_parents (Commit id mark branch author committer encoding comment parents ops) = parents
+event_parents (Commit id mark branch author committer encoding comment parents ops aliases) = parents
 event_parents (Blob id mark bytes) = []
-event_parents (Tag id name target tagger comment) = []
+event_parents (Tag id name target tagger comment mark) = []
 event_parents (Reset id branch target) = []
 event_parents (Pass id line) = []
 
 -- the event, if it is a commit that has c among its parents
 abbrev pub own_child : ℕ → PlainEvent → List ℕ
-own_child c (Commit id mark branch author committer encoding comment parents ops) = if list_any (λ p. p == c) parents then id ∷ [] else []
+own_child c (Commit id mark branch author committer encoding comment parents ops aliases) = if list_any (λ p. p == c) parents then id ∷ [] else []
 own_child c (Blob id mark bytes) = []
-own_child c (Tag id name target tagger comment) = []
+own_child c (Tag id name target tagger comment mark) = []
 own_child c (Reset id branch target) = []
 own_child c (Pass id line) = []
 
@@ -135,8 +143,8 @@ op_blobs DeleteAll = []
 
 -- what an event refers to: parents, the blobs that operations name, and the target of a tag or a reset
 abbrev pub referents_of : PlainEvent → List AnyId
-referents_of (Commit id mark branch author committer encoding comment parents ops) = map any.Commit parents ++ flat_map op_blobs ops
-referents_of (Tag id name target tagger comment) = any.Commit target ∷ []
+referents_of (Commit id mark branch author committer encoding comment parents ops aliases) = map any.Commit parents ++ flat_map op_blobs ops
+referents_of (Tag id name target tagger comment mark) = any.Commit target ∷ []
 referents_of (Reset id branch (Some target)) = any.Commit target ∷ []
 referents_of (Reset id branch None) = []
 referents_of (Blob id mark bytes) = []

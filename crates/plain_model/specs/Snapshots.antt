@@ -23,8 +23,8 @@ pub record Shown : Type 0 where
 abbrev pub blob_bytes : List PlainEvent → ℕ → Bytes
 blob_bytes [] b = []
 blob_bytes (Blob id mark bytes ∷ events) b = if id == b then bytes else blob_bytes events b
-blob_bytes (Commit id mark branch author committer encoding comment parents ops ∷ events) b = blob_bytes events b
-blob_bytes (Tag id name target tagger comment ∷ events) b = blob_bytes events b
+blob_bytes (Commit id mark branch author committer encoding comment parents ops aliases ∷ events) b = blob_bytes events b
+blob_bytes (Tag id name target tagger comment mark ∷ events) b = blob_bytes events b
 blob_bytes (Reset id branch target ∷ events) b = blob_bytes events b
 blob_bytes (Pass id line ∷ events) b = blob_bytes events b
 
@@ -45,20 +45,20 @@ shown_tree events c = option_map (map_tree (shown events)) (tree events c)
 
 abbrev pub commit_mark : List PlainEvent → ℕ → ℕ
 commit_mark [] c = 0
-commit_mark (Commit id mark branch author committer encoding comment parents ops ∷ events) c = if id == c then mark else commit_mark events c
+commit_mark (Commit id mark branch author committer encoding comment parents ops aliases ∷ events) c = if id == c then mark else commit_mark events c
 commit_mark (Blob id mark bytes ∷ events) c = commit_mark events c
-commit_mark (Tag id name target tagger comment ∷ events) c = commit_mark events c
+commit_mark (Tag id name target tagger comment mark ∷ events) c = commit_mark events c
 commit_mark (Reset id branch target ∷ events) c = commit_mark events c
 commit_mark (Pass id line ∷ events) c = commit_mark events c
 
 -- the branches after the events, from where they stood before
 abbrev pub refs_after : TreeOf ℕ → List PlainEvent → TreeOf ℕ
 refs_after tips [] = tips
-refs_after tips (Commit id mark branch author committer encoding comment parents ops ∷ events) = refs_after (put branch id tips) events
+refs_after tips (Commit id mark branch author committer encoding comment parents ops aliases ∷ events) = refs_after (put branch id tips) events
 refs_after tips (Reset id branch (Some c) ∷ events) = refs_after (put branch c tips) events
 refs_after tips (Reset id branch None ∷ events) = refs_after (where_path (λ b. not (bytes_eq branch b)) tips) events
 refs_after tips (Blob id mark bytes ∷ events) = refs_after tips events
-refs_after tips (Tag id name target tagger comment ∷ events) = refs_after tips events
+refs_after tips (Tag id name target tagger comment mark ∷ events) = refs_after tips events
 refs_after tips (Pass id line ∷ events) = refs_after tips events
 
 -- each branch with the commit on which it stands
@@ -74,12 +74,14 @@ pub record ShownCommit : Type 0 where
   pub comment : Bytes
   pub parents : List ℕ
   pub tree : Option (TreeOf Shown)
+  pub aliases : List ℕ
 
 pub record ShownTag : Type 0 where
   pub name : Bytes
   pub target : ℕ
   pub tagger : Option Signed
   pub comment : Bytes
+  pub mark : Option ℕ
 
 pub record Snapshot : Type 0 where
   pub commits : List ShownCommit
@@ -89,7 +91,7 @@ pub record Snapshot : Type 0 where
 -- the commits of a part of a history
 abbrev pub shown_commits : List PlainEvent → List PlainEvent → List ShownCommit
 shown_commits whole [] = []
-shown_commits whole (Commit id mark branch author committer encoding comment parents ops ∷ events) =
+shown_commits whole (Commit id mark branch author committer encoding comment parents ops aliases ∷ events) =
     record {
       mark = mark;
       branch = branch;
@@ -99,16 +101,18 @@ shown_commits whole (Commit id mark branch author committer encoding comment par
       comment = comment;
       parents = map (commit_mark whole) parents;
       tree = shown_tree whole id;
+      aliases = aliases;
     } ∷ shown_commits whole events
 shown_commits whole (Blob id mark bytes ∷ events) = shown_commits whole events
-shown_commits whole (Tag id name target tagger comment ∷ events) = shown_commits whole events
+shown_commits whole (Tag id name target tagger comment mark ∷ events) = shown_commits whole events
 shown_commits whole (Reset id branch target ∷ events) = shown_commits whole events
 shown_commits whole (Pass id line ∷ events) = shown_commits whole events
 
 abbrev pub shown_tags : List PlainEvent → List PlainEvent → List ShownTag
 shown_tags whole [] = []
-shown_tags whole (Tag id name target tagger comment ∷ events) = record { name = name; target = commit_mark whole target; tagger = tagger; comment = comment } ∷ shown_tags whole events
-shown_tags whole (Commit id mark branch author committer encoding comment parents ops ∷ events) = shown_tags whole events
+shown_tags whole (Tag id name target tagger comment mark ∷ events) =
+    record { name = name; target = commit_mark whole target; tagger = tagger; comment = comment; mark = mark } ∷ shown_tags whole events
+shown_tags whole (Commit id mark branch author committer encoding comment parents ops aliases ∷ events) = shown_tags whole events
 shown_tags whole (Blob id mark bytes ∷ events) = shown_tags whole events
 shown_tags whole (Reset id branch target ∷ events) = shown_tags whole events
 shown_tags whole (Pass id line ∷ events) = shown_tags whole events

@@ -28,8 +28,8 @@ use Rattle.plain_model.specs.Streams.{is_marked}
 abbrev pub has_id : List PlainEvent → AnyId → Bool
 has_id [] wanted = false
 has_id (Blob id mark bytes ∷ events) (any.Blob b) = (id == b) || has_id events (any.Blob b)
-has_id (Commit id mark branch author committer encoding comment parents ops ∷ events) (any.Commit c) = (id == c) || has_id events (any.Commit c)
-has_id (Tag id name target tagger comment ∷ events) (any.Tag t) = (id == t) || has_id events (any.Tag t)
+has_id (Commit id mark branch author committer encoding comment parents ops aliases ∷ events) (any.Commit c) = (id == c) || has_id events (any.Commit c)
+has_id (Tag id name target tagger comment mark ∷ events) (any.Tag t) = (id == t) || has_id events (any.Tag t)
 has_id (Reset id branch target ∷ events) (any.Reset r) = (id == r) || has_id events (any.Reset r)
 has_id (Pass id line ∷ events) (any.Pass p) = (id == p) || has_id events (any.Pass p)
 has_id (e ∷ events) other = has_id events other
@@ -82,12 +82,12 @@ IsFormedOp (Copy source target) = IsPath source × IsPath target
 IsFormedOp (Rename source target) = IsPath source × IsPath target
 IsFormedOp DeleteAll = Unit {0}
 
--- a mark is a mark, and each operation is formed
+-- each mark is a mark, and each operation is formed
 abbrev pub IsFormedEvent : PlainEvent → Type 0
 IsFormedEvent (Blob id mark bytes) = IsMark mark
-IsFormedEvent (Commit id mark branch author committer encoding comment parents ops) =
-    IsMark mark × AllByRecursion IsFormedOp ops
-IsFormedEvent (Tag id name target tagger comment) = Unit {0}
+IsFormedEvent (Commit id mark branch author committer encoding comment parents ops aliases) =
+    IsMark mark × AllByRecursion IsFormedOp ops × AllByRecursion IsMark aliases
+IsFormedEvent (Tag id name target tagger comment mark) = IfSome mark IsMark
 IsFormedEvent (Reset id branch target) = Unit {0}
 IsFormedEvent (Pass id line) = Unit {0}
 
@@ -95,13 +95,15 @@ IsFormedEvent (Pass id line) = Unit {0}
 
 abbrev pub IsSoundEvent : List PlainEvent → PlainEvent → Type 0
 IsSoundEvent earlier (Blob id mark bytes) = IsFalse (has_id earlier (any.Blob id)) × IsFalse (is_marked earlier mark)
-IsSoundEvent earlier (Commit id mark branch author committer encoding comment parents ops) =
+IsSoundEvent earlier (Commit id mark branch author committer encoding comment parents ops aliases) =
     IsFalse (has_id earlier (any.Commit id)) × IsFalse (is_marked earlier mark) × IsTrue (is_name branch)
     × IsFormedSigned author × IsFormedSigned committer × IfSome encoding (λ e. IsTrue (has_no_lf e))
     × AllByRecursion (IsCommitOf earlier) parents × IsTrue (are_distinct parents) × (length parents ≤ MAX_PARENTS)
     × AllByRecursion (RefersBack earlier) ops
-IsSoundEvent earlier (Tag id name target tagger comment) =
+    × AllByRecursion (λ a. IsFalse (is_marked earlier a)) aliases × IsTrue (are_distinct (mark ∷ aliases))
+IsSoundEvent earlier (Tag id name target tagger comment mark) =
     IsFalse (has_id earlier (any.Tag id)) × IsTrue (is_name name) × IsCommitOf earlier target × IfSome tagger IsFormedSigned
+    × IfSome mark (λ m. IsFalse (is_marked earlier m))
 IsSoundEvent earlier (Reset id branch target) =
     IsFalse (has_id earlier (any.Reset id)) × IsTrue (is_name branch) × IfSome target (IsCommitOf earlier)
 IsSoundEvent earlier (Pass id line) = IsFalse (has_id earlier (any.Pass id)) × IsTrue (is_passed_line line)

@@ -92,8 +92,8 @@ module _ (whole : List PlainEvent) where
   abbrev pub blob_mark_in : List PlainEvent → ℕ → ℕ
   blob_mark_in [] b = 0
   blob_mark_in (Blob id mark bytes ∷ events) b = if id == b then mark else blob_mark_in events b
-  blob_mark_in (Commit id mark branch author committer encoding comment parents ops ∷ events) b = blob_mark_in events b
-  blob_mark_in (Tag id name target tagger comment ∷ events) b = blob_mark_in events b
+  blob_mark_in (Commit id mark branch author committer encoding comment parents ops aliases ∷ events) b = blob_mark_in events b
+  blob_mark_in (Tag id name target tagger comment mark ∷ events) b = blob_mark_in events b
   blob_mark_in (Reset id branch target ∷ events) b = blob_mark_in events b
   blob_mark_in (Pass id bytes ∷ events) b = blob_mark_in events b
 
@@ -116,6 +116,14 @@ module _ (whole : List PlainEvent) where
   parents_text [] = []
   parents_text (p ∷ ps) = line (codes "from " ++ marked (commit_mark whole p)) ++ flat_map (λ q. line (codes "merge " ++ marked (commit_mark whole q))) ps
 
+  -- a further mark of the commit with the mark
+  abbrev pub alias_text : ℕ → ℕ → Bytes
+  alias_text mark alias = line (codes "alias") ++ line (codes "mark " ++ marked alias) ++ line (codes "to " ++ marked mark)
+
+  abbrev pub mark_text : Option ℕ → Bytes
+  mark_text None = []
+  mark_text (Some mark) = line (codes "mark " ++ marked mark)
+
   abbrev pub encoding_text : Option Bytes → Bytes
   encoding_text None = []
   encoding_text (Some e) = line (codes "encoding " ++ e)
@@ -136,13 +144,13 @@ module _ (whole : List PlainEvent) where
   -- an event, where the branches stand so
   abbrev pub event_text : TreeOf ℕ → PlainEvent → Bytes
   event_text tips (Blob id mark bytes) = line (codes "blob") ++ line (codes "mark " ++ marked mark) ++ data_block bytes
-  event_text tips (Commit id mark branch author committer encoding comment parents ops) =
+  event_text tips (Commit id mark branch author committer encoding comment parents ops aliases) =
       reset_text tips branch parents
       ++ line (codes "commit " ++ branch) ++ line (codes "mark " ++ marked mark)
       ++ line (codes "author " ++ person author) ++ line (codes "committer " ++ person committer)
       ++ encoding_text encoding ++ data_block comment ++ parents_text parents
-      ++ flat_map op_text ops ++ line []
-  event_text tips (Tag id name target tagger comment) = line (codes "tag " ++ name) ++ target_text (Some target) ++ tagger_text tagger ++ data_block comment
+      ++ flat_map op_text ops ++ line [] ++ flat_map (alias_text mark) aliases
+  event_text tips (Tag id name target tagger comment mark) = line (codes "tag " ++ name) ++ mark_text mark ++ target_text (Some target) ++ tagger_text tagger ++ data_block comment
   event_text tips (Reset id branch target) = line (codes "reset " ++ branch) ++ target_text target
   event_text tips (Pass id bytes) = line bytes
 
@@ -154,8 +162,8 @@ module _ (whole : List PlainEvent) where
 abbrev pub is_feature_done : PlainEvent → Bool
 is_feature_done (Pass id bytes) = bytes_eq bytes (codes "feature done")
 is_feature_done (Blob id mark bytes) = false
-is_feature_done (Commit id mark branch author committer encoding comment parents ops) = false
-is_feature_done (Tag id name target tagger comment) = false
+is_feature_done (Commit id mark branch author committer encoding comment parents ops aliases) = false
+is_feature_done (Tag id name target tagger comment mark) = false
 is_feature_done (Reset id branch target) = false
 
 -- the line that ends a stream which promised one

@@ -8,6 +8,9 @@ use crate::operation::OpList;
 use crate::person::Signed;
 use std::alloc::Global;
 
+/// Marks, in order.
+pub type MarkList = Items<Mark>;
+
 /// The parents of a commit, the first parent first.
 pub type ParentList = Items<CommitId>;
 
@@ -31,6 +34,8 @@ pub enum PlainEvent {
         comment: Text,
         parents: ParentList,
         ops: OpList,
+        /// Its further marks. (git-fast-import, `alias`.)
+        aliases: MarkList,
     },
     /// An annotated tag of a commit.
     Tag {
@@ -39,6 +44,7 @@ pub enum PlainEvent {
         target: CommitId,
         tagger: Option<Signed>,
         comment: Text,
+        mark: Option<Mark>,
     },
     /// A branch that is set to a commit, or removed.
     Reset {
@@ -91,6 +97,7 @@ impl Copied for PlainEvent {
                 comment,
                 parents,
                 ops,
+                aliases,
             } => Ok(PlainEvent::Commit {
                 id: *id,
                 mark: *mark,
@@ -101,6 +108,7 @@ impl Copied for PlainEvent {
                 comment: comment.copied(alloc)?,
                 parents: parents.copied(alloc)?,
                 ops: ops.copied(alloc)?,
+                aliases: aliases.copied(alloc)?,
             }),
             PlainEvent::Tag {
                 id,
@@ -108,12 +116,14 @@ impl Copied for PlainEvent {
                 target,
                 tagger,
                 comment,
+                mark,
             } => Ok(PlainEvent::Tag {
                 id: *id,
                 name: name.copied(alloc)?,
                 target: *target,
                 tagger: tagger.copied(alloc)?,
                 comment: comment.copied(alloc)?,
+                mark: *mark,
             }),
             PlainEvent::Reset { id, branch, target } => Ok(PlainEvent::Reset {
                 id: *id,

@@ -42,6 +42,7 @@ pub enum Which {
     Events,
     Operations,
     Parents,
+    Aliases,
     Paths,
     PathBytes,
     NameBytes,
@@ -86,9 +87,15 @@ pub enum Fault {
     Limit { which: Which, number: u64 },
     MarksSpent,
     NameAssigned { name: Text },
+    PathCollision { mark: Mark, op: u64, path: Text },
+    StillConnected { mark: Mark },
+    ChildCount { mark: Mark, found: u64 },
+    NotAdjacent { mark: Mark },
+    MomentRange { event: u64 },
     BadMessage { line: u64 },
     NoSuchTarget { line: u64 },
     CheckText { line: u64 },
+    BadAuthors { line: u64 },
 }
 
 /// Why a call that meets nothing outside has no value.
@@ -142,6 +149,7 @@ impl Which {
             Which::Events => b"Events",
             Which::Operations => b"Operations",
             Which::Parents => b"Parents",
+            Which::Aliases => b"Aliases",
             Which::Paths => b"Paths",
             Which::PathBytes => b"PathBytes",
             Which::NameBytes => b"NameBytes",
@@ -245,12 +253,34 @@ fn with_name_and_limit(
     Ok(text)
 }
 
-fn with_mark_and_op(alloc: Global, head: &[u8], mark: u64, op: u64) -> Result<Text, NoMemory>
+fn with_mark_and(
+    alloc: Global,
+    head: &[u8],
+    mark: u64,
+    field: &[u8],
+    value: u64,
+) -> Result<Text, NoMemory>
     ensures { IfOk result
-        (λ text. text ≡ head.now ++ mark_field mark ++ number_field (codes "op") op) }
+        (λ text. text ≡ head.now ++ mark_field mark ++ number_field field.now value) }
 {
     let mut text = with_mark(alloc, head, mark)?;
-    push_number_field(&mut text, b"op", op)?;
+    push_number_field(&mut text, field, value)?;
+    Ok(text)
+}
+
+fn with_collision(
+    alloc: Global,
+    head: &[u8],
+    mark: u64,
+    op: u64,
+    path: &Text,
+) -> Result<Text, NoMemory>
+    ensures { IfOk result
+        (λ text. text ≡ head.now ++ mark_field mark ++ number_field (codes "op") op
+        ++ text_field (codes "path") path.now) }
+{
+    let mut text = with_mark_and(alloc, head, mark, b"op", op)?;
+    push_field(&mut text, b"path", path.as_slice())?;
     Ok(text)
 }
 
@@ -308,7 +338,7 @@ impl Fault {
             Fault::PushbackRoot { mark } => with_mark(alloc, b"52 PushbackRoot", mark.number()),
             Fault::PushbackFork { mark } => with_mark(alloc, b"53 PushbackFork", mark.number()),
             Fault::MissingSource { mark, op } => {
-                with_mark_and_op(alloc, b"54 MissingSource", mark.number(), *op)
+                with_mark_and(alloc, b"54 MissingSource", mark.number(), b"op", *op)
             }
             Fault::Cycle { mark } => with_mark(alloc, b"55 Cycle", mark.number()),
             Fault::NotLinear { event } => with_number(alloc, b"56 NotLinear", b"event", *event),
@@ -318,9 +348,19 @@ impl Fault {
             Fault::Limit { which, number } => with_limit(alloc, b"60 Limit", *which, *number),
             Fault::MarksSpent => bare(alloc, b"61 MarksSpent"),
             Fault::NameAssigned { name } => with_text(alloc, b"62 NameAssigned", b"name", name),
+            Fault::PathCollision { mark, op, path } => {
+                with_collision(alloc, b"63 PathCollision", mark.number(), *op, path)
+            }
+            Fault::StillConnected { mark } => with_mark(alloc, b"64 StillConnected", mark.number()),
+            Fault::ChildCount { mark, found } => {
+                with_mark_and(alloc, b"65 ChildCount", mark.number(), b"found", *found)
+            }
+            Fault::NotAdjacent { mark } => with_mark(alloc, b"66 NotAdjacent", mark.number()),
+            Fault::MomentRange { event } => with_number(alloc, b"67 MomentRange", b"event", *event),
             Fault::BadMessage { line } => with_number(alloc, b"70 BadMessage", b"line", *line),
             Fault::NoSuchTarget { line } => with_number(alloc, b"71 NoSuchTarget", b"line", *line),
             Fault::CheckText { line } => with_number(alloc, b"72 CheckText", b"line", *line),
+            Fault::BadAuthors { line } => with_number(alloc, b"73 BadAuthors", b"line", *line),
         }
     }
 

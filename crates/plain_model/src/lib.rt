@@ -15,12 +15,12 @@ mod raw;
 mod status;
 mod steps;
 
-pub use event::{EventList, ParentList, PlainEvent};
+pub use event::{EventList, MarkList, ParentList, PlainEvent};
 pub use fault::{Fault, Halt, Which, Why};
 pub use id::{AnyId, BlobId, CommitId, IdList, PassId, ResetId, TagId};
 pub use limit::{
-    MAX_COMMANDS, MAX_EVENTS, MAX_KEPT_TREES, MAX_LINE_BYTES, MAX_MACRO_DEPTH, MAX_MARK,
-    MAX_NAME_BYTES, MAX_NESTING, MAX_OPERATIONS, MAX_PARENTS, MAX_PATH_BYTES, MAX_PATHS,
+    MAX_ALIASES, MAX_COMMANDS, MAX_EVENTS, MAX_KEPT_TREES, MAX_LINE_BYTES, MAX_MACRO_DEPTH,
+    MAX_MARK, MAX_NAME_BYTES, MAX_NESTING, MAX_OPERATIONS, MAX_PARENTS, MAX_PATH_BYTES, MAX_PATHS,
     MAX_PATTERN_BYTES, MAX_REPOSITORIES, MAX_REPOSITORY_NAME_BYTES, MAX_SCRIPT_BYTES, MAX_SECONDS,
     MAX_STREAM_BYTES,
 };

@@ -30,6 +30,9 @@ pub const MAX_OPERATIONS: u64 = 4_000_000;
 /// Parents of a commit.
 pub const MAX_PARENTS: u64 = 64;
 
+/// Aliases of a history: the further marks of all its commits.
+pub const MAX_ALIASES: u64 = 2_000_000;
+
 /// Paths in one tree.
 pub const MAX_PATHS: u64 = 4_000_000;
 

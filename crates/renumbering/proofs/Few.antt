@@ -37,8 +37,8 @@ numbers_distinct (x ∷ marks) h = (all_differ x.0 marks h.0, numbers_distinct m
 are_marks : (events : List PlainEvent) → AllByRecursion IsFormedEvent events → AllByRecursion IsMark (numbers (marks_of events))
 are_marks [] h = tt
 are_marks (Blob id mark bytes ∷ events) h = (h.0, are_marks events h.1)
-are_marks (Commit id mark branch author committer encoding comment parents ops ∷ events) h = (h.0.0, are_marks events h.1)
-are_marks (Tag id name target tagger comment ∷ events) h = are_marks events h.1
+are_marks (Commit id mark branch author committer encoding comment parents ops aliases ∷ events) h = (h.0.0, are_marks events h.1)
+are_marks (Tag id name target tagger comment mark ∷ events) h = are_marks events h.1
 are_marks (Reset id branch target ∷ events) h = are_marks events h.1
 are_marks (Pass id line ∷ events) h = are_marks events h.1
 

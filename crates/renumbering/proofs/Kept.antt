@@ -22,10 +22,10 @@ pub has_id_same : (n : ℕ) (events : List PlainEvent) (wanted : AnyId) → has_
 has_id_same n [] wanted = refl
 has_id_same n (Blob id mark bytes ∷ events) (any.Blob b) = ap (λ t. (id == b) || t) (has_id_same (n + 1) events (any.Blob b))
 has_id_same n (Blob id mark bytes ∷ events) wanted = has_id_same (n + 1) events wanted
-has_id_same n (Commit id mark branch author committer encoding comment parents ops ∷ events) (any.Commit c) = ap (λ t. (id == c) || t) (has_id_same (n + 1) events (any.Commit c))
-has_id_same n (Commit id mark branch author committer encoding comment parents ops ∷ events) wanted = has_id_same (n + 1) events wanted
-has_id_same n (Tag id name target tagger comment ∷ events) (any.Tag t) = ap (λ u. (id == t) || u) (has_id_same n events (any.Tag t))
-has_id_same n (Tag id name target tagger comment ∷ events) wanted = has_id_same n events wanted
+has_id_same n (Commit id mark branch author committer encoding comment parents ops aliases ∷ events) (any.Commit c) = ap (λ t. (id == c) || t) (has_id_same (n + 1) events (any.Commit c))
+has_id_same n (Commit id mark branch author committer encoding comment parents ops aliases ∷ events) wanted = has_id_same (n + 1) events wanted
+has_id_same n (Tag id name target tagger comment mark ∷ events) (any.Tag t) = ap (λ u. (id == t) || u) (has_id_same n events (any.Tag t))
+has_id_same n (Tag id name target tagger comment mark ∷ events) wanted = has_id_same n events wanted
 has_id_same n (Reset id branch target ∷ events) (any.Reset r) = ap (λ t. (id == r) || t) (has_id_same n events (any.Reset r))
 has_id_same n (Reset id branch target ∷ events) wanted = has_id_same n events wanted
 has_id_same n (Pass id line ∷ events) (any.Pass p) = ap (λ t. (id == p) || t) (has_id_same n events (any.Pass p))
@@ -33,18 +33,18 @@ has_id_same n (Pass id line ∷ events) wanted = has_id_same n events wanted
 
 pub nodes_same : (n : ℕ) (events : List PlainEvent) → nodes (renumbered_from n events) ≡ nodes events
 nodes_same n [] = refl
-nodes_same n (Commit id mark branch author committer encoding comment parents ops ∷ events) =
+nodes_same n (Commit id mark branch author committer encoding comment parents ops aliases ∷ events) =
     ap (λ (l : List Node). record { id = id; parents = parents; ops = ops } ∷ l) (nodes_same (n + 1) events)
 nodes_same n (Blob id mark bytes ∷ events) = nodes_same (n + 1) events
-nodes_same n (Tag id name target tagger comment ∷ events) = nodes_same n events
+nodes_same n (Tag id name target tagger comment mark ∷ events) = nodes_same n events
 nodes_same n (Reset id branch target ∷ events) = nodes_same n events
 nodes_same n (Pass id line ∷ events) = nodes_same n events
 
 pub refs_same : (n : ℕ) (t : TreeOf ℕ) (events : List PlainEvent) → refs_after t (renumbered_from n events) ≡ refs_after t events
 refs_same n t [] = refl
 refs_same n t (Blob id mark bytes ∷ events) = refs_same (n + 1) t events
-refs_same n t (Commit id mark branch author committer encoding comment parents ops ∷ events) = refs_same (n + 1) (put branch id t) events
-refs_same n t (Tag id name target tagger comment ∷ events) = refs_same n t events
+refs_same n t (Commit id mark branch author committer encoding comment parents ops aliases ∷ events) = refs_same (n + 1) (put branch id t) events
+refs_same n t (Tag id name target tagger comment mark ∷ events) = refs_same n t events
 refs_same n t (Reset id branch None ∷ events) = refs_same n _ events
 refs_same n t (Reset id branch (Some c) ∷ events) = refs_same n (put branch c t) events
 refs_same n t (Pass id line ∷ events) = refs_same n t events
@@ -52,16 +52,16 @@ refs_same n t (Pass id line ∷ events) = refs_same n t events
 pub ids_same : (n : ℕ) (events : List PlainEvent) → map id_of (renumbered_from n events) ≡ map id_of events
 ids_same n [] = refl
 ids_same n (Blob id mark bytes ∷ events) = ap (λ (l : List AnyId). any.Blob id ∷ l) (ids_same (n + 1) events)
-ids_same n (Commit id mark branch author committer encoding comment parents ops ∷ events) = ap (λ (l : List AnyId). any.Commit id ∷ l) (ids_same (n + 1) events)
-ids_same n (Tag id name target tagger comment ∷ events) = ap (λ (l : List AnyId). any.Tag id ∷ l) (ids_same n events)
+ids_same n (Commit id mark branch author committer encoding comment parents ops aliases ∷ events) = ap (λ (l : List AnyId). any.Commit id ∷ l) (ids_same (n + 1) events)
+ids_same n (Tag id name target tagger comment mark ∷ events) = ap (λ (l : List AnyId). any.Tag id ∷ l) (ids_same n events)
 ids_same n (Reset id branch target ∷ events) = ap (λ (l : List AnyId). any.Reset id ∷ l) (ids_same n events)
 ids_same n (Pass id line ∷ events) = ap (λ (l : List AnyId). any.Pass id ∷ l) (ids_same n events)
 
 pub length_same : (n : ℕ) (events : List PlainEvent) → length (renumbered_from n events) ≡ length events
 length_same n [] = refl
 length_same n (Blob id mark bytes ∷ events) = ap suc (length_same (n + 1) events)
-length_same n (Commit id mark branch author committer encoding comment parents ops ∷ events) = ap suc (length_same (n + 1) events)
-length_same n (Tag id name target tagger comment ∷ events) = ap suc (length_same n events)
+length_same n (Commit id mark branch author committer encoding comment parents ops aliases ∷ events) = ap suc (length_same (n + 1) events)
+length_same n (Tag id name target tagger comment mark ∷ events) = ap suc (length_same n events)
 length_same n (Reset id branch target ∷ events) = ap suc (length_same n events)
 length_same n (Pass id line ∷ events) = ap suc (length_same n events)
 
@@ -69,8 +69,8 @@ length_same n (Pass id line ∷ events) = ap suc (length_same n events)
 pub marks_from : (n : ℕ) (events : List PlainEvent) → marks_of (renumbered_from n events) ≡ enumerate_from n (map (λ (own : ℕ × AnyId). own.1) (marks_of events))
 marks_from n [] = refl
 marks_from n (Blob id mark bytes ∷ events) = ap (λ (l : List (ℕ × AnyId)). (n, any.Blob id) ∷ l) (marks_from (n + 1) events)
-marks_from n (Commit id mark branch author committer encoding comment parents ops ∷ events) = ap (λ (l : List (ℕ × AnyId)). (n, any.Commit id) ∷ l) (marks_from (n + 1) events)
-marks_from n (Tag id name target tagger comment ∷ events) = marks_from n events
+marks_from n (Commit id mark branch author committer encoding comment parents ops aliases ∷ events) = ap (λ (l : List (ℕ × AnyId)). (n, any.Commit id) ∷ l) (marks_from (n + 1) events)
+marks_from n (Tag id name target tagger comment mark ∷ events) = marks_from n events
 marks_from n (Reset id branch target ∷ events) = marks_from n events
 marks_from n (Pass id line ∷ events) = marks_from n events
 
@@ -78,18 +78,18 @@ marks_from n (Pass id line ∷ events) = marks_from n events
 pub others_same : (n : ℕ) (events : List PlainEvent) (m : ℕ) → map (with_mark m) (renumbered_from n events) ≡ map (with_mark m) events
 others_same n [] m = refl
 others_same n (Blob id mark bytes ∷ events) m = ap (λ (l : List PlainEvent). Blob id m bytes ∷ l) (others_same (n + 1) events m)
-others_same n (Commit id mark branch author committer encoding comment parents ops ∷ events) m =
-    ap (λ (l : List PlainEvent). Commit id m branch author committer encoding comment parents ops ∷ l) (others_same (n + 1) events m)
-others_same n (Tag id name target tagger comment ∷ events) m = ap (λ (l : List PlainEvent). Tag id name target tagger comment ∷ l) (others_same n events m)
+others_same n (Commit id mark branch author committer encoding comment parents ops aliases ∷ events) m =
+    ap (λ (l : List PlainEvent). Commit id m branch author committer encoding comment parents ops aliases ∷ l) (others_same (n + 1) events m)
+others_same n (Tag id name target tagger comment mark ∷ events) m = ap (λ (l : List PlainEvent). Tag id name target tagger comment mark ∷ l) (others_same n events m)
 others_same n (Reset id branch target ∷ events) m = ap (λ (l : List PlainEvent). Reset id branch target ∷ l) (others_same n events m)
 others_same n (Pass id line ∷ events) m = ap (λ (l : List PlainEvent). Pass id line ∷ l) (others_same n events m)
 
 pub numbered_twice : (n : ℕ) (events : List PlainEvent) → renumbered_from n (renumbered_from n events) ≡ renumbered_from n events
 numbered_twice n [] = refl
 numbered_twice n (Blob id mark bytes ∷ events) = ap (λ (l : List PlainEvent). Blob id n bytes ∷ l) (numbered_twice (n + 1) events)
-numbered_twice n (Commit id mark branch author committer encoding comment parents ops ∷ events) =
-    ap (λ (l : List PlainEvent). Commit id n branch author committer encoding comment parents ops ∷ l) (numbered_twice (n + 1) events)
-numbered_twice n (Tag id name target tagger comment ∷ events) = ap (λ (l : List PlainEvent). Tag id name target tagger comment ∷ l) (numbered_twice n events)
+numbered_twice n (Commit id mark branch author committer encoding comment parents ops aliases ∷ events) =
+    ap (λ (l : List PlainEvent). Commit id n branch author committer encoding comment parents ops aliases ∷ l) (numbered_twice (n + 1) events)
+numbered_twice n (Tag id name target tagger comment mark ∷ events) = ap (λ (l : List PlainEvent). Tag id name target tagger comment mark ∷ l) (numbered_twice n events)
 numbered_twice n (Reset id branch target ∷ events) = ap (λ (l : List PlainEvent). Reset id branch target ∷ l) (numbered_twice n events)
 numbered_twice n (Pass id line ∷ events) = ap (λ (l : List PlainEvent). Pass id line ∷ l) (numbered_twice n events)
 
@@ -101,8 +101,8 @@ tree_same n events c = ap (λ (l : List Node). tree_in (reverse l) c) (nodes_sam
 bytes_same : (n : ℕ) (events : List PlainEvent) (b : ℕ) → blob_bytes (renumbered_from n events) b ≡ blob_bytes events b
 bytes_same n [] b = refl
 bytes_same n (Blob id mark bytes ∷ events) b = ap (λ (rest : List ℕ). cond (id == b) bytes rest) (bytes_same (n + 1) events b)
-bytes_same n (Commit id mark branch author committer encoding comment parents ops ∷ events) b = bytes_same (n + 1) events b
-bytes_same n (Tag id name target tagger comment ∷ events) b = bytes_same n events b
+bytes_same n (Commit id mark branch author committer encoding comment parents ops aliases ∷ events) b = bytes_same (n + 1) events b
+bytes_same n (Tag id name target tagger comment mark ∷ events) b = bytes_same n events b
 bytes_same n (Reset id branch target ∷ events) b = bytes_same n events b
 bytes_same n (Pass id line ∷ events) b = bytes_same n events b
 

@@ -106,9 +106,9 @@ formed_still old new expected (Blob id mark bytes ∷ events) b h = (
   (sym (b.ids (any.Blob id)) ∙ h.0.0, or_defect_is_new new expected b.below),
   formed_still (old ++ Blob id mark bytes ∷ []) (new ++ Blob id expected bytes ∷ []) (expected + 1) events (after_expected old new expected (Blob id mark bytes) (Blob id expected bytes) refl (λ m. refl) b) h.1,
 )
-formed_still old new expected (Commit id mark branch author committer encoding comment parents ops ∷ events) b h =
-    let a : PlainEvent = Commit id mark branch author committer encoding comment parents ops in
-    let e : PlainEvent = Commit id expected branch author committer encoding comment parents ops in
+formed_still old new expected (Commit id mark branch author committer encoding comment parents ops aliases ∷ events) b h =
+    let a : PlainEvent = Commit id mark branch author committer encoding comment parents ops aliases in
+    let e : PlainEvent = Commit id expected branch author committer encoding comment parents ops aliases in
     let s = h.0 in (
       (
         sym (b.ids (any.Commit id)) ∙ s.0,
@@ -124,8 +124,8 @@ formed_still old new expected (Commit id mark branch author committer encoding c
       ),
       formed_still (old ++ a ∷ []) (new ++ e ∷ []) (expected + 1) events (after_expected old new expected a e refl (λ m. refl) b) h.1,
     )
-formed_still old new expected (Tag id name target tagger comment ∷ events) b h =
-    let e : PlainEvent = Tag id name target tagger comment in
+formed_still old new expected (Tag id name target tagger comment mark ∷ events) b h =
+    let e : PlainEvent = Tag id name target tagger comment mark in
     let s = h.0 in (
       (sym (b.ids (any.Tag id)) ∙ s.0, s.1, sym (b.ids (any.Commit target)) ∙ s.2, s.3),
       formed_still (old ++ e ∷ []) (new ++ e ∷ []) expected events (after_more old new expected e (λ m. refl) b) h.1,
@@ -159,8 +159,8 @@ first_after expected = record { ids = λ id. refl; below = λ m h. absurd cc }
 refs_append : (t : TreeOf ℕ) (xs ys : List PlainEvent) → refs_after t (xs ++ ys) ≡ refs_after (refs_after t xs) ys
 refs_append t [] ys = refl
 refs_append t (Blob id mark bytes ∷ xs) ys = refs_append t xs ys
-refs_append t (Commit id mark branch author committer encoding comment parents ops ∷ xs) ys = refs_append (put branch id t) xs ys
-refs_append t (Tag id name target tagger comment ∷ xs) ys = refs_append t xs ys
+refs_append t (Commit id mark branch author committer encoding comment parents ops aliases ∷ xs) ys = refs_append (put branch id t) xs ys
+refs_append t (Tag id name target tagger comment mark ∷ xs) ys = refs_append t xs ys
 refs_append t (Reset id branch None ∷ xs) ys = refs_append _ xs ys
 refs_append t (Reset id branch (Some c) ∷ xs) ys = refs_append (put branch c t) xs ys
 refs_append t (Pass id line ∷ xs) ys = refs_append t xs ys
@@ -168,8 +168,8 @@ refs_append t (Pass id line ∷ xs) ys = refs_append t xs ys
 placed_still : (expected k : ℕ) (events : List PlainEvent) → ArePlaced k events → ArePlaced k (renumbered_from expected events)
 placed_still expected k [] p = tt
 placed_still expected k (Blob id mark bytes ∷ events) p = (p.0, placed_still (expected + 1) (suc k) events p.1)
-placed_still expected k (Commit id mark branch author committer encoding comment parents ops ∷ events) p = (p.0, placed_still (expected + 1) (suc k) events p.1)
-placed_still expected k (Tag id name target tagger comment ∷ events) p = (p.0, placed_still expected (suc k) events p.1)
+placed_still expected k (Commit id mark branch author committer encoding comment parents ops aliases ∷ events) p = (p.0, placed_still (expected + 1) (suc k) events p.1)
+placed_still expected k (Tag id name target tagger comment mark ∷ events) p = (p.0, placed_still expected (suc k) events p.1)
 placed_still expected k (Reset id branch target ∷ events) p = (p.0, placed_still expected (suc k) events p.1)
 placed_still expected k (Pass id line ∷ events) p = (p.0, placed_still expected (suc k) events p.1)
 
@@ -177,9 +177,9 @@ placed_still expected k (Pass id line ∷ events) p = (p.0, placed_still expecte
 fields_still : (expected : ℕ) (events : List PlainEvent) → 1 ≤ expected → expected + length (marks_of events) ≤ MAX_MARK + 1 → AllByRecursion IsFormedEvent events → AllByRecursion IsFormedEvent (renumbered_from expected events)
 fields_still expected [] low few h = tt
 fields_still expected (Blob id mark bytes ∷ events) low few h = ((low, omega arith), fields_still (expected + 1) events (omega arith) (omega arith) h.1)
-fields_still expected (Commit id mark branch author committer encoding comment parents ops ∷ events) low few h =
+fields_still expected (Commit id mark branch author committer encoding comment parents ops aliases ∷ events) low few h =
     (((low, omega arith), h.0.1), fields_still (expected + 1) events (omega arith) (omega arith) h.1)
-fields_still expected (Tag id name target tagger comment ∷ events) low few h = (h.0, fields_still expected events low (omega arith) h.1)
+fields_still expected (Tag id name target tagger comment mark ∷ events) low few h = (h.0, fields_still expected events low (omega arith) h.1)
 fields_still expected (Reset id branch target ∷ events) low few h = (h.0, fields_still expected events low (omega arith) h.1)
 fields_still expected (Pass id line ∷ events) low few h = (h.0, fields_still expected events low (omega arith) h.1)
 
@@ -200,7 +200,7 @@ tips_more old new expected a e is same =
     ∙ sym (refs_append [] new (e ∷ []))
 
 rooted_event : (old new : List PlainEvent) (id mark expected : ℕ) (branch : Bytes) (author committer : Signed) (encoding : Option Bytes) (comment : Bytes) (parents : List ℕ) (ops : List FileOp) → refs old ≡ refs new
-    → IsRooted old (Commit id mark branch author committer encoding comment parents ops) → IsRooted new (Commit id expected branch author committer encoding comment parents ops)
+    → IsRooted old (Commit id mark branch author committer encoding comment parents ops aliases) → IsRooted new (Commit id expected branch author committer encoding comment parents ops aliases)
 rooted_event old new id mark expected branch author committer encoding comment [] ops same h = ap (λ (t : TreeOf ℕ). has t branch) (sym same) ∙ h
 rooted_event old new id mark expected branch author committer encoding comment (p ∷ ps) ops same h = tt
 
@@ -208,14 +208,14 @@ rooted_still : (old new : List PlainEvent) (expected : ℕ) (events : List Plain
 rooted_still old new expected [] same h = tt
 rooted_still old new expected (Blob id mark bytes ∷ events) same h =
     (tt, rooted_still (old ++ Blob id mark bytes ∷ []) (new ++ Blob id expected bytes ∷ []) (expected + 1) events (tips_more old new expected (Blob id mark bytes) (Blob id expected bytes) refl same) h.1)
-rooted_still old new expected (Commit id mark branch author committer encoding comment parents ops ∷ events) same h =
-    let a : PlainEvent = Commit id mark branch author committer encoding comment parents ops in
-    let e : PlainEvent = Commit id expected branch author committer encoding comment parents ops in (
+rooted_still old new expected (Commit id mark branch author committer encoding comment parents ops aliases ∷ events) same h =
+    let a : PlainEvent = Commit id mark branch author committer encoding comment parents ops aliases in
+    let e : PlainEvent = Commit id expected branch author committer encoding comment parents ops aliases in (
       rooted_event old new id mark expected branch author committer encoding comment parents ops same h.0,
       rooted_still (old ++ a ∷ []) (new ++ e ∷ []) (expected + 1) events (tips_more old new expected a e refl same) h.1,
     )
-rooted_still old new expected (Tag id name target tagger comment ∷ events) same h =
-    let e : PlainEvent = Tag id name target tagger comment in
+rooted_still old new expected (Tag id name target tagger comment mark ∷ events) same h =
+    let e : PlainEvent = Tag id name target tagger comment mark in
     (tt, rooted_still (old ++ e ∷ []) (new ++ e ∷ []) expected events (tips_more old new expected e e refl same) h.1)
 rooted_still old new expected (Reset id branch target ∷ events) same h =
     let e : PlainEvent = Reset id branch target in

@@ -23,8 +23,8 @@ use Rattle.renumbering.proofs.Kept.{has_id_same}
 -- an event without a mark takes none
 pub unmarked : (expected : ℕ) (e : PlainEvent) → map (λ (m : ℕ × AnyId). m.0) (own_mark e) ≡ [] → (with_mark expected e ≡ e) × (length (own_mark e) ≡ 0)
 unmarked expected (Blob id mark bytes) h = absurd cc
-unmarked expected (Commit id mark branch author committer encoding comment parents ops) h = absurd cc
-unmarked expected (Tag id name target tagger comment) h = (refl, refl)
+unmarked expected (Commit id mark branch author committer encoding comment parents ops aliases) h = absurd cc
+unmarked expected (Tag id name target tagger comment mark) h = (refl, refl)
 unmarked expected (Reset id branch target) h = (refl, refl)
 unmarked expected (Pass id line) h = (refl, refl)
 
@@ -36,17 +36,17 @@ pub record IsMarked (mark : ℕ) (e : PlainEvent) : Type 0 where
 
 pub marked : (mark : ℕ) (e : PlainEvent) → map (λ (m : ℕ × AnyId). m.0) (own_mark e) ≡ mark ∷ [] → IsMarked mark e
 marked m (Blob id mark bytes) h = record { same = ap (λ n. Blob id n bytes) (let is : mark ≡ m = cc in sym is); one = refl; field = refl }
-marked m (Commit id mark branch author committer encoding comment parents ops) h =
-    record { same = ap (λ n. Commit id n branch author committer encoding comment parents ops) (let is : mark ≡ m = cc in sym is); one = refl; field = refl }
-marked m (Tag id name target tagger comment) h = absurd cc
+marked m (Commit id mark branch author committer encoding comment parents ops aliases) h =
+    record { same = ap (λ n. Commit id n branch author committer encoding comment parents ops aliases) (let is : mark ≡ m = cc in sym is); one = refl; field = refl }
+marked m (Tag id name target tagger comment mark) h = absurd cc
 marked m (Reset id branch target) h = absurd cc
 marked m (Pass id line) h = absurd cc
 
 -- an event has one mark at most
 pub one-mark : (e : PlainEvent) → length (own_mark e) ≤ 1
 one-mark (Blob id mark bytes) = omega arith
-one-mark (Commit id mark branch author committer encoding comment parents ops) = omega arith
-one-mark (Tag id name target tagger comment) = omega arith
+one-mark (Commit id mark branch author committer encoding comment parents ops aliases) = omega arith
+one-mark (Tag id name target tagger comment mark) = omega arith
 one-mark (Reset id branch target) = omega arith
 one-mark (Pass id line) = omega arith
 
@@ -90,8 +90,8 @@ no_more n = omega arith
 
 renumbered-cons : (n : ℕ) (e : PlainEvent) (events : List PlainEvent) → renumbered_from n (e ∷ events) ≡ with_mark n e ∷ renumbered_from (n + length (own_mark e)) events
 renumbered-cons n (Blob id mark bytes) events = refl
-renumbered-cons n (Commit id mark branch author committer encoding comment parents ops) events = refl
-renumbered-cons n (Tag id name target tagger comment) events = ap (λ k. Tag id name target tagger comment ∷ renumbered_from k events) (sym (no_more n))
+renumbered-cons n (Commit id mark branch author committer encoding comment parents ops aliases) events = refl
+renumbered-cons n (Tag id name target tagger comment mark) events = ap (λ k. Tag id name target tagger comment mark ∷ renumbered_from k events) (sym (no_more n))
 renumbered-cons n (Reset id branch target) events = ap (λ k. Reset id branch target ∷ renumbered_from k events) (sym (no_more n))
 renumbered-cons n (Pass id line) events = ap (λ k. Pass id line ∷ renumbered_from k events) (sym (no_more n))
 

@@ -7,9 +7,9 @@ use Rattle.plain_model.specs.declared.event.PlainEvent.TheVariants.{Blob, Commit
 abbrev pub renumbered_from : ℕ → List PlainEvent → List PlainEvent
 renumbered_from expected [] = []
 renumbered_from expected (Blob id mark bytes ∷ events) = Blob id expected bytes ∷ renumbered_from (expected + 1) events
-renumbered_from expected (Commit id mark branch author committer encoding comment parents ops ∷ events) =
-    Commit id expected branch author committer encoding comment parents ops ∷ renumbered_from (expected + 1) events
-renumbered_from expected (Tag id name target tagger comment ∷ events) = Tag id name target tagger comment ∷ renumbered_from expected events
+renumbered_from expected (Commit id mark branch author committer encoding comment parents ops aliases ∷ events) =
+    Commit id expected branch author committer encoding comment parents ops aliases ∷ renumbered_from (expected + 1) events
+renumbered_from expected (Tag id name target tagger comment mark ∷ events) = Tag id name target tagger comment mark ∷ renumbered_from expected events
 renumbered_from expected (Reset id branch target ∷ events) = Reset id branch target ∷ renumbered_from expected events
 renumbered_from expected (Pass id line ∷ events) = Pass id line ∷ renumbered_from expected events
 

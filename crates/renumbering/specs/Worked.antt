@@ -14,7 +14,7 @@ ann = record { person = record { name = codes "Ann"; email = codes "a@x" }; when
 
 -- a commit of Ann's
 abbrev pub commit : ℕ → ℕ → List ℕ → List FileOp → PlainEvent
-commit id mark parents ops = Commit id mark (codes "main") ann ann None (codes "why") parents ops
+commit id mark parents ops = Commit id mark (codes "main") ann ann None (codes "why") parents ops []
 
 -- an operation that puts a plain file
 abbrev pub put_in : ℕ → Bytes → FileOp
@@ -28,7 +28,7 @@ with_the_marks one two root child =
     ∷ Blob 2 two (codes "y")
     ∷ commit 3 root [] (put_in 1 (codes "f") ∷ put_in 2 (codes "g") ∷ [])
     ∷ Pass 4 (codes "checkpoint")
-    ∷ Tag 5 (codes "v1") 3 None (codes "first")
+    ∷ Tag 5 (codes "v1") 3 None (codes "first") None
     ∷ commit 6 child (3 ∷ []) []
     ∷ Reset 7 (codes "side") (Some 6)
     ∷ []

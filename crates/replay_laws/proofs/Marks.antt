@@ -21,9 +21,9 @@ use Rattle.replay_laws.proofs.Placed.{ArePlaced, commits_seen, tags_seen, unmark
 
 nodes_same : (n : ℕ) (es : List PlainEvent) → nodes (with_marks n es) ≡ nodes es
 nodes_same n [] = refl
-nodes_same n (Commit id mark branch author committer encoding comment parents ops ∷ es) = go (mark == 0) (λ m. nodes_same m es)
+nodes_same n (Commit id mark branch author committer encoding comment parents ops aliases ∷ es) = go (mark == 0) (λ m. nodes_same m es)
   where
-    go : (b : Bool) → ((m : ℕ) → nodes (with_marks m es) ≡ nodes es) → nodes (cond b (Commit id (n + 1) branch author committer encoding comment parents ops ∷ with_marks (n + 1) es) (Commit id mark branch author committer encoding comment parents ops ∷ with_marks n es))
+    go : (b : Bool) → ((m : ℕ) → nodes (with_marks m es) ≡ nodes es) → nodes (cond b (Commit id (n + 1) branch author committer encoding comment parents ops aliases ∷ with_marks (n + 1) es) (Commit id mark branch author committer encoding comment parents ops aliases ∷ with_marks n es))
         ≡ record { id = id; parents = parents; ops = ops } ∷ nodes es
     go true r = ap (λ (l : List Node). record { id = id; parents = parents; ops = ops } ∷ l) (r (n + 1))
     go false r = ap (λ (l : List Node). record { id = id; parents = parents; ops = ops } ∷ l) (r n)
@@ -32,15 +32,15 @@ nodes_same n (Blob id mark bytes ∷ es) = go (mark == 0) (λ m. nodes_same m es
     go : (b : Bool) → ((m : ℕ) → nodes (with_marks m es) ≡ nodes es) → nodes (cond b (Blob id (n + 1) bytes ∷ with_marks (n + 1) es) (Blob id mark bytes ∷ with_marks n es)) ≡ nodes es
     go true r = r (n + 1)
     go false r = r n
-nodes_same n (Tag id name target tagger comment ∷ es) = nodes_same n es
+nodes_same n (Tag id name target tagger comment mark ∷ es) = nodes_same n es
 nodes_same n (Reset id branch target ∷ es) = nodes_same n es
 nodes_same n (Pass id line ∷ es) = nodes_same n es
 
 refs_same : (t : TreeOf ℕ) (n : ℕ) (es : List PlainEvent) → refs_after t (with_marks n es) ≡ refs_after t es
 refs_same t n [] = refl
-refs_same t n (Commit id mark branch author committer encoding comment parents ops ∷ es) = go (mark == 0) (λ m. refs_same (put branch id t) m es)
+refs_same t n (Commit id mark branch author committer encoding comment parents ops aliases ∷ es) = go (mark == 0) (λ m. refs_same (put branch id t) m es)
   where
-    go : (b : Bool) → ((m : ℕ) → refs_after (put branch id t) (with_marks m es) ≡ refs_after (put branch id t) es) → refs_after t (cond b (Commit id (n + 1) branch author committer encoding comment parents ops ∷ with_marks (n + 1) es) (Commit id mark branch author committer encoding comment parents ops ∷ with_marks n es))
+    go : (b : Bool) → ((m : ℕ) → refs_after (put branch id t) (with_marks m es) ≡ refs_after (put branch id t) es) → refs_after t (cond b (Commit id (n + 1) branch author committer encoding comment parents ops aliases ∷ with_marks (n + 1) es) (Commit id mark branch author committer encoding comment parents ops aliases ∷ with_marks n es))
         ≡ refs_after (put branch id t) es
     go true r = r (n + 1)
     go false r = r n
@@ -49,16 +49,16 @@ refs_same t n (Blob id mark bytes ∷ es) = go (mark == 0) (λ m. refs_same t m 
     go : (b : Bool) → ((m : ℕ) → refs_after t (with_marks m es) ≡ refs_after t es) → refs_after t (cond b (Blob id (n + 1) bytes ∷ with_marks (n + 1) es) (Blob id mark bytes ∷ with_marks n es)) ≡ refs_after t es
     go true r = r (n + 1)
     go false r = r n
-refs_same t n (Tag id name target tagger comment ∷ es) = refs_same t n es
+refs_same t n (Tag id name target tagger comment mark ∷ es) = refs_same t n es
 refs_same t n (Reset id branch None ∷ es) = refs_same _ n es
 refs_same t n (Reset id branch (Some c) ∷ es) = refs_same (put branch c t) n es
 refs_same t n (Pass id line ∷ es) = refs_same t n es
 
 bytes_same : (n : ℕ) (es : List PlainEvent) (b : ℕ) → blob_bytes (with_marks n es) b ≡ blob_bytes es b
 bytes_same n [] b = refl
-bytes_same n (Commit id mark branch author committer encoding comment parents ops ∷ es) b = go (mark == 0) (λ m. bytes_same m es b)
+bytes_same n (Commit id mark branch author committer encoding comment parents ops aliases ∷ es) b = go (mark == 0) (λ m. bytes_same m es b)
   where
-    go : (t : Bool) → ((m : ℕ) → blob_bytes (with_marks m es) b ≡ blob_bytes es b) → blob_bytes (cond t (Commit id (n + 1) branch author committer encoding comment parents ops ∷ with_marks (n + 1) es) (Commit id mark branch author committer encoding comment parents ops ∷ with_marks n es)) b
+    go : (t : Bool) → ((m : ℕ) → blob_bytes (with_marks m es) b ≡ blob_bytes es b) → blob_bytes (cond t (Commit id (n + 1) branch author committer encoding comment parents ops aliases ∷ with_marks (n + 1) es) (Commit id mark branch author committer encoding comment parents ops aliases ∷ with_marks n es)) b
         ≡ blob_bytes es b
     go true r = r (n + 1)
     go false r = r n
@@ -67,7 +67,7 @@ bytes_same n (Blob id mark bytes ∷ es) b = go (mark == 0) (λ m. bytes_same m 
     go : (t : Bool) → ((m : ℕ) → blob_bytes (with_marks m es) b ≡ blob_bytes es b) → blob_bytes (cond t (Blob id (n + 1) bytes ∷ with_marks (n + 1) es) (Blob id mark bytes ∷ with_marks n es)) b ≡ cond (id == b) bytes (blob_bytes es b)
     go true r = ap (cond (id == b) bytes) (r (n + 1))
     go false r = ap (cond (id == b) bytes) (r n)
-bytes_same n (Tag id name target tagger comment ∷ es) b = bytes_same n es b
+bytes_same n (Tag id name target tagger comment mark ∷ es) b = bytes_same n es b
 bytes_same n (Reset id branch target ∷ es) b = bytes_same n es b
 bytes_same n (Pass id line ∷ es) b = bytes_same n es b
 
@@ -103,9 +103,9 @@ after_first k id n is h = omega arith
 -- the commits of events that are placed from k have no smaller numbers
 later : (w : List PlainEvent) (k : ℕ) (es : List PlainEvent) → ArePlaced k es → AllByRecursion (λ (c : Numbered). k ≤ c.number) (commits_seen w es)
 later w k [] a = tt
-later w k (Commit id mark branch author committer encoding comment parents ops ∷ es) a = (let is = a.0 in omega arith, lower k (commits_seen w es) (later w (suc k) es a.1))
+later w k (Commit id mark branch author committer encoding comment parents ops aliases ∷ es) a = (let is = a.0 in omega arith, lower k (commits_seen w es) (later w (suc k) es a.1))
 later w k (Blob id mark bytes ∷ es) a = lower k (commits_seen w es) (later w (suc k) es a.1)
-later w k (Tag id name target tagger comment ∷ es) a = lower k (commits_seen w es) (later w (suc k) es a.1)
+later w k (Tag id name target tagger comment mark ∷ es) a = lower k (commits_seen w es) (later w (suc k) es a.1)
 later w k (Reset id branch target ∷ es) a = lower k (commits_seen w es) (later w (suc k) es a.1)
 later w k (Pass id line ∷ es) a = lower k (commits_seen w es) (later w (suc k) es a.1)
 
@@ -131,7 +131,7 @@ mark_alike w k n (Blob id mark bytes ∷ es) a c = go (mark == 0) (λ m. mark_al
         ≡ mark_found n (cond b (id ∷ []) [] ++ unmarked_in es) (commit_numbered (commits_seen w es) c)
     go true r = r (n + 1) ∙ sym (shift_found n id (unmarked_in es) (commit_numbered (commits_seen w es) c) (λ x e. after_first k id x.number a.0 (found_later (suc k) (commits_seen w es) (later w (suc k) es a.1) c x e)))
     go false r = r n
-mark_alike w k n (Commit id mark branch author committer encoding comment parents ops ∷ es) a c = go (mark == 0) refl (λ m. mark_alike w (suc k) m es a.1 c)
+mark_alike w k n (Commit id mark branch author committer encoding comment parents ops aliases ∷ es) a c = go (mark == 0) refl (λ m. mark_alike w (suc k) m es a.1 c)
   where
     own : Numbered
     own = record {
@@ -148,11 +148,11 @@ mark_alike w k n (Commit id mark branch author committer encoding comment parent
     one false e r false = r n
 
     go : (b : Bool) → (mark == 0) ≡ b → ((m : ℕ) → commit_mark (with_marks m es) c ≡ mark_found m (unmarked_in es) (commit_numbered (commits_seen w es) c))
-        → commit_mark (cond b (Commit id (n + 1) branch author committer encoding comment parents ops ∷ with_marks (n + 1) es) (Commit id mark branch author committer encoding comment parents ops ∷ with_marks n es)) c
+        → commit_mark (cond b (Commit id (n + 1) branch author committer encoding comment parents ops aliases ∷ with_marks (n + 1) es) (Commit id mark branch author committer encoding comment parents ops aliases ∷ with_marks n es)) c
         ≡ mark_found n (cond b (id ∷ []) [] ++ unmarked_in es) (cond (id == c) (Some own) (commit_numbered (commits_seen w es) c))
     go true e r = one true e r (id == c)
     go false e r = one false e r (id == c)
-mark_alike w k n (Tag id name target tagger comment ∷ es) a c = mark_alike w (suc k) n es a.1 c
+mark_alike w k n (Tag id name target tagger comment mark ∷ es) a c = mark_alike w (suc k) n es a.1 c
 mark_alike w k n (Reset id branch target ∷ es) a c = mark_alike w (suc k) n es a.1 c
 mark_alike w k n (Pass id line ∷ es) a c = mark_alike w (suc k) n es a.1 c
 
@@ -180,10 +180,10 @@ module _ (v w : List PlainEvent) (same : (c : ℕ) → shown_tree v c ≡ shown_
           → shown_commits v (cond b (Blob id (n + 1) bytes ∷ with_marks (n + 1) es) (Blob id mark bytes ∷ with_marks n es)) ≡ map (shown_by v n (cond b (id ∷ []) [] ++ unmarked_in es)) (commits_seen w es)
       go true r = r (n + 1) ∙ sym (shift_shown v n id (unmarked_in es) (commits_seen w es) (from_first k id a.0 (commits_seen w es) (later w (suc k) es a.1)))
       go false r = r n
-  commits_alike k n (Commit id mark branch author committer encoding comment parents ops ∷ es) a = go (mark == 0) refl (λ m. commits_alike (suc k) m es a.1)
+  commits_alike k n (Commit id mark branch author committer encoding comment parents ops aliases ∷ es) a = go (mark == 0) refl (λ m. commits_alike (suc k) m es a.1)
     where
       go : (b : Bool) → (mark == 0) ≡ b → ((m : ℕ) → shown_commits v (with_marks m es) ≡ map (shown_by v m (unmarked_in es)) (commits_seen w es))
-          → shown_commits v (cond b (Commit id (n + 1) branch author committer encoding comment parents ops ∷ with_marks (n + 1) es) (Commit id mark branch author committer encoding comment parents ops ∷ with_marks n es))
+          → shown_commits v (cond b (Commit id (n + 1) branch author committer encoding comment parents ops aliases ∷ with_marks (n + 1) es) (Commit id mark branch author committer encoding comment parents ops aliases ∷ with_marks n es))
           ≡ record {
             mark = cond (mark == 0) (mark_among n (cond b (id ∷ []) [] ++ unmarked_in es) id) mark;
             branch = branch;
@@ -203,24 +203,24 @@ module _ (v w : List PlainEvent) (same : (c : ℕ) → shown_tree v c ≡ shown_
           let rest = r n in
           let own : mark ≡ cond (mark == 0) (mark_among n (unmarked_in es) id) mark = sym (cond-false (mark == 0) (mark_among n (unmarked_in es) id) mark e) in
           λ i. record { mark = own i; branch = branch; author = author; committer = committer; encoding = encoding; comment = comment; parents = map (commit_mark v) parents; tree = same id i } ∷ rest i
-  commits_alike k n (Tag id name target tagger comment ∷ es) a = commits_alike (suc k) n es a.1
+  commits_alike k n (Tag id name target tagger comment mark ∷ es) a = commits_alike (suc k) n es a.1
   commits_alike k n (Reset id branch target ∷ es) a = commits_alike (suc k) n es a.1
   commits_alike k n (Pass id line ∷ es) a = commits_alike (suc k) n es a.1
 
 -- the tags are shown alike
 tags_alike : (v : List PlainEvent) (n : ℕ) (es : List PlainEvent) → shown_tags v (with_marks n es) ≡ map (λ (t : ShownTag). record t { target = commit_mark v t.target }) (tags_seen es)
 tags_alike v n [] = refl
-tags_alike v n (Tag id name target tagger comment ∷ es) = ap (λ (l : List ShownTag). record { name = name; target = commit_mark v target; tagger = tagger; comment = comment } ∷ l) (tags_alike v n es)
+tags_alike v n (Tag id name target tagger comment mark ∷ es) = ap (λ (l : List ShownTag). record { name = name; target = commit_mark v target; tagger = tagger; comment = comment } ∷ l) (tags_alike v n es)
 tags_alike v n (Blob id mark bytes ∷ es) = go (mark == 0) (λ m. tags_alike v m es)
   where
     go : (b : Bool) → ((m : ℕ) → shown_tags v (with_marks m es) ≡ map (λ (t : ShownTag). record t { target = commit_mark v t.target }) (tags_seen es))
         → shown_tags v (cond b (Blob id (n + 1) bytes ∷ with_marks (n + 1) es) (Blob id mark bytes ∷ with_marks n es)) ≡ map (λ (t : ShownTag). record t { target = commit_mark v t.target }) (tags_seen es)
     go true r = r (n + 1)
     go false r = r n
-tags_alike v n (Commit id mark branch author committer encoding comment parents ops ∷ es) = go (mark == 0) (λ m. tags_alike v m es)
+tags_alike v n (Commit id mark branch author committer encoding comment parents ops aliases ∷ es) = go (mark == 0) (λ m. tags_alike v m es)
   where
     go : (b : Bool) → ((m : ℕ) → shown_tags v (with_marks m es) ≡ map (λ (t : ShownTag). record t { target = commit_mark v t.target }) (tags_seen es))
-        → shown_tags v (cond b (Commit id (n + 1) branch author committer encoding comment parents ops ∷ with_marks (n + 1) es) (Commit id mark branch author committer encoding comment parents ops ∷ with_marks n es))
+        → shown_tags v (cond b (Commit id (n + 1) branch author committer encoding comment parents ops aliases ∷ with_marks (n + 1) es) (Commit id mark branch author committer encoding comment parents ops aliases ∷ with_marks n es))
         ≡ map (λ (t : ShownTag). record t { target = commit_mark v t.target }) (tags_seen es)
     go true r = r (n + 1)
     go false r = r n

@@ -16,8 +16,8 @@ use Rattle.replay_laws.specs.Replay.{Numbered, Replayed, bytes_marked, number_ma
 
 abbrev pub event_id : PlainEvent → ℕ
 event_id (Blob id mark bytes) = id
-event_id (Commit id mark branch author committer encoding comment parents ops) = id
-event_id (Tag id name target tagger comment) = id
+event_id (Commit id mark branch author committer encoding comment parents ops aliases) = id
+event_id (Tag id name target tagger comment mark) = id
 event_id (Reset id branch target) = id
 event_id (Pass id line) = id
 
@@ -52,13 +52,13 @@ apart_ids k n id c is h = ne_eqb id c (λ e. omega arith)
 -- the commit that a mark finds has a place
 pub commit_place : (k : ℕ) (es : List PlainEvent) → ArePlaced k es → (m c : ℕ) → commit_marked es m ≡ Some c → Within k (length es) c
 commit_place k [] a m c h = absurd cc
-commit_place k (Commit id mark branch author committer encoding comment parents ops ∷ es) a m c h = go (mark == m) h (λ x. commit_place (suc k) es a.1 m c x)
+commit_place k (Commit id mark branch author committer encoding comment parents ops aliases ∷ es) a m c h = go (mark == m) h (λ x. commit_place (suc k) es a.1 m c x)
   where
     go : (b : Bool) → cond b (Some id) (commit_marked es m) ≡ Some c → (commit_marked es m ≡ Some c → Within (suc k) (length es) c) → Within k (suc (length es)) c
     go true y f = first_of_range k (length es) id c a.0 (let is : id ≡ c = cc in is)
     go false y f = wider k (length es) c (f y)
 commit_place k (Blob id mark bytes ∷ es) a m c h = wider k (length es) c (commit_place (suc k) es a.1 m c h)
-commit_place k (Tag id name target tagger comment ∷ es) a m c h = wider k (length es) c (commit_place (suc k) es a.1 m c h)
+commit_place k (Tag id name target tagger comment mark ∷ es) a m c h = wider k (length es) c (commit_place (suc k) es a.1 m c h)
 commit_place k (Reset id branch target ∷ es) a m c h = wider k (length es) c (commit_place (suc k) es a.1 m c h)
 commit_place k (Pass id line ∷ es) a m c h = wider k (length es) c (commit_place (suc k) es a.1 m c h)
 
@@ -66,8 +66,8 @@ commit_place k (Pass id line ∷ es) a m c h = wider k (length es) c (commit_pla
 abbrev pub marked_blobs : List PlainEvent → List (ℕ × Bytes)
 marked_blobs [] = []
 marked_blobs (Blob id mark bytes ∷ es) = (mark, bytes) ∷ marked_blobs es
-marked_blobs (Commit id mark branch author committer encoding comment parents ops ∷ es) = marked_blobs es
-marked_blobs (Tag id name target tagger comment ∷ es) = marked_blobs es
+marked_blobs (Commit id mark branch author committer encoding comment parents ops aliases ∷ es) = marked_blobs es
+marked_blobs (Tag id name target tagger comment mark ∷ es) = marked_blobs es
 marked_blobs (Reset id branch target ∷ es) = marked_blobs es
 marked_blobs (Pass id line ∷ es) = marked_blobs es
 
@@ -88,8 +88,8 @@ blob_place k (Blob id mark bytes ∷ es) a m b h = go (mark == m) h (λ x. blob_
     go false y f =
         let r = f y in
         (wider k (length es) b r.0, r.1 ∙ ap (λ (z : Bytes). Some z) (sym (cond-false (id == b) bytes (blob_bytes es b) (apart_ids k (length es) id b a.0 r.0))))
-blob_place k (Commit id mark branch author committer encoding comment parents ops ∷ es) a m b h = let r = blob_place (suc k) es a.1 m b h in (wider k (length es) b r.0, r.1)
-blob_place k (Tag id name target tagger comment ∷ es) a m b h = let r = blob_place (suc k) es a.1 m b h in (wider k (length es) b r.0, r.1)
+blob_place k (Commit id mark branch author committer encoding comment parents ops aliases ∷ es) a m b h = let r = blob_place (suc k) es a.1 m b h in (wider k (length es) b r.0, r.1)
+blob_place k (Tag id name target tagger comment mark ∷ es) a m b h = let r = blob_place (suc k) es a.1 m b h in (wider k (length es) b r.0, r.1)
 blob_place k (Reset id branch target ∷ es) a m b h = let r = blob_place (suc k) es a.1 m b h in (wider k (length es) b r.0, r.1)
 blob_place k (Pass id line ∷ es) a m b h = let r = blob_place (suc k) es a.1 m b h in (wider k (length es) b r.0, r.1)
 
@@ -98,29 +98,29 @@ blob_place k (Pass id line ∷ es) a m b h = let r = blob_place (suc k) es a.1 m
 -- the commits of a part of a history, by their ids
 abbrev pub commits_seen : List PlainEvent → List PlainEvent → List Numbered
 commits_seen whole [] = []
-commits_seen whole (Commit id mark branch author committer encoding comment parents ops ∷ es) =
+commits_seen whole (Commit id mark branch author committer encoding comment parents ops aliases ∷ es) =
     record {
       number = id;
       commit = record { mark = mark; branch = branch; author = author; committer = committer; encoding = encoding; comment = comment; parents = parents; tree = shown_tree whole id };
     } ∷ commits_seen whole es
 commits_seen whole (Blob id mark bytes ∷ es) = commits_seen whole es
-commits_seen whole (Tag id name target tagger comment ∷ es) = commits_seen whole es
+commits_seen whole (Tag id name target tagger comment mark ∷ es) = commits_seen whole es
 commits_seen whole (Reset id branch target ∷ es) = commits_seen whole es
 commits_seen whole (Pass id line ∷ es) = commits_seen whole es
 
 abbrev pub tags_seen : List PlainEvent → List ShownTag
 tags_seen [] = []
-tags_seen (Tag id name target tagger comment ∷ es) = record { name = name; target = target; tagger = tagger; comment = comment } ∷ tags_seen es
+tags_seen (Tag id name target tagger comment mark ∷ es) = record { name = name; target = target; tagger = tagger; comment = comment } ∷ tags_seen es
 tags_seen (Blob id mark bytes ∷ es) = tags_seen es
-tags_seen (Commit id mark branch author committer encoding comment parents ops ∷ es) = tags_seen es
+tags_seen (Commit id mark branch author committer encoding comment parents ops aliases ∷ es) = tags_seen es
 tags_seen (Reset id branch target ∷ es) = tags_seen es
 tags_seen (Pass id line ∷ es) = tags_seen es
 
 -- the id, if there is no mark
 abbrev pub own_unmarked : PlainEvent → List ℕ
 own_unmarked (Blob id mark bytes) = cond (mark == 0) (id ∷ []) []
-own_unmarked (Commit id mark branch author committer encoding comment parents ops) = cond (mark == 0) (id ∷ []) []
-own_unmarked (Tag id name target tagger comment) = []
+own_unmarked (Commit id mark branch author committer encoding comment parents ops aliases) = cond (mark == 0) (id ∷ []) []
+own_unmarked (Tag id name target tagger comment mark) = []
 own_unmarked (Reset id branch target) = []
 own_unmarked (Pass id line) = []
 
@@ -142,16 +142,16 @@ seen_of es = record {
 -- a mark finds the same commit
 pub number_alike : (w es : List PlainEvent) (m : ℕ) → number_marked (commits_seen w es) m ≡ commit_marked es m
 number_alike w [] m = refl
-number_alike w (Commit id mark branch author committer encoding comment parents ops ∷ es) m = ap (λ (o : Option ℕ). cond (mark == m) (Some id) o) (number_alike w es m)
+number_alike w (Commit id mark branch author committer encoding comment parents ops aliases ∷ es) m = ap (λ (o : Option ℕ). cond (mark == m) (Some id) o) (number_alike w es m)
 number_alike w (Blob id mark bytes ∷ es) m = number_alike w es m
-number_alike w (Tag id name target tagger comment ∷ es) m = number_alike w es m
+number_alike w (Tag id name target tagger comment mark ∷ es) m = number_alike w es m
 number_alike w (Reset id branch target ∷ es) m = number_alike w es m
 number_alike w (Pass id line ∷ es) m = number_alike w es m
 
 -- a number finds the files of its commit among some events
 files_among : (w es : List PlainEvent) (c : ℕ) → files_of (commits_seen w es) c ≡ cond (knows (nodes es) c) (shown_tree w c) None
 files_among w [] c = refl
-files_among w (Commit id mark branch author committer encoding comment parents ops ∷ es) c = go (id == c) refl (files_among w es c)
+files_among w (Commit id mark branch author committer encoding comment parents ops aliases ∷ es) c = go (id == c) refl (files_among w es c)
   where
     one : Numbered
     one = record {
@@ -164,7 +164,7 @@ files_among w (Commit id mark branch author committer encoding comment parents o
     go true x r = ap (shown_tree w) (eqb-true id c x)
     go false x r = r
 files_among w (Blob id mark bytes ∷ es) c = files_among w es c
-files_among w (Tag id name target tagger comment ∷ es) c = files_among w es c
+files_among w (Tag id name target tagger comment mark ∷ es) c = files_among w es c
 files_among w (Reset id branch target ∷ es) c = files_among w es c
 files_among w (Pass id line ∷ es) c = files_among w es c
 
@@ -207,27 +207,27 @@ nothing_more (x ∷ xs) = ap (λ l. x ∷ l) (nothing_more xs)
 
 pub nodes_append : (a b : List PlainEvent) → nodes (a ++ b) ≡ nodes a ++ nodes b
 nodes_append [] b = refl
-nodes_append (Commit id mark branch author committer encoding comment parents ops ∷ a) b = ap (λ (l : List Node). record { id = id; parents = parents; ops = ops } ∷ l) (nodes_append a b)
+nodes_append (Commit id mark branch author committer encoding comment parents ops aliases ∷ a) b = ap (λ (l : List Node). record { id = id; parents = parents; ops = ops } ∷ l) (nodes_append a b)
 nodes_append (_ ∷ a) b = nodes_append a b
 
 pub refs_append : (t : TreeOf ℕ) (a b : List PlainEvent) → refs_after t (a ++ b) ≡ refs_after (refs_after t a) b
 refs_append t [] b = refl
 refs_append t (Blob id mark bytes ∷ a) b = refs_append t a b
-refs_append t (Commit id mark branch author committer encoding comment parents ops ∷ a) b = refs_append (put branch id t) a b
-refs_append t (Tag id name target tagger comment ∷ a) b = refs_append t a b
+refs_append t (Commit id mark branch author committer encoding comment parents ops aliases ∷ a) b = refs_append (put branch id t) a b
+refs_append t (Tag id name target tagger comment mark ∷ a) b = refs_append t a b
 refs_append t (Reset id branch None ∷ a) b = refs_append _ a b
 refs_append t (Reset id branch (Some c) ∷ a) b = refs_append (put branch c t) a b
 refs_append t (Pass id line ∷ a) b = refs_append t a b
 
 pub commits_append : (w a b : List PlainEvent) → commits_seen w (a ++ b) ≡ commits_seen w a ++ commits_seen w b
 commits_append w [] b = refl
-commits_append w (Commit id mark branch author committer encoding comment parents ops ∷ a) b =
+commits_append w (Commit id mark branch author committer encoding comment parents ops aliases ∷ a) b =
     ap (λ (l : List Numbered). record {
       number = id;
       commit = record { mark = mark; branch = branch; author = author; committer = committer; encoding = encoding; comment = comment; parents = parents; tree = shown_tree w id };
     } ∷ l) (commits_append w a b)
 commits_append w (Blob id mark bytes ∷ a) b = commits_append w a b
-commits_append w (Tag id name target tagger comment ∷ a) b = commits_append w a b
+commits_append w (Tag id name target tagger comment mark ∷ a) b = commits_append w a b
 commits_append w (Reset id branch target ∷ a) b = commits_append w a b
 commits_append w (Pass id line ∷ a) b = commits_append w a b
 
@@ -238,7 +238,7 @@ blobs_append (_ ∷ a) b = blobs_append a b
 
 pub tags_append : (a b : List PlainEvent) → tags_seen (a ++ b) ≡ tags_seen a ++ tags_seen b
 tags_append [] b = refl
-tags_append (Tag id name target tagger comment ∷ a) b = ap (λ (l : List ShownTag). record { name = name; target = target; tagger = tagger; comment = comment } ∷ l) (tags_append a b)
+tags_append (Tag id name target tagger comment mark ∷ a) b = ap (λ (l : List ShownTag). record { name = name; target = target; tagger = tagger; comment = comment } ∷ l) (tags_append a b)
 tags_append (_ ∷ a) b = tags_append a b
 
 -- two lists after a third
@@ -267,7 +267,7 @@ bytes_new k [] b c p h = refl
 bytes_new k (Blob id mark bytes ∷ a) b c p h =
     let is = p.0 in
     cond-false (id == c) bytes (blob_bytes (a ++ b) c) (ne_eqb id c (λ e. omega arith)) ∙ bytes_new (suc k) a b c p.1 (omega arith)
-bytes_new k (Commit id mark branch author committer encoding comment parents ops ∷ a) b c p h = bytes_new (suc k) a b c p.1 (omega arith)
-bytes_new k (Tag id name target tagger comment ∷ a) b c p h = bytes_new (suc k) a b c p.1 (omega arith)
+bytes_new k (Commit id mark branch author committer encoding comment parents ops aliases ∷ a) b c p h = bytes_new (suc k) a b c p.1 (omega arith)
+bytes_new k (Tag id name target tagger comment mark ∷ a) b c p h = bytes_new (suc k) a b c p.1 (omega arith)
 bytes_new k (Reset id branch target ∷ a) b c p h = bytes_new (suc k) a b c p.1 (omega arith)
 bytes_new k (Pass id line ∷ a) b c p h = bytes_new (suc k) a b c p.1 (omega arith)

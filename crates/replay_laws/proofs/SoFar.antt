@@ -156,55 +156,55 @@ pub record IsSoFar (events : List PlainEvent) : Type 0 where
 
 -- an event refers to ids below a number
 abbrev pub RefersBelow : ℕ → PlainEvent → Type 0
-RefersBelow n (Commit id mark branch author committer encoding comment parents ops) = AllBelow n parents × AllBelow n (blobs_of ops)
+RefersBelow n (Commit id mark branch author committer encoding comment parents ops aliases) = AllBelow n parents × AllBelow n (blobs_of ops)
 RefersBelow n (Reset id branch (Some c)) = c < n
 RefersBelow n (Reset id branch None) = Unit {0}
 RefersBelow n (Blob id mark bytes) = Unit {0}
-RefersBelow n (Tag id name target tagger comment) = Unit {0}
+RefersBelow n (Tag id name target tagger comment mark) = Unit {0}
 RefersBelow n (Pass id line) = Unit {0}
 
 -- no bytes for an id before an event's own
 other_bytes : (e : PlainEvent) (b : ℕ) → b < event_id e → blob_bytes (e ∷ []) b ≡ []
 other_bytes (Blob id mark bytes) b h = cond-false (id == b) bytes [] (ne_eqb id b (λ e. omega arith))
-other_bytes (Commit id mark branch author committer encoding comment parents ops) b h = refl
-other_bytes (Tag id name target tagger comment) b h = refl
+other_bytes (Commit id mark branch author committer encoding comment parents ops aliases) b h = refl
+other_bytes (Tag id name target tagger comment mark) b h = refl
 other_bytes (Reset id branch target) b h = refl
 other_bytes (Pass id line) b h = refl
 
 -- a commit before an event isn't it
 other_tree : (f : Entry → Shown) (e : PlainEvent) (older : Past) (c : ℕ) → c < event_id e → seen f (reverse (nodes (e ∷ [])) ++ older) c ≡ seen f older c
-other_tree f (Commit id mark branch author committer encoding comment parents ops) older c h = seen_other f (record { id = id; parents = parents; ops = ops }) older c (ne_eqb id c (λ e. omega arith))
+other_tree f (Commit id mark branch author committer encoding comment parents ops aliases) older c h = seen_other f (record { id = id; parents = parents; ops = ops }) older c (ne_eqb id c (λ e. omega arith))
 other_tree f (Blob id mark bytes) older c h = refl
-other_tree f (Tag id name target tagger comment) older c h = refl
+other_tree f (Tag id name target tagger comment mark) older c h = refl
 other_tree f (Reset id branch target) older c h = refl
 other_tree f (Pass id line) older c h = refl
 
 -- commits whose trees are shown alike
 commits_same : (w v es : List PlainEvent) → AllByRecursion (λ c. shown_tree w c.id ≡ shown_tree v c.id) (nodes es) → commits_seen w es ≡ commits_seen v es
 commits_same w v [] a = refl
-commits_same w v (Commit id mark branch author committer encoding comment parents ops ∷ es) a = λ i. record {
+commits_same w v (Commit id mark branch author committer encoding comment parents ops aliases ∷ es) a = λ i. record {
   number = id;
   commit = record { mark = mark; branch = branch; author = author; committer = committer; encoding = encoding; comment = comment; parents = parents; tree = a.0 i };
 } ∷ commits_same w v es a.1 i
 commits_same w v (Blob id mark bytes ∷ es) a = commits_same w v es a
-commits_same w v (Tag id name target tagger comment ∷ es) a = commits_same w v es a
+commits_same w v (Tag id name target tagger comment mark ∷ es) a = commits_same w v es a
 commits_same w v (Reset id branch target ∷ es) a = commits_same w v es a
 commits_same w v (Pass id line ∷ es) a = commits_same w v es a
 
 -- the tips after one more event
 tips_more : (n m : ℕ) → n + 1 ≤ m → (e : PlainEvent) → event_id e ≡ n → RefersBelow n e → (t : TreeOf ℕ) → TipsBelow n t → TipsBelow m (refs_after t (e ∷ []))
-tips_more n m h (Commit id mark branch author committer encoding comment parents ops) own r t a = all_put (λ x. x < m) branch id t (omega arith) (all_imply (λ x. x.1 < n) (λ x. x.1 < m) (λ x k. omega arith) t a)
+tips_more n m h (Commit id mark branch author committer encoding comment parents ops aliases) own r t a = all_put (λ x. x < m) branch id t (omega arith) (all_imply (λ x. x.1 < n) (λ x. x.1 < m) (λ x k. omega arith) t a)
 tips_more n m h (Reset id branch (Some c)) own r t a = all_put (λ x. x < m) branch c t (omega arith) (all_imply (λ x. x.1 < n) (λ x. x.1 < m) (λ x k. omega arith) t a)
 tips_more n m h (Reset id branch None) own r t a = all_where (λ x. x < m) (λ b. not (bytes_eq branch b)) t (all_imply (λ x. x.1 < n) (λ x. x.1 < m) (λ x k. omega arith) t a)
 tips_more n m h (Blob id mark bytes) own r t a = all_imply (λ x. x.1 < n) (λ x. x.1 < m) (λ x k. omega arith) t a
-tips_more n m h (Tag id name target tagger comment) own r t a = all_imply (λ x. x.1 < n) (λ x. x.1 < m) (λ x k. omega arith) t a
+tips_more n m h (Tag id name target tagger comment mark) own r t a = all_imply (λ x. x.1 < n) (λ x. x.1 < m) (λ x k. omega arith) t a
 tips_more n m h (Pass id line) own r t a = all_imply (λ x. x.1 < n) (λ x. x.1 < m) (λ x k. omega arith) t a
 
 -- the commits of one more event
 nodes_more : (n m : ℕ) → n + 1 ≤ m → (e : PlainEvent) → event_id e ≡ n → RefersBelow n e → AllByRecursion (NodeBelow m) (nodes (e ∷ []))
-nodes_more n m h (Commit id mark branch author committer encoding comment parents ops) own r = (record { own = omega arith; parents = all_up n m (omega arith) parents r.0; blobs = all_up n m (omega arith) (blobs_of ops) r.1 }, tt)
+nodes_more n m h (Commit id mark branch author committer encoding comment parents ops aliases) own r = (record { own = omega arith; parents = all_up n m (omega arith) parents r.0; blobs = all_up n m (omega arith) (blobs_of ops) r.1 }, tt)
 nodes_more n m h (Blob id mark bytes) own r = tt
-nodes_more n m h (Tag id name target tagger comment) own r = tt
+nodes_more n m h (Tag id name target tagger comment mark) own r = tt
 nodes_more n m h (Reset id branch target) own r = tt
 nodes_more n m h (Pass id line) own r = tt
 
@@ -289,7 +289,7 @@ module _ (events : List PlainEvent) (s : IsSoFar events) (e : PlainEvent) (own :
 module _ (events : List PlainEvent) (s : IsSoFar events) (id mark : ℕ) (branch : Bytes) (author committer : Signed) (encoding : Option Bytes) (comment : Bytes) (parents : List ℕ) (ops : List FileOp)
     (own : id ≡ length events + 1) (known : AllBelow (length events + 1) (blobs_of ops)) where
   abbrev the_commit : PlainEvent
-  the_commit = Commit id mark branch author committer encoding comment parents ops
+  the_commit = Commit id mark branch author committer encoding comment parents ops aliases
 
   abbrev with_it : List PlainEvent
   with_it = events ++ the_commit ∷ []

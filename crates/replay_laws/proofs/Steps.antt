@@ -344,7 +344,7 @@ module _ (old standing : Standing) (k : Known) (files : Option (TreeOf Shown)) (
   line_goes word.Commit i d h known j =
       let a = bind_ok (name_in (text_of line)) _ known j in
       if_reads known _ _ a.0 a.1 (known_is known _ AtLine a.2 (commit_begins a.0))
-  line_goes word.Tag i d h known j =
+  line_goes word.Tag i d h known j mark =
       let a = bind_ok (name_in (text_of line)) _ known j in
       if_reads known _ _ a.0 a.1 (known_is known _ AtLine a.2 (begins_event (ATag a.0 0 None) (λ r. InTag a.0 0 None) None refl tt))
   line_goes word.Reset i d h known j =

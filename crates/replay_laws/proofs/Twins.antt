@@ -139,8 +139,8 @@ module _ (events : List PlainEvent) (s : IsSoFar events) where
   })
 
   tag_more : (name : Bytes) (target : ℕ) (tagger : Option Signed) (comment : Bytes)
-      → seen_of (with_event events (plain.Tag (next_id events) name target tagger comment)) ≡ with_tag (seen_of events) (record { name = name; target = target; tagger = tagger; comment = comment })
-  tag_more name target tagger comment = seen_more events s (plain.Tag (next_id events) name target tagger comment) refl ∙ (λ i. record {
+      → seen_of (with_event events (plain.Tag (next_id events) name target tagger comment mark)) ≡ with_tag (seen_of events) (record { name = name; target = target; tagger = tagger; comment = comment })
+  tag_more name target tagger comment = seen_more events s (plain.Tag (next_id events) name target tagger comment mark) refl ∙ (λ i. record {
     count = length events + 1;
     blobs = nothing_more (marked_blobs events) i;
     commits = nothing_more (commits_seen events events) i;
@@ -171,7 +171,7 @@ module _ (events : List PlainEvent) (s : IsSoFar events) where
 
   module _ (c : OpenCommit) (files : Option (TreeOf Shown)) (g : HasFiles AtLine expected.Event events c.ops c.parents files None) (committer : Signed) where
     abbrev that_commit : PlainEvent
-    that_commit = plain.Commit (next_id events) c.mark c.branch (unwrap_or c.author committer) committer c.encoding c.comment c.parents c.ops
+    that_commit = plain.Commit (next_id events) c.mark c.branch (unwrap_or c.author committer) committer c.encoding c.comment c.parents c.ops aliases
 
     its_tree : shown_tree (with_event events that_commit) (next_id events) ≡ files
     its_tree = new_tree events s (next_id events) c.mark c.branch (unwrap_or c.author committer) committer c.encoding c.comment c.parents c.ops refl g.1 ∙ sym g.0
@@ -303,7 +303,7 @@ module _ (standing : Standing) (events : List PlainEvent) (s : IsSoFar events) (
       (after_data bytes (record { standing = standing; replayed = seen_of events; reading = reading_of current files waiting }))
   arrives Nothing files waiting g = (files, waiting, refl, refl, s, tt)
   arrives (ABlob mark) files waiting g = (files, waiting, sym (blob_more events s mark bytes), refl, so_far_more events s (plain.Blob (next_id events) mark bytes) refl tt, tt)
-  arrives (ATag name target tagger) files waiting g = (files, waiting, sym (tag_more events s name target tagger bytes), refl, so_far_more events s (plain.Tag (next_id events) name target tagger bytes) refl tt, tt)
+  arrives (ATag name target tagger) files waiting g = (files, waiting, sym (tag_more events s name target tagger bytes), refl, so_far_more events s (plain.Tag (next_id events) name target tagger bytes mark) refl tt, tt)
   arrives (AReset branch None) files waiting g = (files, waiting, refl, refl, s, tt)
   arrives (AReset branch (Some c)) files waiting g = (files, waiting, refl, refl, s, g)
   arrives (ACommit c) files waiting g = go (is_inline_expected standing.expected) refl

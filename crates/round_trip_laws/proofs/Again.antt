@@ -36,10 +36,10 @@ all_marked n [] h = refl
 all_marked n (Blob id mark bytes ∷ events) h =
     cond-false (mark == 0) (Blob id (n + 1) bytes ∷ with_marks (n + 1) events) (Blob id mark bytes ∷ with_marks n events) (ne_eqb mark 0 (λ e. absurd (let low = h.0.0 in omega (arith, e, low))))
     ∙ ap (λ (l : List PlainEvent). Blob id mark bytes ∷ l) (all_marked n events h.1)
-all_marked n (Commit id mark branch author committer encoding comment parents ops ∷ events) h =
-    cond-false (mark == 0) (Commit id (n + 1) branch author committer encoding comment parents ops ∷ with_marks (n + 1) events) (Commit id mark branch author committer encoding comment parents ops ∷ with_marks n events) (ne_eqb mark 0 (λ e. absurd (let low = h.0.0.0 in omega (arith, e, low))))
-    ∙ ap (λ (l : List PlainEvent). Commit id mark branch author committer encoding comment parents ops ∷ l) (all_marked n events h.1)
-all_marked n (Tag id name target tagger comment ∷ events) h = ap (λ (l : List PlainEvent). Tag id name target tagger comment ∷ l) (all_marked n events h.1)
+all_marked n (Commit id mark branch author committer encoding comment parents ops aliases ∷ events) h =
+    cond-false (mark == 0) (Commit id (n + 1) branch author committer encoding comment parents ops aliases ∷ with_marks (n + 1) events) (Commit id mark branch author committer encoding comment parents ops aliases ∷ with_marks n events) (ne_eqb mark 0 (λ e. absurd (let low = h.0.0.0 in omega (arith, e, low))))
+    ∙ ap (λ (l : List PlainEvent). Commit id mark branch author committer encoding comment parents ops aliases ∷ l) (all_marked n events h.1)
+all_marked n (Tag id name target tagger comment mark ∷ events) h = ap (λ (l : List PlainEvent). Tag id name target tagger comment mark ∷ l) (all_marked n events h.1)
 all_marked n (Reset id branch target ∷ events) h = ap (λ (l : List PlainEvent). Reset id branch target ∷ l) (all_marked n events h.1)
 all_marked n (Pass id line ∷ events) h = ap (λ (l : List PlainEvent). Pass id line ∷ l) (all_marked n events h.1)
 
@@ -91,9 +91,9 @@ next_split whole done e later s = record {
 
 -- a commit's own operations are carried out
 carried_out : (whole done later : List PlainEvent) (id mark : ℕ) (branch : Bytes) (author committer : Signed) (encoding : Option Bytes) (comment : Bytes) (parents : List ℕ) (ops : List FileOp)
-    → HaveTrees whole → IsSplit whole done (Commit id mark branch author committer encoding comment parents ops ∷ later) → IsSome (folded ops (begun (tree done) parents))
+    → HaveTrees whole → IsSplit whole done (Commit id mark branch author committer encoding comment parents ops aliases ∷ later) → IsSome (folded ops (begun (tree done) parents))
 carried_out whole done later id mark branch author committer encoding comment parents ops trees s =
-    let own = Commit id mark branch author committer encoding comment parents ops in
+    let own = Commit id mark branch author committer encoding comment parents ops aliases in
     let here : has_id (own ∷ later) (any.Commit id) ≡ true = or_true (id == id) (has_id later (any.Commit id)) (eq-eqb id id refl) in
     let there : IsCommitOf whole id = subst (λ (w : List PlainEvent). has_id w (any.Commit id) ≡ true) (sym s.is) (commit_after done (own ∷ later) id here) in
     let place = s.placed.0 in
@@ -104,7 +104,7 @@ carried_out whole done later id mark branch author committer encoding comment pa
 
 -- a root's branch has no tip
 root_is : (done : List PlainEvent) (id mark : ℕ) (branch : Bytes) (author committer : Signed) (encoding : Option Bytes) (comment : Bytes) (parents : List ℕ) (ops : List FileOp)
-    → IsRooted done (Commit id mark branch author committer encoding comment parents ops) → parents ≡ [] → has (refs done) branch ≡ false
+    → IsRooted done (Commit id mark branch author committer encoding comment parents ops aliases) → parents ≡ [] → has (refs done) branch ≡ false
 root_is done id mark branch author committer encoding comment [] ops h e = h
 root_is done id mark branch author committer encoding comment (p ∷ ps) ops h e = absurd cc
 
@@ -116,7 +116,7 @@ event_goes : (whole done : List PlainEvent) (e : PlainEvent) (later : List Plain
     → GivesAfter (done ++ e ∷ []) rest history → GivesAfter done (event_text whole (refs done) e ++ rest) history
 event_goes whole done (Blob id mark bytes) later trees s rest history k d wants events current h =
     blob_goes d wants events current done h rest history whole id mark bytes s.placed.0 s.formed.0 s.sound.0.1 k
-event_goes whole done (Commit id mark branch author committer encoding comment parents ops) later trees s rest history k d wants events current h =
+event_goes whole done (Commit id mark branch author committer encoding comment parents ops aliases) later trees s rest history k d wants events current h =
     let (fresh, new, named, written_by, committed_by, encoded, children, apart, few, refers) = s.sound.0 in
     let (is_mark, formed) = s.formed.0 in
     commit_goes d wants events current whole done h s.found id mark branch author committer encoding comment parents ops
@@ -135,7 +135,7 @@ event_goes whole done (Commit id mark branch author committer encoding comment p
       formed = formed;
       carried_out = carried_out whole done later id mark branch author committer encoding comment parents ops trees s;
     }) rest history k
-event_goes whole done (Tag id name target tagger comment) later trees s rest history k d wants events current h =
+event_goes whole done (Tag id name target tagger comment mark) later trees s rest history k d wants events current h =
     let (fresh, named, there, formed) = s.sound.0 in
     tag_goes d wants events current done h rest history whole id name target tagger comment s.placed.0 named (s.found.commits target there) formed k
 event_goes whole done (Reset id branch target) later trees s rest history k d wants events current h =
@@ -150,8 +150,8 @@ event_goes whole done (Pass id line) later trees s rest history k d wants events
 refs_parts : (t : TreeOf ℕ) (a b : List PlainEvent) → refs_after t (a ++ b) ≡ refs_after (refs_after t a) b
 refs_parts t [] b = refl
 refs_parts t (Blob id mark bytes ∷ a) b = refs_parts t a b
-refs_parts t (Commit id mark branch author committer encoding comment parents ops ∷ a) b = refs_parts (put branch id t) a b
-refs_parts t (Tag id name target tagger comment ∷ a) b = refs_parts t a b
+refs_parts t (Commit id mark branch author committer encoding comment parents ops aliases ∷ a) b = refs_parts (put branch id t) a b
+refs_parts t (Tag id name target tagger comment mark ∷ a) b = refs_parts t a b
 refs_parts t (Reset id branch None ∷ a) b = refs_parts _ a b
 refs_parts t (Reset id branch (Some c) ∷ a) b = refs_parts (put branch c t) a b
 refs_parts t (Pass id line ∷ a) b = refs_parts t a b

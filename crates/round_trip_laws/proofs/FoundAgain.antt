@@ -23,14 +23,14 @@ use Rattle.round_trip_laws.specs.AsRead.{ArePlaced}
 
 commit_of_parts : (a b : List PlainEvent) (c : ℕ) → has_id (a ++ b) (any.Commit c) ≡ true → (has_id a (any.Commit c) ≡ true) ⊎ (has_id b (any.Commit c) ≡ true)
 commit_of_parts [] b c h = inr h
-commit_of_parts (Commit id mark branch author committer encoding comment parents ops ∷ a) b c h = go (id == c) h (commit_of_parts a b c)
+commit_of_parts (Commit id mark branch author committer encoding comment parents ops aliases ∷ a) b c h = go (id == c) h (commit_of_parts a b c)
   where
     go : (t : Bool) → (t || has_id (a ++ b) (any.Commit c)) ≡ true → (has_id (a ++ b) (any.Commit c) ≡ true → (has_id a (any.Commit c) ≡ true) ⊎ (has_id b (any.Commit c) ≡ true))
         → ((t || has_id a (any.Commit c)) ≡ true) ⊎ (has_id b (any.Commit c) ≡ true)
     go true h f = inl refl
     go false h f = f h
 commit_of_parts (Blob id mark bytes ∷ a) b c h = commit_of_parts a b c h
-commit_of_parts (Tag id name target tagger comment ∷ a) b c h = commit_of_parts a b c h
+commit_of_parts (Tag id name target tagger comment mark ∷ a) b c h = commit_of_parts a b c h
 commit_of_parts (Reset id branch target ∷ a) b c h = commit_of_parts a b c h
 commit_of_parts (Pass id line ∷ a) b c h = commit_of_parts a b c h
 
@@ -42,21 +42,21 @@ blob_of_parts (Blob id mark bytes ∷ a) b c h = go (id == c) h (blob_of_parts a
         → ((t || has_id a (any.Blob c)) ≡ true) ⊎ (has_id b (any.Blob c) ≡ true)
     go true h f = inl refl
     go false h f = f h
-blob_of_parts (Commit id mark branch author committer encoding comment parents ops ∷ a) b c h = blob_of_parts a b c h
-blob_of_parts (Tag id name target tagger comment ∷ a) b c h = blob_of_parts a b c h
+blob_of_parts (Commit id mark branch author committer encoding comment parents ops aliases ∷ a) b c h = blob_of_parts a b c h
+blob_of_parts (Tag id name target tagger comment mark ∷ a) b c h = blob_of_parts a b c h
 blob_of_parts (Reset id branch target ∷ a) b c h = blob_of_parts a b c h
 blob_of_parts (Pass id line ∷ a) b c h = blob_of_parts a b c h
 
 -- an id that is after others
 pub commit_after : (a b : List PlainEvent) (c : ℕ) → has_id b (any.Commit c) ≡ true → has_id (a ++ b) (any.Commit c) ≡ true
 commit_after [] b c h = h
-commit_after (Commit id mark branch author committer encoding comment parents ops ∷ a) b c h = go (id == c) (commit_after a b c h)
+commit_after (Commit id mark branch author committer encoding comment parents ops aliases ∷ a) b c h = go (id == c) (commit_after a b c h)
   where
     go : (t : Bool) → has_id (a ++ b) (any.Commit c) ≡ true → (t || has_id (a ++ b) (any.Commit c)) ≡ true
     go true h = refl
     go false h = h
 commit_after (Blob id mark bytes ∷ a) b c h = commit_after a b c h
-commit_after (Tag id name target tagger comment ∷ a) b c h = commit_after a b c h
+commit_after (Tag id name target tagger comment mark ∷ a) b c h = commit_after a b c h
 commit_after (Reset id branch target ∷ a) b c h = commit_after a b c h
 commit_after (Pass id line ∷ a) b c h = commit_after a b c h
 
@@ -65,11 +65,11 @@ commit_after (Pass id line ∷ a) b c h = commit_after a b c h
 -- an id that no event has so far
 commit_mark_new : (a b : List PlainEvent) (c : ℕ) → has_id a (any.Commit c) ≡ false → commit_mark (a ++ b) c ≡ commit_mark b c
 commit_mark_new [] b c h = refl
-commit_mark_new (Commit id mark branch author committer encoding comment parents ops ∷ a) b c h =
+commit_mark_new (Commit id mark branch author committer encoding comment parents ops aliases ∷ a) b c h =
     let parts = or_parts (id == c) (has_id a (any.Commit c)) h in
     cond-false (id == c) mark (commit_mark (a ++ b) c) parts.0 ∙ commit_mark_new a b c parts.1
 commit_mark_new (Blob id mark bytes ∷ a) b c h = commit_mark_new a b c h
-commit_mark_new (Tag id name target tagger comment ∷ a) b c h = commit_mark_new a b c h
+commit_mark_new (Tag id name target tagger comment mark ∷ a) b c h = commit_mark_new a b c h
 commit_mark_new (Reset id branch target ∷ a) b c h = commit_mark_new a b c h
 commit_mark_new (Pass id line ∷ a) b c h = commit_mark_new a b c h
 
@@ -78,21 +78,21 @@ blob_mark_new whole [] b c h = refl
 blob_mark_new whole (Blob id mark bytes ∷ a) b c h =
     let parts = or_parts (id == c) (has_id a (any.Blob c)) h in
     cond-false (id == c) mark (blob_mark_in whole (a ++ b) c) parts.0 ∙ blob_mark_new whole a b c parts.1
-blob_mark_new whole (Commit id mark branch author committer encoding comment parents ops ∷ a) b c h = blob_mark_new whole a b c h
-blob_mark_new whole (Tag id name target tagger comment ∷ a) b c h = blob_mark_new whole a b c h
+blob_mark_new whole (Commit id mark branch author committer encoding comment parents ops aliases ∷ a) b c h = blob_mark_new whole a b c h
+blob_mark_new whole (Tag id name target tagger comment mark ∷ a) b c h = blob_mark_new whole a b c h
 blob_mark_new whole (Reset id branch target ∷ a) b c h = blob_mark_new whole a b c h
 blob_mark_new whole (Pass id line ∷ a) b c h = blob_mark_new whole a b c h
 
 -- a mark that finds something still finds it
 commit_still : (a b : List PlainEvent) (m c : ℕ) → commit_marked a m ≡ Some c → commit_marked (a ++ b) m ≡ Some c
 commit_still [] b m c h = absurd (none-some c h)
-commit_still (Commit id mark branch author committer encoding comment parents ops ∷ a) b m c h = go (mark == m) h (commit_still a b m c)
+commit_still (Commit id mark branch author committer encoding comment parents ops aliases ∷ a) b m c h = go (mark == m) h (commit_still a b m c)
   where
     go : (t : Bool) → cond t (Some id) (commit_marked a m) ≡ Some c → (commit_marked a m ≡ Some c → commit_marked (a ++ b) m ≡ Some c) → cond t (Some id) (commit_marked (a ++ b) m) ≡ Some c
     go true x f = x
     go false x f = f x
 commit_still (Blob id mark bytes ∷ a) b m c h = commit_still a b m c h
-commit_still (Tag id name target tagger comment ∷ a) b m c h = commit_still a b m c h
+commit_still (Tag id name target tagger comment mark ∷ a) b m c h = commit_still a b m c h
 commit_still (Reset id branch target ∷ a) b m c h = commit_still a b m c h
 commit_still (Pass id line ∷ a) b m c h = commit_still a b m c h
 
@@ -103,19 +103,19 @@ blob_still (Blob id mark bytes ∷ a) b m c h = go (mark == m) h (blob_still a b
     go : (t : Bool) → cond t (Some id) (blob_marked a m) ≡ Some c → (blob_marked a m ≡ Some c → blob_marked (a ++ b) m ≡ Some c) → cond t (Some id) (blob_marked (a ++ b) m) ≡ Some c
     go true x f = x
     go false x f = f x
-blob_still (Commit id mark branch author committer encoding comment parents ops ∷ a) b m c h = blob_still a b m c h
-blob_still (Tag id name target tagger comment ∷ a) b m c h = blob_still a b m c h
+blob_still (Commit id mark branch author committer encoding comment parents ops aliases ∷ a) b m c h = blob_still a b m c h
+blob_still (Tag id name target tagger comment mark ∷ a) b m c h = blob_still a b m c h
 blob_still (Reset id branch target ∷ a) b m c h = blob_still a b m c h
 blob_still (Pass id line ∷ a) b m c h = blob_still a b m c h
 
 -- a mark that wasn't there finds what is after
 commit_new : (a b : List PlainEvent) (m : ℕ) → is_marked a m ≡ false → commit_marked (a ++ b) m ≡ commit_marked b m
 commit_new [] b m h = refl
-commit_new (Commit id mark branch author committer encoding comment parents ops ∷ a) b m h =
+commit_new (Commit id mark branch author committer encoding comment parents ops aliases ∷ a) b m h =
     let parts = or_parts (mark == m) (is_marked a m) h in
     cond-false (mark == m) (Some id) (commit_marked (a ++ b) m) parts.0 ∙ commit_new a b m parts.1
 commit_new (Blob id mark bytes ∷ a) b m h = commit_new a b m (or_parts (mark == m) (is_marked a m) h).1
-commit_new (Tag id name target tagger comment ∷ a) b m h = commit_new a b m h
+commit_new (Tag id name target tagger comment mark ∷ a) b m h = commit_new a b m h
 commit_new (Reset id branch target ∷ a) b m h = commit_new a b m h
 commit_new (Pass id line ∷ a) b m h = commit_new a b m h
 
@@ -124,8 +124,8 @@ blob_new [] b m h = refl
 blob_new (Blob id mark bytes ∷ a) b m h =
     let parts = or_parts (mark == m) (is_marked a m) h in
     cond-false (mark == m) (Some id) (blob_marked (a ++ b) m) parts.0 ∙ blob_new a b m parts.1
-blob_new (Commit id mark branch author committer encoding comment parents ops ∷ a) b m h = blob_new a b m (or_parts (mark == m) (is_marked a m) h).1
-blob_new (Tag id name target tagger comment ∷ a) b m h = blob_new a b m h
+blob_new (Commit id mark branch author committer encoding comment parents ops aliases ∷ a) b m h = blob_new a b m (or_parts (mark == m) (is_marked a m) h).1
+blob_new (Tag id name target tagger comment mark ∷ a) b m h = blob_new a b m h
 blob_new (Reset id branch target ∷ a) b m h = blob_new a b m h
 blob_new (Pass id line ∷ a) b m h = blob_new a b m h
 
@@ -194,7 +194,7 @@ module _ (done more : List PlainEvent) (id mark : ℕ) (bytes : Bytes) (fresh : 
 module _ (done more : List PlainEvent) (id mark : ℕ) (branch : Bytes) (author committer : Signed) (encoding : Option Bytes) (comment : Bytes) (parents : List ℕ) (ops : List FileOp)
     (fresh : has_id done (any.Commit id) ≡ false) (new : is_marked done mark ≡ false) (is_mark : IsMark mark) where
   abbrev the_commit : PlainEvent
-  the_commit = Commit id mark branch author committer encoding comment parents ops
+  the_commit = Commit id mark branch author committer encoding comment parents ops aliases
 
   abbrev with_the_commit : List PlainEvent
   with_the_commit = done ++ the_commit ∷ more
@@ -216,9 +216,9 @@ module _ (done more : List PlainEvent) (id mark : ℕ) (branch : Bytes) (author 
 -- any event
 found_with : (done more : List PlainEvent) (e : PlainEvent) → AreFound (done ++ e ∷ more) done → IsSoundEvent done e → IsFormedEvent e → AreFound (done ++ e ∷ more) (done ++ e ∷ [])
 found_with done more (Blob id mark bytes) s sound formed = found_with_blob done more id mark bytes sound.0 sound.1 formed s
-found_with done more (Commit id mark branch author committer encoding comment parents ops) s sound formed =
+found_with done more (Commit id mark branch author committer encoding comment parents ops aliases) s sound formed =
     found_with_commit done more id mark branch author committer encoding comment parents ops sound.0 sound.1 formed.0 s
-found_with done more (Tag id name target tagger comment) s sound formed = found_more (done ++ Tag id name target tagger comment ∷ more) done (Tag id name target tagger comment) s (λ c h. absurd cc) (λ b h. absurd cc)
+found_with done more (Tag id name target tagger comment mark) s sound formed = found_more (done ++ Tag id name target tagger comment mark ∷ more) done (Tag id name target tagger comment mark) s (λ c h. absurd cc) (λ b h. absurd cc)
 found_with done more (Reset id branch target) s sound formed = found_more (done ++ Reset id branch target ∷ more) done (Reset id branch target) s (λ c h. absurd cc) (λ b h. absurd cc)
 found_with done more (Pass id line) s sound formed = found_more (done ++ Pass id line ∷ more) done (Pass id line) s (λ c h. absurd cc) (λ b h. absurd cc)
 
@@ -232,19 +232,19 @@ found_next whole done more e is s sound formed =
 -- no event after a place has an id before it
 pub place_other : (k c : ℕ) (events : List PlainEvent) → ArePlaced k events → c < k → has_id events (any.Commit c) ≡ false
 place_other k c [] a h = refl
-place_other k c (Commit id mark branch author committer encoding comment parents ops ∷ events) a h =
+place_other k c (Commit id mark branch author committer encoding comment parents ops aliases ∷ events) a h =
     or_from (id == c) (has_id events (any.Commit c)) (ne_eqb id c (λ e. absurd (let here = a.0 in omega (arith, e, here)))) (place_other (suc k) c events a.1 (omega arith))
 place_other k c (Blob id mark bytes ∷ events) a h = place_other (suc k) c events a.1 (omega arith)
-place_other k c (Tag id name target tagger comment ∷ events) a h = place_other (suc k) c events a.1 (omega arith)
+place_other k c (Tag id name target tagger comment mark ∷ events) a h = place_other (suc k) c events a.1 (omega arith)
 place_other k c (Reset id branch target ∷ events) a h = place_other (suc k) c events a.1 (omega arith)
 place_other k c (Pass id line ∷ events) a h = place_other (suc k) c events a.1 (omega arith)
 
 -- commits of two parts
 nodes_parts : (a b : List PlainEvent) → nodes (a ++ b) ≡ nodes a ++ nodes b
 nodes_parts [] b = refl
-nodes_parts (Commit id mark branch author committer encoding comment parents ops ∷ a) b = ap (λ (l : List Node). record { id = id; parents = parents; ops = ops } ∷ l) (nodes_parts a b)
+nodes_parts (Commit id mark branch author committer encoding comment parents ops aliases ∷ a) b = ap (λ (l : List Node). record { id = id; parents = parents; ops = ops } ∷ l) (nodes_parts a b)
 nodes_parts (Blob id mark bytes ∷ a) b = nodes_parts a b
-nodes_parts (Tag id name target tagger comment ∷ a) b = nodes_parts a b
+nodes_parts (Tag id name target tagger comment mark ∷ a) b = nodes_parts a b
 nodes_parts (Reset id branch target ∷ a) b = nodes_parts a b
 nodes_parts (Pass id line ∷ a) b = nodes_parts a b
 
@@ -264,22 +264,22 @@ knows_parts (n ∷ a) b c h k =
 -- what isn't an id of a commit isn't known
 unknown : (events : List PlainEvent) (c : ℕ) → has_id events (any.Commit c) ≡ false → knows (past events) c ≡ false
 unknown [] c h = refl
-unknown (Commit id mark branch author committer encoding comment parents ops ∷ events) c h =
+unknown (Commit id mark branch author committer encoding comment parents ops aliases ∷ events) c h =
     let own : Node = record { id = id; parents = parents; ops = ops } in
     let parts = or_parts (id == c) (has_id events (any.Commit c)) h in
     ap (λ (p : Past). knows p c) (reverse-append (own ∷ []) (nodes events))
     ∙ knows_parts (past events) (own ∷ []) c (unknown events c parts.1) (or_from (id == c) false parts.0 refl)
 unknown (Blob id mark bytes ∷ events) c h = unknown events c h
-unknown (Tag id name target tagger comment ∷ events) c h = unknown events c h
+unknown (Tag id name target tagger comment mark ∷ events) c h = unknown events c h
 unknown (Reset id branch target ∷ events) c h = unknown events c h
 unknown (Pass id line ∷ events) c h = unknown events c h
 
 -- the commit's own tree, whatever follows
 pub own_tree : (done more : List PlainEvent) (id mark : ℕ) (branch : Bytes) (author committer : Signed) (encoding : Option Bytes) (comment : Bytes) (parents : List ℕ) (ops : List FileOp) → has_id more (any.Commit id) ≡ false
-    → tree (done ++ Commit id mark branch author committer encoding comment parents ops ∷ more) id ≡ folded ops (begun (tree done) parents)
+    → tree (done ++ Commit id mark branch author committer encoding comment parents ops aliases ∷ more) id ≡ folded ops (begun (tree done) parents)
 own_tree done more id mark branch author committer encoding comment parents ops h =
     let own : Node = record { id = id; parents = parents; ops = ops } in
-    ap (λ (l : List Node). tree_in (reverse l) id) (nodes_parts done (Commit id mark branch author committer encoding comment parents ops ∷ more))
+    ap (λ (l : List Node). tree_in (reverse l) id) (nodes_parts done (Commit id mark branch author committer encoding comment parents ops aliases ∷ more))
     ∙ ap (λ (p : Past). tree_in p id) (reverse-append (nodes done) (own ∷ nodes more) ∙ ap (λ (p : Past). p ++ past done) (reverse-append (own ∷ []) (nodes more)) ∙ append_assoc (past more) (own ∷ []) (past done))
     ∙ tree_skips (past more) (own ∷ past done) id (unknown more id h)
     ∙ cond-true (id == id) (folded ops (begun (tree_in (past done)) parents)) (tree_in (past done) id) (eq-eqb id id refl)

@@ -197,9 +197,9 @@ no_reset whole tips branch (p ∷ ps) h = refl
 module _ (d : Expected) (wants : Bool) (events : List PlainEvent) (current : Open) (whole done : List PlainEvent) (h : IsAfter d wants events current done) (found : AreFound whole done)
     (id mark : ℕ) (branch : Bytes) (author committer : Signed) (encoding : Option Bytes) (comment : Bytes) (parents : List ℕ) (ops : List FileOp)
     (fits : CommitFits whole done id mark branch author committer encoding comment parents ops) (rest : Bytes) (history : List PlainEvent)
-    (k : GivesAfter (done ++ Commit id mark branch author committer encoding comment parents ops ∷ []) rest history) where
+    (k : GivesAfter (done ++ Commit id mark branch author committer encoding comment parents ops aliases ∷ []) rest history) where
   abbrev own : PlainEvent
-  own = Commit id mark branch author committer encoding comment parents ops
+  own = Commit id mark branch author committer encoding comment parents ops aliases
 
   -- the empty line after it
   end_goes : GivesAfterOps whole done found wants branch mark author committer encoding comment history parents ops (10 ∷ rest)
@@ -208,7 +208,7 @@ module _ (d : Expected) (wants : Bool) (events : List PlainEvent) (current : Ope
       (empty_leads place may wants done (ACommit (so_far whole done found wants branch mark author committer encoding comment history parents ops)))
       (k expected.Event wants done (ACommit (so_far whole done found wants branch mark author committer encoding comment history parents ops)) (record {
         between = refl;
-        are = ap (λ n. done ++ Commit n mark branch author committer encoding comment parents ops ∷ []) (sym fits.place);
+        are = ap (λ n. done ++ Commit n mark branch author committer encoding comment parents ops aliases ∷ []) (sym fits.place);
         promised = h.promised ∙ promise_more done own;
       }))
 

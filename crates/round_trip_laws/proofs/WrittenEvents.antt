@@ -80,7 +80,7 @@ module _ (d : Expected) (wants : Bool) (events : List PlainEvent) (current : Ope
   tagged_grouped a b c e = simp append_assoc
 
   pub tag_goes : (whole : List PlainEvent) (id : ℕ) (name : Bytes) (target : ℕ) (tagger : Option Signed) (comment : Bytes) → id ≡ next_id done → IsTrue (is_name name) → FindsCommit whole done target → IfSome tagger IsFormedSigned
-      → GivesAfter (done ++ Tag id name target tagger comment ∷ []) rest history → from_here (event_text whole (refs done) (Tag id name target tagger comment) ++ rest)
+      → GivesAfter (done ++ Tag id name target tagger comment mark ∷ []) rest history → from_here (event_text whole (refs done) (Tag id name target tagger comment mark) ++ rest)
   tag_goes whole id name target None comment place named found formed k =
       let from_line = codes "from " ++ marked (commit_mark whole target) in
       let after_from = data_block comment ++ rest in
@@ -90,8 +90,8 @@ module _ (d : Expected) (wants : Bool) (events : List PlainEvent) (current : Ope
       (line_goes (point expected.TagFrom wants done (ATag name 0 None)) (point expected.TagOid wants done (ATag name target None)) from_line after_from word.From history
       (tag_from_leads wants done (commit_mark whole target) target found.0 found.1 name 0 None)
       (data_goes (point expected.TagOid wants done (ATag name target None)) (record { expected = expected.Event; wants_done = wants }) comment refl rest history
-      (k expected.Event wants (done ++ Tag (next_id done) name target None comment ∷ []) Nothing
-      (record { between = refl; are = ap (λ n. done ++ Tag n name target None comment ∷ []) (sym place); promised = promised_still (Tag id name target None comment) refl })))))
+      (k expected.Event wants (done ++ Tag (next_id done) name target None comment mark ∷ []) Nothing
+      (record { between = refl; are = ap (λ n. done ++ Tag n name target None comment mark ∷ []) (sym place); promised = promised_still (Tag id name target None comment mark) refl })))))
   tag_goes whole id name target (Some who) comment place named found formed k =
       let from_line = codes "from " ++ marked (commit_mark whole target) in
       let tagger_line = codes "tagger " ++ person who in
@@ -104,8 +104,8 @@ module _ (d : Expected) (wants : Bool) (events : List PlainEvent) (current : Ope
       (line_goes (point expected.TagOid wants done (ATag name target None)) (point expected.TagData wants done (ATag name target (Some who))) tagger_line after_tagger word.Tagger history
       (tagger_leads wants done who formed name target None)
       (data_goes (point expected.TagData wants done (ATag name target (Some who))) (record { expected = expected.Event; wants_done = wants }) comment refl rest history
-      (k expected.Event wants (done ++ Tag (next_id done) name target (Some who) comment ∷ []) Nothing
-      (record { between = refl; are = ap (λ n. done ++ Tag n name target (Some who) comment ∷ []) (sym place); promised = promised_still (Tag id name target (Some who) comment) refl }))))))
+      (k expected.Event wants (done ++ Tag (next_id done) name target (Some who) comment mark ∷ []) Nothing
+      (record { between = refl; are = ap (λ n. done ++ Tag n name target (Some who) comment mark ∷ []) (sym place); promised = promised_still (Tag id name target (Some who) comment mark) refl }))))))
 
   -- ---- resets
 

@@ -19,7 +19,7 @@ ArePlaced k (e ∷ events) = (id_number (id_of e) ≡ k) × ArePlaced (suc k) ev
 
 -- a commit without parents stands where its branch has no tip
 abbrev pub IsRooted : List PlainEvent → PlainEvent → Type 0
-IsRooted earlier (Commit id mark branch author committer encoding comment [] ops) = IsFalse (has (refs earlier) branch)
+IsRooted earlier (Commit id mark branch author committer encoding comment [] ops aliases) = IsFalse (has (refs earlier) branch)
 IsRooted earlier other = Unit {0}
 
 abbrev pub AreRootedAfter : List PlainEvent → List PlainEvent → Type 0

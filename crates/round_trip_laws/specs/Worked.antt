@@ -24,15 +24,15 @@ two_branches =
     Pass 1 (codes "feature done")
     ∷ Blob 2 1 (codes "hi")
     ∷ Commit 3 2 (codes "refs/heads/a") ann ann None (codes "first") []
-    (Modify Plain (OfBlob 2) (codes "a b") ∷ Modify Link (OfBlob 2) (codes "\"x") ∷ [])
+    (Modify Plain (OfBlob 2) (codes "a b") ∷ Modify Link (OfBlob 2) (codes "\"x") ∷ []) []
     ∷ Reset 4 (codes "refs/heads/b") (Some 3)
     ∷ Commit 5 3 (codes "refs/heads/b") bob ann (Some (codes "latin1")) [] (3 ∷ [])
-    (Rename (codes "a b") (codes "c") ∷ Copy (codes "\"x") (codes "d\ne") ∷ [])
+    (Rename (codes "a b") (codes "c") ∷ Copy (codes "\"x") (codes "d\ne") ∷ []) []
     ∷ Commit 6 4 (codes "refs/heads/a") ann bob None (codes "both\n") (3 ∷ 5 ∷ [])
-    (DeleteAll ∷ Modify Gitlink (Object an_object) (codes "lib") ∷ Delete (codes "c") ∷ [])
+    (DeleteAll ∷ Modify Gitlink (Object an_object) (codes "lib") ∷ Delete (codes "c") ∷ []) []
     ∷ Reset 7 (codes "refs/heads/b") None
-    ∷ Tag 8 (codes "v1") 6 (Some bob) (codes "one")
-    ∷ Tag 9 (codes "v2") 3 None []
+    ∷ Tag 8 (codes "v1") 6 (Some bob) (codes "one") None
+    ∷ Tag 9 (codes "v2") 3 None [] None
     ∷ []
 
 -- the lines that are written of it

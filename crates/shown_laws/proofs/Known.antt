@@ -32,9 +32,9 @@ NamesKnown w DeleteAll = Unit {0}
 -- an event of these, which refers to others of them
 abbrev pub IsKnown : List PlainEvent → PlainEvent → Type 0
 IsKnown w (Blob id mark bytes) = Unit {0}
-IsKnown w (Commit id mark branch author committer encoding comment parents ops) =
+IsKnown w (Commit id mark branch author committer encoding comment parents ops aliases) =
     IsCommitOf w id × AllByRecursion (IsCommitOf w) parents × AllByRecursion (NamesKnown w) ops
-IsKnown w (Tag id name target tagger comment) = IsCommitOf w target
+IsKnown w (Tag id name target tagger comment mark) = IsCommitOf w target
 IsKnown w (Reset id branch target) = IfSome target (IsCommitOf w)
 IsKnown w (Pass id line) = Unit {0}
 
@@ -64,12 +64,12 @@ module _ (earlier more : List PlainEvent) where
 -- an event after earlier ones, and before others
 event_known : (earlier : List PlainEvent) (e : PlainEvent) (events : List PlainEvent) → IsSoundEvent earlier e → IsKnown (earlier ++ e ∷ events) e
 event_known earlier (Blob id mark bytes) events h = tt
-event_known earlier (Commit id mark branch author committer encoding comment parents ops) events h = (
-  has_own earlier events (Commit id mark branch author committer encoding comment parents ops),
-  commits_still earlier (Commit id mark branch author committer encoding comment parents ops ∷ events) parents h.6,
-  ops_known earlier (Commit id mark branch author committer encoding comment parents ops ∷ events) ops h.9,
+event_known earlier (Commit id mark branch author committer encoding comment parents ops aliases) events h = (
+  has_own earlier events (Commit id mark branch author committer encoding comment parents ops aliases),
+  commits_still earlier (Commit id mark branch author committer encoding comment parents ops aliases ∷ events) parents h.6,
+  ops_known earlier (Commit id mark branch author committer encoding comment parents ops aliases ∷ events) ops h.9,
 )
-event_known earlier (Tag id name target tagger comment) events h = has_id_still earlier (Tag id name target tagger comment ∷ events) (any.Commit target) h.2
+event_known earlier (Tag id name target tagger comment mark) events h = has_id_still earlier (Tag id name target tagger comment mark ∷ events) (any.Commit target) h.2
 event_known earlier (Reset id branch None) events h = tt
 event_known earlier (Reset id branch (Some c)) events h = has_id_still earlier (Reset id branch (Some c) ∷ events) (any.Commit c) h.2
 event_known earlier (Pass id line) events h = tt
@@ -90,15 +90,15 @@ all_known events h = known_after [] events h
 module _ (P : PlainEvent → Type 0) (of_reset : (branch : List ℕ) → P (Reset 0 branch None)) where
   pub all_with_resets : (tips : TreeOf ℕ) (events : List PlainEvent) → AllByRecursion P events → AllByRecursion P (reset_from tips events)
   all_with_resets tips [] h = tt
-  all_with_resets tips (Commit id mark branch author committer encoding comment [] ops ∷ events) h = go (has tips branch) (all_with_resets (put branch id tips) events h.1)
+  all_with_resets tips (Commit id mark branch author committer encoding comment [] ops aliases ∷ events) h = go (has tips branch) (all_with_resets (put branch id tips) events h.1)
     where
       go : (b : Bool) → AllByRecursion P (reset_from (put branch id tips) events)
-          → AllByRecursion P ((if b then Reset 0 branch None ∷ [] else []) ++ Commit id mark branch author committer encoding comment [] ops ∷ reset_from (put branch id tips) events)
+          → AllByRecursion P ((if b then Reset 0 branch None ∷ [] else []) ++ Commit id mark branch author committer encoding comment [] ops aliases ∷ reset_from (put branch id tips) events)
       go true r = (of_reset branch, (h.0, r))
       go false r = (h.0, r)
-  all_with_resets tips (Commit id mark branch author committer encoding comment (p ∷ ps) ops ∷ events) h = (h.0, all_with_resets (put branch id tips) events h.1)
+  all_with_resets tips (Commit id mark branch author committer encoding comment (p ∷ ps) ops aliases ∷ events) h = (h.0, all_with_resets (put branch id tips) events h.1)
   all_with_resets tips (Blob id mark bytes ∷ events) h = (h.0, all_with_resets tips events h.1)
-  all_with_resets tips (Tag id name target tagger comment ∷ events) h = (h.0, all_with_resets tips events h.1)
+  all_with_resets tips (Tag id name target tagger comment mark ∷ events) h = (h.0, all_with_resets tips events h.1)
   all_with_resets tips (Reset id branch None ∷ events) h = (h.0, all_with_resets (without_branch branch tips) events h.1)
   all_with_resets tips (Reset id branch (Some c) ∷ events) h = (h.0, all_with_resets (put branch c tips) events h.1)
   all_with_resets tips (Pass id line ∷ events) h = (h.0, all_with_resets tips events h.1)
@@ -113,8 +113,8 @@ formed_with_resets = all_with_resets IsFormedEvent (λ branch. tt)
 
 abbrev pub IsFitEvent : List PlainEvent → PlainEvent → Type 0
 IsFitEvent earlier (Blob id mark bytes) = IsSoundEvent earlier (Blob id mark bytes)
-IsFitEvent earlier (Commit id mark branch author committer encoding comment parents ops) = IsSoundEvent earlier (Commit id mark branch author committer encoding comment parents ops)
-IsFitEvent earlier (Tag id name target tagger comment) = IsTrue (is_name name) × IsCommitOf earlier target × IfSome tagger IsFormedSigned
+IsFitEvent earlier (Commit id mark branch author committer encoding comment parents ops aliases) = IsSoundEvent earlier (Commit id mark branch author committer encoding comment parents ops aliases)
+IsFitEvent earlier (Tag id name target tagger comment mark) = IsTrue (is_name name) × IsCommitOf earlier target × IfSome tagger IsFormedSigned
 IsFitEvent earlier (Reset id branch target) = IsTrue (is_name branch) × IfSome target (IsCommitOf earlier)
 IsFitEvent earlier (Pass id line) = IsTrue (is_passed_line line)
 
@@ -172,20 +172,20 @@ module _ (old new : List PlainEvent) (a : AreAlike old new) where
 
   event_fit : (e : PlainEvent) → IsSoundEvent old e → IsFitEvent new e
   event_fit (Blob id mark bytes) h = (sym (a.blobs id) ∙ h.0, sym (a.marks mark) ∙ h.1)
-  event_fit (Commit id mark branch author committer encoding comment parents ops) h =
+  event_fit (Commit id mark branch author committer encoding comment parents ops aliases) h =
       (sym (a.commits id) ∙ h.0, sym (a.marks mark) ∙ h.1, h.2, h.3, h.4, h.5, parents_alike parents h.6, h.7, h.8, ops_alike ops h.9)
-  event_fit (Tag id name target tagger comment) h = (h.1, sym (a.commits target) ∙ h.2, h.3)
+  event_fit (Tag id name target tagger comment mark) h = (h.1, sym (a.commits target) ∙ h.2, h.3)
   event_fit (Reset id branch None) h = (h.1, tt)
   event_fit (Reset id branch (Some c)) h = (h.1, sym (a.commits c) ∙ h.2)
   event_fit (Pass id line) h = h.1
 
 fit_after : (old new : List PlainEvent) → AreAlike old new → (tips : TreeOf ℕ) (events : List PlainEvent) → AreSoundAfter old events → AreFitAfter new (reset_from tips events)
 fit_after old new a tips [] h = tt
-fit_after old new a tips (Commit id mark branch author committer encoding comment [] ops ∷ events) h =
-    go (has tips branch) (λ new a. fit_after (old ++ Commit id mark branch author committer encoding comment [] ops ∷ []) (new ++ Commit id mark branch author committer encoding comment [] ops ∷ []) (alike_more old new _ a) (put branch id tips) events h.1)
+fit_after old new a tips (Commit id mark branch author committer encoding comment [] ops aliases ∷ events) h =
+    go (has tips branch) (λ new a. fit_after (old ++ Commit id mark branch author committer encoding comment [] ops aliases ∷ []) (new ++ Commit id mark branch author committer encoding comment [] ops aliases ∷ []) (alike_more old new _ a) (put branch id tips) events h.1)
   where
     e : PlainEvent
-    e = Commit id mark branch author committer encoding comment [] ops
+    e = Commit id mark branch author committer encoding comment [] ops aliases
 
     go : (b : Bool) → ((new : List PlainEvent) → AreAlike old new → AreFitAfter (new ++ e ∷ []) (reset_from (put branch id tips) events))
         → AreFitAfter new ((if b then Reset 0 branch None ∷ [] else []) ++ e ∷ reset_from (put branch id tips) events)
@@ -193,14 +193,14 @@ fit_after old new a tips (Commit id mark branch author committer encoding commen
         let alike = alike_reset old new branch a in
         ((h.0.2, tt), (event_fit old (new ++ Reset 0 branch None ∷ []) alike e h.0, rest (new ++ Reset 0 branch None ∷ []) alike))
     go false rest = (event_fit old new a e h.0, rest new a)
-fit_after old new a tips (Commit id mark branch author committer encoding comment (p ∷ ps) ops ∷ events) h =
-    let e : PlainEvent = Commit id mark branch author committer encoding comment (p ∷ ps) ops in
+fit_after old new a tips (Commit id mark branch author committer encoding comment (p ∷ ps) ops aliases ∷ events) h =
+    let e : PlainEvent = Commit id mark branch author committer encoding comment (p ∷ ps) ops aliases in
     (event_fit old new a e h.0, fit_after (old ++ e ∷ []) (new ++ e ∷ []) (alike_more old new e a) (put branch id tips) events h.1)
 fit_after old new a tips (Blob id mark bytes ∷ events) h =
     let e : PlainEvent = Blob id mark bytes in
     (event_fit old new a e h.0, fit_after (old ++ e ∷ []) (new ++ e ∷ []) (alike_more old new e a) tips events h.1)
-fit_after old new a tips (Tag id name target tagger comment ∷ events) h =
-    let e : PlainEvent = Tag id name target tagger comment in
+fit_after old new a tips (Tag id name target tagger comment mark ∷ events) h =
+    let e : PlainEvent = Tag id name target tagger comment mark in
     (event_fit old new a e h.0, fit_after (old ++ e ∷ []) (new ++ e ∷ []) (alike_more old new e a) tips events h.1)
 fit_after old new a tips (Reset id branch None ∷ events) h =
     let e : PlainEvent = Reset id branch None in

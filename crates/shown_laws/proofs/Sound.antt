@@ -89,13 +89,13 @@ module _ (whole : List PlainEvent) where
         ap (λ (l : List PlainEvent). place l (any.Blob id)) w ∙ place_is earlier events e k is h.0.0,
         agree_after (earlier ++ e ∷ []) events (suc k) (w ∙ sym (append_assoc earlier (e ∷ []) events)) (more earlier e k is) h.1,
       )
-  agree_after earlier (Commit id mark branch author committer encoding comment parents ops ∷ events) k w is h =
-      let e : PlainEvent = Commit id mark branch author committer encoding comment parents ops in (
+  agree_after earlier (Commit id mark branch author committer encoding comment parents ops aliases ∷ events) k w is h =
+      let e : PlainEvent = Commit id mark branch author committer encoding comment parents ops aliases in (
         ap (λ (l : List PlainEvent). place l (any.Commit id)) w ∙ place_is earlier events e k is h.0.0,
         agree_after (earlier ++ e ∷ []) events (suc k) (w ∙ sym (append_assoc earlier (e ∷ []) events)) (more earlier e k is) h.1,
       )
-  agree_after earlier (Tag id name target tagger comment ∷ events) k w is h =
-      let e : PlainEvent = Tag id name target tagger comment in
+  agree_after earlier (Tag id name target tagger comment mark ∷ events) k w is h =
+      let e : PlainEvent = Tag id name target tagger comment mark in
       agree_after (earlier ++ e ∷ []) events (suc k) (w ∙ sym (append_assoc earlier (e ∷ []) events)) (more earlier e k is) h.1
   agree_after earlier (Reset id branch target ∷ events) k w is h =
       let e : PlainEvent = Reset id branch target in
@@ -165,7 +165,7 @@ module _ (blob commit : ℕ → ℕ) where
 
     event_sound : (k : ℕ) → k ≡ 1 + length old → (e : PlainEvent) → IsFitEvent old e → IsSoundEvent (under 1 old) (renamed blob commit k e)
     event_sound k is (Blob id mark bytes) h = (fresh k (any.Blob k) is refl, marks_under blob commit 1 mark old ∙ h.1)
-    event_sound k is (Commit id mark branch author committer encoding comment parents ops) h = (
+    event_sound k is (Commit id mark branch author committer encoding comment parents ops aliases) h = (
       fresh k (any.Commit k) is refl,
       marks_under blob commit 1 mark old ∙ h.1,
       h.2,
@@ -177,7 +177,7 @@ module _ (blob commit : ℕ → ℕ) where
       (let few = h.8 in let many = as_many parents in omega arith),
       ops_refer ops h.9,
     )
-    event_sound k is (Tag id name target tagger comment) h = (fresh k (any.Tag k) is refl, h.0, commit_under blob commit 1 target old agree h.1, h.2)
+    event_sound k is (Tag id name target tagger comment mark) h = (fresh k (any.Tag k) is refl, h.0, commit_under blob commit 1 target old agree h.1, h.2)
     event_sound k is (Reset id branch None) h = (fresh k (any.Reset k) is refl, h.0, tt)
     event_sound k is (Reset id branch (Some c)) h = (fresh k (any.Reset k) is refl, h.0, commit_under blob commit 1 c old agree h.1)
     event_sound k is (Pass id line) h = (fresh k (any.Pass k) is refl, h)
@@ -202,11 +202,11 @@ module _ (blob commit : ℕ → ℕ) where
 
   pub came_from : (k c : ℕ) (events : List PlainEvent) → Agree blob commit k events → has_id (under k events) (any.Commit c) ≡ true → CameFrom events c
   came_from k c [] a h = absurd cc
-  came_from k c (Commit id mark branch author committer encoding comment parents ops ∷ events) a h =
+  came_from k c (Commit id mark branch author committer encoding comment parents ops aliases ∷ events) a h =
       go (or_cases (k == c) (has_id (under (suc k) events) (any.Commit c)) h) (λ x. came_from (suc k) c events a.1 x)
     where
       go : ((k == c) ≡ true) ⊎ (has_id (under (suc k) events) (any.Commit c) ≡ true) → (has_id (under (suc k) events) (any.Commit c) ≡ true → CameFrom events c)
-          → CameFrom (Commit id mark branch author committer encoding comment parents ops ∷ events) c
+          → CameFrom (Commit id mark branch author committer encoding comment parents ops aliases ∷ events) c
       go (inl here) more = record { commit_id = id; was = ap (λ t. t || has_id events (any.Commit id)) (eq-eqb id id refl); is = a.0 ∙ eqb-true k c here }
       go (inr later) more = let r = more later in record { commit_id = r.commit_id; was = there (id == r.commit_id) (has_id events (any.Commit r.commit_id)) r.was; is = r.is }
         where
@@ -214,7 +214,7 @@ module _ (blob commit : ℕ → ℕ) where
           there true t h = refl
           there false t h = h
   came_from k c (Blob id mark bytes ∷ events) a h = let r = came_from (suc k) c events a.1 h in record { commit_id = r.commit_id; was = r.was; is = r.is }
-  came_from k c (Tag id name target tagger comment ∷ events) a h = let r = came_from (suc k) c events a h in record { commit_id = r.commit_id; was = r.was; is = r.is }
+  came_from k c (Tag id name target tagger comment mark ∷ events) a h = let r = came_from (suc k) c events a h in record { commit_id = r.commit_id; was = r.was; is = r.is }
   came_from k c (Reset id branch target ∷ events) a h = let r = came_from (suc k) c events a h in record { commit_id = r.commit_id; was = r.was; is = r.is }
   came_from k c (Pass id line ∷ events) a h = let r = came_from (suc k) c events a h in record { commit_id = r.commit_id; was = r.was; is = r.is }
 
@@ -235,8 +235,8 @@ module _ (blob commit : ℕ → ℕ) where
   pub formed_under : (k : ℕ) (events : List PlainEvent) → AllByRecursion IsFormedEvent events → AllByRecursion IsFormedEvent (under k events)
   formed_under k [] h = tt
   formed_under k (Blob id mark bytes ∷ events) h = (h.0, formed_under (suc k) events h.1)
-  formed_under k (Commit id mark branch author committer encoding comment parents ops ∷ events) h = ((h.0.0, ops_formed ops h.0.1), formed_under (suc k) events h.1)
-  formed_under k (Tag id name target tagger comment ∷ events) h = (h.0, formed_under (suc k) events h.1)
+  formed_under k (Commit id mark branch author committer encoding comment parents ops aliases ∷ events) h = ((h.0.0, ops_formed ops h.0.1), formed_under (suc k) events h.1)
+  formed_under k (Tag id name target tagger comment mark ∷ events) h = (h.0, formed_under (suc k) events h.1)
   formed_under k (Reset id branch target ∷ events) h = (h.0, formed_under (suc k) events h.1)
   formed_under k (Pass id line ∷ events) h = (h.0, formed_under (suc k) events h.1)
 
@@ -245,17 +245,17 @@ module _ (blob commit : ℕ → ℕ) where
 pub refs_append : (t : TreeOf ℕ) (a b : List PlainEvent) → refs_after t (a ++ b) ≡ refs_after (refs_after t a) b
 refs_append t [] b = refl
 refs_append t (Blob id mark bytes ∷ a) b = refs_append t a b
-refs_append t (Commit id mark branch author committer encoding comment parents ops ∷ a) b = refs_append (put branch id t) a b
-refs_append t (Tag id name target tagger comment ∷ a) b = refs_append t a b
+refs_append t (Commit id mark branch author committer encoding comment parents ops aliases ∷ a) b = refs_append (put branch id t) a b
+refs_append t (Tag id name target tagger comment mark ∷ a) b = refs_append t a b
 refs_append t (Reset id branch None ∷ a) b = refs_append _ a b
 refs_append t (Reset id branch (Some c) ∷ a) b = refs_append (put branch c t) a b
 refs_append t (Pass id line ∷ a) b = refs_append t a b
 
 event_rooted : (earlier : List PlainEvent) (e : PlainEvent) → IsRootedOn (refs earlier) e → IsRooted earlier e
-event_rooted earlier (Commit id mark branch author committer encoding comment [] ops) h = h
-event_rooted earlier (Commit id mark branch author committer encoding comment (p ∷ ps) ops) h = tt
+event_rooted earlier (Commit id mark branch author committer encoding comment [] ops aliases) h = h
+event_rooted earlier (Commit id mark branch author committer encoding comment (p ∷ ps) ops aliases) h = tt
 event_rooted earlier (Blob id mark bytes) h = tt
-event_rooted earlier (Tag id name target tagger comment) h = tt
+event_rooted earlier (Tag id name target tagger comment mark) h = tt
 event_rooted earlier (Reset id branch target) h = tt
 event_rooted earlier (Pass id line) h = tt
 

@@ -60,7 +60,7 @@ record IsWithin (more : ℕ) (k : Known) : Type 0 where
 -- what is closed has no more events and operations than were counted
 closed_commit_count : (events : List PlainEvent) (c : OpenCommit) (committer : Option Signed) → (length (closed_commit events c committer) ≤ length events + 1) × (ops_in (closed_commit events c committer) ≤ ops_in events + length c.ops)
 closed_commit_count events c None = (omega arith, omega arith)
-closed_commit_count events c (Some who) = go (plain.Commit _ c.mark c.branch _ who c.encoding c.comment c.parents c.ops) refl
+closed_commit_count events c (Some who) = go (plain.Commit _ c.mark c.branch _ who c.encoding c.comment c.parents c.ops aliases) refl
   where
     go : (e : PlainEvent) → ops_in_event e ≡ length c.ops → (length (with_event events e) ≤ length events + 1) × (ops_in (with_event events e) ≤ ops_in events + length c.ops)
     go e is = let more = length-more events e in let ops = ops-more events e in (omega arith, omega arith)
@@ -444,8 +444,8 @@ data_counts true events (ACommit c) bytes = (
 )
 data_counts false events (ACommit c) bytes = (omega arith, refl)
 data_counts inline events (ATag name target tagger) bytes = (
-  let more = length-more events (plain.Tag (length events + 1) name target tagger bytes) in omega arith,
-  let more = ops-more events (plain.Tag (length events + 1) name target tagger bytes) in omega arith,
+  let more = length-more events (plain.Tag (length events + 1) name target tagger bytes mark) in omega arith,
+  let more = ops-more events (plain.Tag (length events + 1) name target tagger bytes mark) in omega arith,
 )
 data_counts inline events (AReset branch target) bytes = (omega arith, refl)
 
@@ -523,8 +523,8 @@ marked_length n (e ∷ events) = ap suc (marked_length (n + own_want e) events)
 
 marked_ops_in : (n : ℕ) (e : PlainEvent) → ops_in_event (marked_event n e) ≡ ops_in_event e
 marked_ops_in n (plain.Blob id mark bytes) = refl
-marked_ops_in n (plain.Commit id mark branch author committer encoding comment parents ops) = refl
-marked_ops_in n (plain.Tag id name target tagger comment) = refl
+marked_ops_in n (plain.Commit id mark branch author committer encoding comment parents ops aliases) = refl
+marked_ops_in n (plain.Tag id name target tagger comment mark) = refl
 marked_ops_in n (plain.Reset id branch target) = refl
 marked_ops_in n (plain.Pass id line) = refl
 

@@ -52,7 +52,7 @@ module _ (bound : ℕ) where
 
   -- a commit is rooted where, if it has no parents, its branch has no tip
   rooted_if : (earlier : List PlainEvent) (id mark : ℕ) (branch : Bytes) (author committer : Signed) (encoding : Option Bytes) (comment : Bytes) (parents : List ℕ) (ops : List FileOp)
-      → (parents ≡ [] → at (refs earlier) branch ≡ None) → IsRooted earlier (Commit id mark branch author committer encoding comment parents ops)
+      → (parents ≡ [] → at (refs earlier) branch ≡ None) → IsRooted earlier (Commit id mark branch author committer encoding comment parents ops aliases)
   rooted_if earlier id mark branch author committer encoding comment [] ops h = ap is_some (h refl)
   rooted_if earlier id mark branch author committer encoding comment (p ∷ ps) ops h = tt
 
@@ -74,7 +74,7 @@ module _ (bound : ℕ) where
     event_is_read (Blob id mark bytes) low within h =
         let m = mark_is_new g earlier mark most low h.1 within in
         ((id_is_new (any.Blob id) h.0, m.1), tt, m.0)
-    event_is_read (Commit id mark branch author committer encoding comment parents ops) low within h =
+    event_is_read (Commit id mark branch author committer encoding comment parents ops aliases) low within h =
         let c = h.1 in
         let m = mark_is_new g earlier mark most low c.marked within in (
           (
@@ -92,7 +92,7 @@ module _ (bound : ℕ) where
           rooted_if shown id (mark_above last mark) branch author committer encoding comment parents ops (λ none. ap (λ (t : TreeOf ℕ). at t branch) (refs_same g [] earlier) ∙ c.rooted none),
           (m.0, c.pathed),
         )
-    event_is_read (Tag id name target tagger comment) low within h = ((id_is_new (any.Tag id) h.0, h.1, still_commit target h.2, h.3), tt, tt)
+    event_is_read (Tag id name target tagger comment mark) low within h = ((id_is_new (any.Tag id) h.0, h.1, still_commit target h.2, h.3), tt, tt)
     event_is_read (Reset id branch None) low within h = ((id_is_new (any.Reset id) h.0, h.1, tt), tt, tt)
     event_is_read (Reset id branch (Some c)) low within h = ((id_is_new (any.Reset id) h.0, h.1, still_commit c h.2), tt, tt)
     event_is_read (Pass id line) low within h = ((id_is_new (any.Pass id) h.0, h.1), tt, tt)
@@ -107,9 +107,9 @@ module _ (bound : ℕ) where
   own_mark_to : (g : ℕ) (earlier : List PlainEvent) (e : PlainEvent) (events : List PlainEvent) → AreMarksTo g (earlier ++ e ∷ events) → mark_number e ≤ g
   own_mark_to g earlier (Blob id mark bytes) events h =
       h mark (is_marked-append earlier (Blob id mark bytes ∷ events) mark ∙ or_right (is_marked earlier mark) ((mark == mark) || is_marked events mark) (or_left (mark == mark) (is_marked events mark) (eq-eqb mark mark refl)))
-  own_mark_to g earlier (Commit id mark branch author committer encoding comment parents ops) events h =
-      h mark (is_marked-append earlier (Commit id mark branch author committer encoding comment parents ops ∷ events) mark ∙ or_right (is_marked earlier mark) ((mark == mark) || is_marked events mark) (or_left (mark == mark) (is_marked events mark) (eq-eqb mark mark refl)))
-  own_mark_to g earlier (Tag id name target tagger comment) events h = omega arith
+  own_mark_to g earlier (Commit id mark branch author committer encoding comment parents ops aliases) events h =
+      h mark (is_marked-append earlier (Commit id mark branch author committer encoding comment parents ops aliases ∷ events) mark ∙ or_right (is_marked earlier mark) ((mark == mark) || is_marked events mark) (or_left (mark == mark) (is_marked events mark) (eq-eqb mark mark refl)))
+  own_mark_to g earlier (Tag id name target tagger comment mark) events h = omega arith
   own_mark_to g earlier (Reset id branch target) events h = omega arith
   own_mark_to g earlier (Pass id line) events h = omega arith
 

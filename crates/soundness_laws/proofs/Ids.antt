@@ -21,10 +21,10 @@ use Rattle.round_trip_laws.specs.AsRead.{ArePlaced}
 has_id_step : (e : PlainEvent) (events : List PlainEvent) (wanted : AnyId) → has_id (e ∷ events) wanted ≡ (same_id (id_of e) wanted || has_id events wanted)
 has_id_step (Blob id mark bytes) events (any.Blob n) = refl
 has_id_step (Blob id mark bytes) events _ = refl
-has_id_step (Commit id mark branch author committer encoding comment parents ops) events (any.Commit n) = refl
-has_id_step (Commit id mark branch author committer encoding comment parents ops) events _ = refl
-has_id_step (Tag id name target tagger comment) events (any.Tag n) = refl
-has_id_step (Tag id name target tagger comment) events _ = refl
+has_id_step (Commit id mark branch author committer encoding comment parents ops aliases) events (any.Commit n) = refl
+has_id_step (Commit id mark branch author committer encoding comment parents ops aliases) events _ = refl
+has_id_step (Tag id name target tagger comment mark) events (any.Tag n) = refl
+has_id_step (Tag id name target tagger comment mark) events _ = refl
 has_id_step (Reset id branch target) events (any.Reset n) = refl
 has_id_step (Reset id branch target) events _ = refl
 has_id_step (Pass id line) events (any.Pass n) = refl
@@ -69,7 +69,7 @@ id_below k (e ∷ events) p wanted h = go (or_cases (same_id (id_of e) wanted) (
 -- commits of two parts
 nodes_append : (a b : List PlainEvent) → nodes (a ++ b) ≡ nodes a ++ nodes b
 nodes_append [] b = refl
-nodes_append (Commit id mark branch author committer encoding comment parents ops ∷ a) b = ap (λ (l : List Node). record { id = id; parents = parents; ops = ops } ∷ l) (nodes_append a b)
+nodes_append (Commit id mark branch author committer encoding comment parents ops aliases ∷ a) b = ap (λ (l : List Node). record { id = id; parents = parents; ops = ops } ∷ l) (nodes_append a b)
 nodes_append (_ ∷ a) b = nodes_append a b
 
 -- an event that is no commit changes no tree
@@ -86,8 +86,8 @@ past_more events e n h = ap reverse (nodes_append events (e ∷ []) ∙ ap (λ (
 pub refs_append : (t : TreeOf ℕ) (a b : List PlainEvent) → refs_after t (a ++ b) ≡ refs_after (refs_after t a) b
 refs_append t [] b = refl
 refs_append t (Blob id mark bytes ∷ a) b = refs_append t a b
-refs_append t (Commit id mark branch author committer encoding comment parents ops ∷ a) b = refs_append (put branch id t) a b
-refs_append t (Tag id name target tagger comment ∷ a) b = refs_append t a b
+refs_append t (Commit id mark branch author committer encoding comment parents ops aliases ∷ a) b = refs_append (put branch id t) a b
+refs_append t (Tag id name target tagger comment mark ∷ a) b = refs_append t a b
 refs_append t (Reset id branch None ∷ a) b = refs_append _ a b
 refs_append t (Reset id branch (Some c) ∷ a) b = refs_append (put branch c t) a b
 refs_append t (Pass id line ∷ a) b = refs_append t a b
@@ -98,16 +98,16 @@ refs_append t (Pass id line ∷ a) b = refs_append t a b
 pub is_marked-append : (a b : List PlainEvent) (m : ℕ) → is_marked (a ++ b) m ≡ (is_marked a m || is_marked b m)
 is_marked-append [] b m = refl
 is_marked-append (Blob id mark bytes ∷ a) b m = ap (λ t. (mark == m) || t) (is_marked-append a b m) ∙ or_assoc (mark == m) (is_marked a m) (is_marked b m)
-is_marked-append (Commit id mark branch author committer encoding comment parents ops ∷ a) b m =
+is_marked-append (Commit id mark branch author committer encoding comment parents ops aliases ∷ a) b m =
     ap (λ t. (mark == m) || t) (is_marked-append a b m) ∙ or_assoc (mark == m) (is_marked a m) (is_marked b m)
-is_marked-append (Tag id name target tagger comment ∷ a) b m = is_marked-append a b m
+is_marked-append (Tag id name target tagger comment mark ∷ a) b m = is_marked-append a b m
 is_marked-append (Reset id branch target ∷ a) b m = is_marked-append a b m
 is_marked-append (Pass id line ∷ a) b m = is_marked-append a b m
 
 -- what a mark finds is a commit
 pub commit_found : (events : List PlainEvent) (m c : ℕ) → commit_marked events m ≡ Some c → has_id events (any.Commit c) ≡ true
 commit_found [] m c h = absurd cc
-commit_found (Commit id mark branch author committer encoding comment parents ops ∷ events) m c h = go (mark == m) h (commit_found events m c)
+commit_found (Commit id mark branch author committer encoding comment parents ops aliases ∷ events) m c h = go (mark == m) h (commit_found events m c)
   where
     go : (t : Bool) → cond t (Some id) (commit_marked events m) ≡ Some c → (commit_marked events m ≡ Some c → has_id events (any.Commit c) ≡ true) → ((id == c) || has_id events (any.Commit c)) ≡ true
     go true is more = or_left (id == c) (has_id events (any.Commit c)) (let same : id ≡ c = cc in eq-eqb id c same)

@@ -125,7 +125,7 @@ commit_closed : (bound : ℕ) (events : List PlainEvent) (c : OpenCommit) (commi
     → AreWell bound (closed_commit events c committer)
 commit_closed bound events c None h w who = h
 commit_closed bound events c (Some committer) h w who =
-    well_more bound events (Commit (next_id events) c.mark c.branch (unwrap_or c.author committer) committer c.encoding c.comment c.parents c.ops) h (
+    well_more bound events (Commit (next_id events) c.mark c.branch (unwrap_or c.author committer) committer c.encoding c.comment c.parents c.ops aliases) h (
       refl,
       record {
         named = w.named;
@@ -213,7 +213,7 @@ arrived_between bound events Nothing bytes few h = record { so_far = h.so_far; c
 arrived_between bound events (ABlob mark) bytes few h = record { so_far = well_more bound events (Blob (next_id events) mark bytes) h.so_far (refl, h.current, few); current = tt; needs = tt }
 arrived_between bound events (ACommit c) bytes few h = record { so_far = h.so_far; current = commented bound events events bytes c few h.current; needs = tt }
 arrived_between bound events (ATag name target tagger) bytes few h =
-    record { so_far = well_more bound events (Tag (next_id events) name target tagger bytes) h.so_far (refl, h.current.0, h.target, h.current.1, few); current = tt; needs = tt }
+    record { so_far = well_more bound events (Tag (next_id events) name target tagger bytes mark) h.so_far (refl, h.current.0, h.target, h.current.1, few); current = tt; needs = tt }
 arrived_between bound events (AReset branch target) bytes few h = record { so_far = h.so_far; current = h.current; needs = tt }
 
 -- after a commit's comment
@@ -222,7 +222,7 @@ arrived_comment bound events Nothing bytes few h = record { so_far = h.so_far; c
 arrived_comment bound events (ABlob mark) bytes few h = record { so_far = well_more bound events (Blob (next_id events) mark bytes) h.so_far (refl, h.current, few); current = tt; needs = (tt, tt) }
 arrived_comment bound events (ACommit c) bytes few h = record { so_far = h.so_far; current = commented bound events events bytes c few h.current; needs = (tt, h.needs.1) }
 arrived_comment bound events (ATag name target tagger) bytes few h =
-    record { so_far = well_more bound events (Tag (next_id events) name target tagger bytes) h.so_far (refl, h.current.0, h.target, h.current.1, few); current = tt; needs = (tt, tt) }
+    record { so_far = well_more bound events (Tag (next_id events) name target tagger bytes mark) h.so_far (refl, h.current.0, h.target, h.current.1, few); current = tt; needs = (tt, tt) }
 arrived_comment bound events (AReset branch target) bytes few h = record { so_far = h.so_far; current = h.current; needs = (tt, tt) }
 
 -- after an operation
@@ -232,7 +232,7 @@ arrived_inline bound events (ABlob mark) bytes few h = record { so_far = well_mo
 arrived_inline bound events (ACommit c) bytes few h =
     record { so_far = well_more bound events (Blob (next_id events) 0 bytes) h.so_far (refl, inl refl, few); current = commit_arrived bound events bytes c h.current; needs = tt }
 arrived_inline bound events (ATag name target tagger) bytes few h =
-    record { so_far = well_more bound events (Tag (next_id events) name target tagger bytes) h.so_far (refl, h.current.0, h.target, h.current.1, few); current = tt; needs = tt }
+    record { so_far = well_more bound events (Tag (next_id events) name target tagger bytes mark) h.so_far (refl, h.current.0, h.target, h.current.1, few); current = tt; needs = tt }
 arrived_inline bound events (AReset branch target) bytes few h = record { so_far = h.so_far; current = h.current; needs = tt }
 
 -- the block is there

@@ -29,8 +29,8 @@ mark_above n mark = cond (mark == 0) (n + 1) mark
 
 abbrev pub marked_event : ℕ → PlainEvent → PlainEvent
 marked_event n (Blob id mark bytes) = Blob id (mark_above n mark) bytes
-marked_event n (Commit id mark branch author committer encoding comment parents ops) = Commit id (mark_above n mark) branch author committer encoding comment parents ops
-marked_event n (Tag id name target tagger comment) = Tag id name target tagger comment
+marked_event n (Commit id mark branch author committer encoding comment parents ops aliases) = Commit id (mark_above n mark) branch author committer encoding comment parents ops aliases
+marked_event n (Tag id name target tagger comment mark) = Tag id name target tagger comment mark
 marked_event n (Reset id branch target) = Reset id branch target
 marked_event n (Pass id line) = Pass id line
 
@@ -50,15 +50,15 @@ with_marks_are n (Blob id mark bytes ∷ events) = go (mark == 0) (with_marks_ar
         → cond t (Blob id (n + 1) bytes ∷ with_marks (n + 1) events) (Blob id mark bytes ∷ with_marks n events) ≡ Blob id (cond t (n + 1) mark) bytes ∷ marked_events (n + cond t 1 0) events
     go true more same = ap (λ (l : List PlainEvent). Blob id (n + 1) bytes ∷ l) more
     go false more same = ap (λ (l : List PlainEvent). Blob id mark bytes ∷ l) (same ∙ ap (λ k. marked_events k events) (sym (no_more n)))
-with_marks_are n (Commit id mark branch author committer encoding comment parents ops ∷ events) = go (mark == 0) (with_marks_are (n + 1) events) (with_marks_are n events)
+with_marks_are n (Commit id mark branch author committer encoding comment parents ops aliases ∷ events) = go (mark == 0) (with_marks_are (n + 1) events) (with_marks_are n events)
   where
     go : (t : Bool) → with_marks (n + 1) events ≡ marked_events (n + 1) events → with_marks n events ≡ marked_events n events
-        → cond t (Commit id (n + 1) branch author committer encoding comment parents ops ∷ with_marks (n + 1) events)
-        (Commit id mark branch author committer encoding comment parents ops ∷ with_marks n events)
-        ≡ Commit id (cond t (n + 1) mark) branch author committer encoding comment parents ops ∷ marked_events (n + cond t 1 0) events
-    go true more same = ap (λ (l : List PlainEvent). Commit id (n + 1) branch author committer encoding comment parents ops ∷ l) more
-    go false more same = ap (λ (l : List PlainEvent). Commit id mark branch author committer encoding comment parents ops ∷ l) (same ∙ ap (λ k. marked_events k events) (sym (no_more n)))
-with_marks_are n (Tag id name target tagger comment ∷ events) = ap (λ (l : List PlainEvent). Tag id name target tagger comment ∷ l) (with_marks_are n events ∙ ap (λ k. marked_events k events) (sym (no_more n)))
+        → cond t (Commit id (n + 1) branch author committer encoding comment parents ops aliases ∷ with_marks (n + 1) events)
+        (Commit id mark branch author committer encoding comment parents ops aliases ∷ with_marks n events)
+        ≡ Commit id (cond t (n + 1) mark) branch author committer encoding comment parents ops aliases ∷ marked_events (n + cond t 1 0) events
+    go true more same = ap (λ (l : List PlainEvent). Commit id (n + 1) branch author committer encoding comment parents ops aliases ∷ l) more
+    go false more same = ap (λ (l : List PlainEvent). Commit id mark branch author committer encoding comment parents ops aliases ∷ l) (same ∙ ap (λ k. marked_events k events) (sym (no_more n)))
+with_marks_are n (Tag id name target tagger comment mark ∷ events) = ap (λ (l : List PlainEvent). Tag id name target tagger comment mark ∷ l) (with_marks_are n events ∙ ap (λ k. marked_events k events) (sym (no_more n)))
 with_marks_are n (Reset id branch target ∷ events) = ap (λ (l : List PlainEvent). Reset id branch target ∷ l) (with_marks_are n events ∙ ap (λ k. marked_events k events) (sym (no_more n)))
 with_marks_are n (Pass id line ∷ events) = ap (λ (l : List PlainEvent). Pass id line ∷ l) (with_marks_are n events ∙ ap (λ k. marked_events k events) (sym (no_more n)))
 
@@ -82,10 +82,10 @@ pub has_id_same : (n : ℕ) (events : List PlainEvent) (wanted : AnyId) → has_
 has_id_same n [] wanted = refl
 has_id_same n (Blob id mark bytes ∷ events) (any.Blob b) = ap (λ t. (id == b) || t) (has_id_same (n + cond (mark == 0) 1 0) events (any.Blob b))
 has_id_same n (Blob id mark bytes ∷ events) wanted = has_id_same (n + cond (mark == 0) 1 0) events wanted
-has_id_same n (Commit id mark branch author committer encoding comment parents ops ∷ events) (any.Commit c) = ap (λ t. (id == c) || t) (has_id_same (n + cond (mark == 0) 1 0) events (any.Commit c))
-has_id_same n (Commit id mark branch author committer encoding comment parents ops ∷ events) wanted = has_id_same (n + cond (mark == 0) 1 0) events wanted
-has_id_same n (Tag id name target tagger comment ∷ events) (any.Tag t) = ap (λ u. (id == t) || u) (has_id_same (n + 0) events (any.Tag t))
-has_id_same n (Tag id name target tagger comment ∷ events) wanted = has_id_same (n + 0) events wanted
+has_id_same n (Commit id mark branch author committer encoding comment parents ops aliases ∷ events) (any.Commit c) = ap (λ t. (id == c) || t) (has_id_same (n + cond (mark == 0) 1 0) events (any.Commit c))
+has_id_same n (Commit id mark branch author committer encoding comment parents ops aliases ∷ events) wanted = has_id_same (n + cond (mark == 0) 1 0) events wanted
+has_id_same n (Tag id name target tagger comment mark ∷ events) (any.Tag t) = ap (λ u. (id == t) || u) (has_id_same (n + 0) events (any.Tag t))
+has_id_same n (Tag id name target tagger comment mark ∷ events) wanted = has_id_same (n + 0) events wanted
 has_id_same n (Reset id branch target ∷ events) (any.Reset r) = ap (λ t. (id == r) || t) (has_id_same (n + 0) events (any.Reset r))
 has_id_same n (Reset id branch target ∷ events) wanted = has_id_same (n + 0) events wanted
 has_id_same n (Pass id line ∷ events) (any.Pass p) = ap (λ t. (id == p) || t) (has_id_same (n + 0) events (any.Pass p))
@@ -93,18 +93,18 @@ has_id_same n (Pass id line ∷ events) wanted = has_id_same (n + 0) events want
 
 pub nodes_same : (n : ℕ) (events : List PlainEvent) → nodes (marked_events n events) ≡ nodes events
 nodes_same n [] = refl
-nodes_same n (Commit id mark branch author committer encoding comment parents ops ∷ events) =
+nodes_same n (Commit id mark branch author committer encoding comment parents ops aliases ∷ events) =
     ap (λ (l : List Node). record { id = id; parents = parents; ops = ops } ∷ l) (nodes_same (n + cond (mark == 0) 1 0) events)
 nodes_same n (Blob id mark bytes ∷ events) = nodes_same (n + cond (mark == 0) 1 0) events
-nodes_same n (Tag id name target tagger comment ∷ events) = nodes_same (n + 0) events
+nodes_same n (Tag id name target tagger comment mark ∷ events) = nodes_same (n + 0) events
 nodes_same n (Reset id branch target ∷ events) = nodes_same (n + 0) events
 nodes_same n (Pass id line ∷ events) = nodes_same (n + 0) events
 
 pub refs_same : (n : ℕ) (t : TreeOf ℕ) (events : List PlainEvent) → refs_after t (marked_events n events) ≡ refs_after t events
 refs_same n t [] = refl
 refs_same n t (Blob id mark bytes ∷ events) = refs_same (n + cond (mark == 0) 1 0) t events
-refs_same n t (Commit id mark branch author committer encoding comment parents ops ∷ events) = refs_same (n + cond (mark == 0) 1 0) (put branch id t) events
-refs_same n t (Tag id name target tagger comment ∷ events) = refs_same (n + 0) t events
+refs_same n t (Commit id mark branch author committer encoding comment parents ops aliases ∷ events) = refs_same (n + cond (mark == 0) 1 0) (put branch id t) events
+refs_same n t (Tag id name target tagger comment mark ∷ events) = refs_same (n + 0) t events
 refs_same n t (Reset id branch None ∷ events) = refs_same (n + 0) _ events
 refs_same n t (Reset id branch (Some c) ∷ events) = refs_same (n + 0) (put branch c t) events
 refs_same n t (Pass id line ∷ events) = refs_same (n + 0) t events
@@ -112,8 +112,8 @@ refs_same n t (Pass id line ∷ events) = refs_same (n + 0) t events
 pub placed_same : (n k : ℕ) (events : List PlainEvent) → ArePlaced k events → ArePlaced k (marked_events n events)
 placed_same n k [] p = tt
 placed_same n k (Blob id mark bytes ∷ events) p = (p.0, placed_same (n + cond (mark == 0) 1 0) (suc k) events p.1)
-placed_same n k (Commit id mark branch author committer encoding comment parents ops ∷ events) p = (p.0, placed_same (n + cond (mark == 0) 1 0) (suc k) events p.1)
-placed_same n k (Tag id name target tagger comment ∷ events) p = (p.0, placed_same (n + 0) (suc k) events p.1)
+placed_same n k (Commit id mark branch author committer encoding comment parents ops aliases ∷ events) p = (p.0, placed_same (n + cond (mark == 0) 1 0) (suc k) events p.1)
+placed_same n k (Tag id name target tagger comment mark ∷ events) p = (p.0, placed_same (n + 0) (suc k) events p.1)
 placed_same n k (Reset id branch target ∷ events) p = (p.0, placed_same (n + 0) (suc k) events p.1)
 placed_same n k (Pass id line ∷ events) p = (p.0, placed_same (n + 0) (suc k) events p.1)
 
@@ -151,9 +151,9 @@ marks_are : (n : ℕ) (events : List PlainEvent) (m : ℕ) → is_marked (marked
 marks_are n [] m h = absurd cc
 marks_are n (Blob id mark bytes ∷ events) m h =
     mark_case n mark m events (turned (map_right (marks_are (n + cond (mark == 0) 1 0) events m) (or_cases (mark_above n mark == m) (is_marked (marked_events (n + cond (mark == 0) 1 0) events) m) h)))
-marks_are n (Commit id mark branch author committer encoding comment parents ops ∷ events) m h =
+marks_are n (Commit id mark branch author committer encoding comment parents ops aliases ∷ events) m h =
     mark_case n mark m events (turned (map_right (marks_are (n + cond (mark == 0) 1 0) events m) (or_cases (mark_above n mark == m) (is_marked (marked_events (n + cond (mark == 0) 1 0) events) m) h)))
-marks_are n (Tag id name target tagger comment ∷ events) m h = fewer n m events (marks_are (n + 0) events m h)
+marks_are n (Tag id name target tagger comment mark ∷ events) m h = fewer n m events (marks_are (n + 0) events m h)
 marks_are n (Reset id branch target ∷ events) m h = fewer n m events (marks_are (n + 0) events m h)
 marks_are n (Pass id line ∷ events) m h = fewer n m events (marks_are (n + 0) events m h)
 
@@ -199,12 +199,12 @@ at_most k (Blob id mark bytes ∷ events) m h = go (or_cases (mark == m) (is_mar
     go : ((mark == m) ≡ true) ⊎ (is_marked events m ≡ true) → (is_marked events m ≡ true → m ≤ greatest_from (max k mark) events) → m ≤ greatest_from (max k mark) events
     go (inl here) more = own_at_most mark m k (greatest_from (max k mark) events) here (least (max k mark) events)
     go (inr later) more = more later
-at_most k (Commit id mark branch author committer encoding comment parents ops ∷ events) m h = go (or_cases (mark == m) (is_marked events m) h) (at_most (max k mark) events m)
+at_most k (Commit id mark branch author committer encoding comment parents ops aliases ∷ events) m h = go (or_cases (mark == m) (is_marked events m) h) (at_most (max k mark) events m)
   where
     go : ((mark == m) ≡ true) ⊎ (is_marked events m ≡ true) → (is_marked events m ≡ true → m ≤ greatest_from (max k mark) events) → m ≤ greatest_from (max k mark) events
     go (inl here) more = own_at_most mark m k (greatest_from (max k mark) events) here (least (max k mark) events)
     go (inr later) more = more later
-at_most k (Tag id name target tagger comment ∷ events) m h = at_most (max k 0) events m h
+at_most k (Tag id name target tagger comment mark ∷ events) m h = at_most (max k 0) events m h
 at_most k (Reset id branch target ∷ events) m h = at_most (max k 0) events m h
 at_most k (Pass id line ∷ events) m h = at_most (max k 0) events m h
 

@@ -54,7 +54,7 @@ module _ (front back : List PlainEvent) where
 
   module _ (id mark : ℕ) (branch : Bytes) (author committer : Signed) (encoding : Option Bytes) (comment : Bytes) where
     abbrev commit : List ℕ → List FileOp → PlainEvent
-    commit parents ops = Commit id mark branch author committer encoding comment parents ops
+    commit parents ops = Commit id mark branch author committer encoding comment parents ops aliases
 
     pub parent_twice : (p : ℕ) (ops : List FileOp) → IsAsRead (front ++ commit (p ∷ p ∷ []) ops ∷ back) → ⊥
     parent_twice p ops h =
@@ -72,5 +72,5 @@ module _ (front back : List PlainEvent) where
     pub no_path : (parents : List ℕ) (path : Bytes) (fault : PathFault) (ops : List FileOp) → path_fault path ≡ Some fault → IsAsRead (front ++ commit parents (Delete path ∷ ops) ∷ back) → ⊥
     no_path parents path fault ops is h = let (mark_is, fit) = all_at IsFormedEvent front back (commit parents (Delete path ∷ ops)) h.sound.spelled in let none = fit.0 in absurd cc
 
-  pub later_target : (id target : ℕ) (name : Bytes) (tagger : Option Signed) (comment : Bytes) → IsFalse (has_id front (any.Commit target)) → IsAsRead (front ++ Tag id name target tagger comment ∷ back) → ⊥
-  later_target id target name tagger comment isnt h = let there = (own_sound (Tag id name target tagger comment) h).2 in absurd cc
+  pub later_target : (id target : ℕ) (name : Bytes) (tagger : Option Signed) (comment : Bytes) → IsFalse (has_id front (any.Commit target)) → IsAsRead (front ++ Tag id name target tagger comment mark ∷ back) → ⊥
+  later_target id target name tagger comment isnt h = let there = (own_sound (Tag id name target tagger comment mark) h).2 in absurd cc

@@ -51,7 +51,7 @@ pub record IsCommitSoFar (bound : ℕ) (earlier seen : List PlainEvent) (c : Ope
 -- an event after earlier ones
 abbrev pub IsWellEvent : ℕ → List PlainEvent → PlainEvent → Type 0
 IsWellEvent bound earlier (Blob id mark bytes) = (id ≡ length earlier + 1) × MarkFits earlier mark × (length bytes < bound)
-IsWellEvent bound earlier (Commit id mark branch author committer encoding comment parents ops) =
+IsWellEvent bound earlier (Commit id mark branch author committer encoding comment parents ops aliases) =
     (id ≡ length earlier + 1) × IsCommitSoFar bound earlier earlier (record {
       branch = branch;
       mark = mark;
@@ -62,7 +62,7 @@ IsWellEvent bound earlier (Commit id mark branch author committer encoding comme
       parents = parents;
       ops = ops;
     })
-IsWellEvent bound earlier (Tag id name target tagger comment) =
+IsWellEvent bound earlier (Tag id name target tagger comment mark) =
     (id ≡ length earlier + 1) × (is_name name ≡ true) × IsCommitOf earlier target × IfSome tagger IsFormedSigned × (length comment < bound)
 IsWellEvent bound earlier (Reset id branch target) = (id ≡ length earlier + 1) × (is_name branch ≡ true) × IfSome target (IsCommitOf earlier)
 IsWellEvent bound earlier (Pass id line) = (id ≡ length earlier + 1) × (is_passed_line line ≡ true)
@@ -89,8 +89,8 @@ well_more bound events e h w = well_after bound [] events e h w
 
 own_place : (bound : ℕ) (earlier : List PlainEvent) (e : PlainEvent) → IsWellEvent bound earlier e → id_number (id_of e) ≡ length earlier + 1
 own_place bound earlier (Blob id mark bytes) h = h.0
-own_place bound earlier (Commit id mark branch author committer encoding comment parents ops) h = h.0
-own_place bound earlier (Tag id name target tagger comment) h = h.0
+own_place bound earlier (Commit id mark branch author committer encoding comment parents ops aliases) h = h.0
+own_place bound earlier (Tag id name target tagger comment mark) h = h.0
 own_place bound earlier (Reset id branch target) h = h.0
 own_place bound earlier (Pass id line) h = h.0
 
@@ -122,8 +122,8 @@ trees_same events e none isnt h c is = go (last_or events e c is)
     go (inr last) = absurd (isnt c last)
 
 trees_more : (bound : ℕ) (events : List PlainEvent) (e : PlainEvent) → IsWellEvent bound events e → HaveTrees events → HaveTrees (events ++ e ∷ [])
-trees_more bound events (Commit id mark branch author committer encoding comment parents ops) w h = λ c is.
-    let e : PlainEvent = Commit id mark branch author committer encoding comment parents ops in
+trees_more bound events (Commit id mark branch author committer encoding comment parents ops aliases) w h = λ c is.
+    let e : PlainEvent = Commit id mark branch author committer encoding comment parents ops aliases in
     subst (λ (p : Past). IsSome (tree_in p c)) (sym (past_more events e n refl)) (go c (id == c) refl (last_or events e c is))
   where
     n : Node
@@ -134,7 +134,7 @@ trees_more bound events (Commit id mark branch author committer encoding comment
     go c false e (inl earlier) = h c earlier
     go c false e (inr last) = absurd (let isnt : ((id == c) || false) ≡ false = ap (λ t. t || false) e in cc)
 trees_more bound events (Blob id mark bytes) w h = trees_same events (Blob id mark bytes) refl (λ c e. absurd cc) h
-trees_more bound events (Tag id name target tagger comment) w h = trees_same events (Tag id name target tagger comment) refl (λ c e. absurd cc) h
+trees_more bound events (Tag id name target tagger comment mark) w h = trees_same events (Tag id name target tagger comment mark) refl (λ c e. absurd cc) h
 trees_more bound events (Reset id branch target) w h = trees_same events (Reset id branch target) refl (λ c e. absurd cc) h
 trees_more bound events (Pass id line) w h = trees_same events (Pass id line) refl (λ c e. absurd cc) h
 
@@ -185,8 +185,8 @@ abbrev AreCommits : List PlainEvent → TreeOf ℕ → Type 0
 AreCommits events tips = AllByRecursion (λ e. IsCommitOf events e.1) tips
 
 tips_more : (bound : ℕ) (events : List PlainEvent) (e : PlainEvent) (tips : TreeOf ℕ) → IsWellEvent bound events e → AreCommits (events ++ e ∷ []) tips → AreCommits (events ++ e ∷ []) (refs_after tips (e ∷ []))
-tips_more bound events (Commit id mark branch author committer encoding comment parents ops) tips w h =
-    let e : PlainEvent = Commit id mark branch author committer encoding comment parents ops in
+tips_more bound events (Commit id mark branch author committer encoding comment parents ops aliases) tips w h =
+    let e : PlainEvent = Commit id mark branch author committer encoding comment parents ops aliases in
     all_put (IsCommitOf (events ++ e ∷ [])) branch id tips (own events e id (or_true (eq-eqb id id refl))) h
   where
     or_true : (id == id) ≡ true → ((id == id) || false) ≡ true
@@ -197,7 +197,7 @@ tips_more bound events (Commit id mark branch author committer encoding comment 
 tips_more bound events (Reset id branch (Some c)) tips w h = all_put (IsCommitOf (events ++ Reset id branch (Some c) ∷ [])) branch c tips (has_id_still events (Reset id branch (Some c) ∷ []) (any.Commit c) w.2) h
 tips_more bound events (Reset id branch None) tips w h = all_where (IsCommitOf (events ++ Reset id branch None ∷ [])) (λ b. not (bytes_eq branch b)) tips h
 tips_more bound events (Blob id mark bytes) tips w h = h
-tips_more bound events (Tag id name target tagger comment) tips w h = h
+tips_more bound events (Tag id name target tagger comment mark) tips w h = h
 tips_more bound events (Pass id line) tips w h = h
 
 tips_after : (bound : ℕ) (earlier events : List PlainEvent) → AreCommits earlier (refs earlier) → AreWellAfter bound earlier events → AreCommits (earlier ++ events) (refs (earlier ++ events))

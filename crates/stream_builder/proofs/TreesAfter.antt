@@ -10,7 +10,7 @@ use Rattle.plain_model.specs.Trees.{Tree, Refusal, apply, apply_all, ◌>>=◌}
 
 nodes-append : (a b : List PlainEvent) → nodes (a ++ b) ≡ nodes a ++ nodes b
 nodes-append [] b = refl
-nodes-append (Commit id mark branch author committer encoding comment parents ops ∷ a) b = ap (λ (l : List Node). record { id = id; parents = parents; ops = ops } ∷ l) (nodes-append a b)
+nodes-append (Commit id mark branch author committer encoding comment parents ops aliases ∷ a) b = ap (λ (l : List Node). record { id = id; parents = parents; ops = ops } ∷ l) (nodes-append a b)
 nodes-append (_ ∷ a) b = nodes-append a b
 
 past-append : (es : List PlainEvent) (e : PlainEvent) → past (es ++ e ∷ []) ≡ reverse (nodes (e ∷ [])) ++ past es

@@ -24,7 +24,7 @@ blob_marked-append (_ ∷ es) e m = blob_marked-append es e m
 
 pub commit_marked-append : (es : List PlainEvent) (e : PlainEvent) (m : ℕ) → commit_marked (es ++ e ∷ []) m ≡ first_of (commit_marked es m) (commit_marked (e ∷ []) m)
 commit_marked-append [] e m = refl
-commit_marked-append (Commit id mark branch author committer encoding comment parents ops ∷ es) e m =
+commit_marked-append (Commit id mark branch author committer encoding comment parents ops aliases ∷ es) e m =
     ap (cond (mark == m) (Some id)) (commit_marked-append es e m) ∙ sym (first_if (mark == m) id (commit_marked es m) (commit_marked (e ∷ []) m))
 commit_marked-append (_ ∷ es) e m = commit_marked-append es e m
 
@@ -42,9 +42,9 @@ pub is_marked-parts : (es : List PlainEvent) (m : ℕ) → is_marked es m ≡ (i
 is_marked-parts [] m = refl
 is_marked-parts (Blob id mark bytes ∷ es) m =
     ap (λ b. (mark == m) || b) (is_marked-parts es m) ∙ or_if (mark == m) id (blob_marked es m) (is_some (commit_marked es m))
-is_marked-parts (Commit id mark branch author committer encoding comment parents ops ∷ es) m =
+is_marked-parts (Commit id mark branch author committer encoding comment parents ops aliases ∷ es) m =
     ap (λ b. (mark == m) || b) (is_marked-parts es m) ∙ or_if_after (mark == m) id (is_some (blob_marked es m)) (commit_marked es m)
-is_marked-parts (Tag id name target tagger comment ∷ es) m = is_marked-parts es m
+is_marked-parts (Tag id name target tagger comment mark ∷ es) m = is_marked-parts es m
 is_marked-parts (Reset id branch target ∷ es) m = is_marked-parts es m
 is_marked-parts (Pass id line ∷ es) m = is_marked-parts es m
 
@@ -64,8 +64,8 @@ greatest_mark-append es e = fold-append (λ n x. max n (mark_number x)) 0 es (e 
 refs_after-append : (t : TreeOf ℕ) (es : List PlainEvent) (e : PlainEvent) → refs_after t (es ++ e ∷ []) ≡ refs_after (refs_after t es) (e ∷ [])
 refs_after-append t [] e = refl
 refs_after-append t (Blob id mark bytes ∷ es) e = refs_after-append t es e
-refs_after-append t (Commit id mark branch author committer encoding comment parents ops ∷ es) e = refs_after-append (put branch id t) es e
-refs_after-append t (Tag id name target tagger comment ∷ es) e = refs_after-append t es e
+refs_after-append t (Commit id mark branch author committer encoding comment parents ops aliases ∷ es) e = refs_after-append (put branch id t) es e
+refs_after-append t (Tag id name target tagger comment mark ∷ es) e = refs_after-append t es e
 refs_after-append t (Reset id branch None ∷ es) e = refs_after-append _ es e
 refs_after-append t (Reset id branch (Some c) ∷ es) e = refs_after-append (put branch c t) es e
 refs_after-append t (Pass id line ∷ es) e = refs_after-append t es e

@@ -44,10 +44,10 @@ past_first n ns c = ap (λ (l : Past). node_at l c) (reverse-append (n ∷ []) n
 none_below : (k : ℕ) (es : List PlainEvent) → ArePlaced k es → (c : ℕ) → c < k → node_at (past es) c ≡ None
 none_below k [] a c h = refl
 none_below k (Blob id mark bytes ∷ es) a c h = none_below (suc k) es a.1 c (omega arith)
-none_below k (Tag id name target tagger comment ∷ es) a c h = none_below (suc k) es a.1 c (omega arith)
+none_below k (Tag id name target tagger comment mark ∷ es) a c h = none_below (suc k) es a.1 c (omega arith)
 none_below k (Reset id branch target ∷ es) a c h = none_below (suc k) es a.1 c (omega arith)
 none_below k (Pass id line ∷ es) a c h = none_below (suc k) es a.1 c (omega arith)
-none_below k (Commit id mark branch author committer encoding comment parents ops ∷ es) a c h =
+none_below k (Commit id mark branch author committer encoding comment parents ops aliases ∷ es) a c h =
     past_first (record { id = id; parents = parents; ops = ops }) (nodes es) c
     ∙ ap (λ o. first_node o (cond (id == c) (Some (record { id = id; parents = parents; ops = ops })) None)) (none_below (suc k) es a.1 c (omega arith))
     ∙ ap (λ t. cond {A = Option Node} t (Some (record { id = id; parents = parents; ops = ops })) None) (let is = a.0 in ne_eqb id c (λ same. omega (arith, is, same, h)))
@@ -60,10 +60,10 @@ module _ (k : ℕ) (es : List PlainEvent) where
   -- the first event is found at its place
   here_at : (c : ℕ) → c ≡ k → node_at (past es) c ≡ None → (x : PlainEvent) → id_number (id_of x) ≡ k → node_at (past (x ∷ es)) c ≡ own_node x
   here_at c here others (Blob id mark bytes) is = others
-  here_at c here others (Tag id name target tagger comment) is = others
+  here_at c here others (Tag id name target tagger comment mark) is = others
   here_at c here others (Reset id branch target) is = others
   here_at c here others (Pass id line) is = others
-  here_at c here others (Commit id mark branch author committer encoding comment parents ops) is =
+  here_at c here others (Commit id mark branch author committer encoding comment parents ops aliases) is =
       past_first (record { id = id; parents = parents; ops = ops }) (nodes es) c
       ∙ ap (λ o. first_node o (cond (id == c) (Some (record { id = id; parents = parents; ops = ops })) None)) others
       ∙ ap (λ t. cond {A = Option Node} t (Some (record { id = id; parents = parents; ops = ops })) None) (eq-eqb id c (is ∙ sym here))
@@ -71,10 +71,10 @@ module _ (k : ℕ) (es : List PlainEvent) where
   -- and none at a later one
   later_at : (c : ℕ) → k < c → (x : PlainEvent) → id_number (id_of x) ≡ k → node_at (past (x ∷ es)) c ≡ node_at (past es) c
   later_at c later (Blob id mark bytes) is = refl
-  later_at c later (Tag id name target tagger comment) is = refl
+  later_at c later (Tag id name target tagger comment mark) is = refl
   later_at c later (Reset id branch target) is = refl
   later_at c later (Pass id line) is = refl
-  later_at c later (Commit id mark branch author committer encoding comment parents ops) is =
+  later_at c later (Commit id mark branch author committer encoding comment parents ops aliases) is =
       past_first (record { id = id; parents = parents; ops = ops }) (nodes es) c
       ∙ ap (λ t. first_node (node_at (past es) c) (cond {A = Option Node} t (Some (record { id = id; parents = parents; ops = ops })) None)) (ne_eqb id c (λ same. omega (arith, is, same, later)))
       ∙ none_first (node_at (past es) c)

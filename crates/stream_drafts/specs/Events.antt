@@ -15,12 +15,12 @@ number_or_0 mark = unwrap_or mark 0
 
 -- the commit with an id, a mark, if it has one, and its other fields
 abbrev pub commit_of : ℕ → Option ℕ → CommitFields → PlainEvent
-commit_of id mark c = plain.Commit id (number_or_0 mark) c.branch c.author c.committer c.encoding c.comment c.parents c.ops
+commit_of id mark c = plain.Commit id (number_or_0 mark) c.branch c.author c.committer c.encoding c.comment c.parents c.ops aliases
 
 abbrev pub event_of : Draft → PlainEvent
 event_of (draft.Blob id mark bytes) = plain.Blob id (number_or_0 mark) bytes
 event_of (draft.Commit id mark fields) = commit_of id mark fields
-event_of (draft.Tag id name target tagger comment) = plain.Tag id name target tagger comment
+event_of (draft.Tag id name target tagger comment mark) = plain.Tag id name target tagger comment mark
 event_of (draft.Reset id branch target) = plain.Reset id branch target
 event_of (draft.Pass id line) = plain.Pass id line
 
@@ -30,8 +30,8 @@ events_of drafts = map event_of drafts
 -- a blob or a commit has a mark
 abbrev pub IsMarked : PlainEvent → Type 0
 IsMarked (plain.Blob id mark bytes) = IsMark mark
-IsMarked (plain.Commit id mark branch author committer encoding comment parents ops) = IsMark mark
-IsMarked (plain.Tag id name target tagger comment) = Unit {0}
+IsMarked (plain.Commit id mark branch author committer encoding comment parents ops aliases) = IsMark mark
+IsMarked (plain.Tag id name target tagger comment mark) = Unit {0}
 IsMarked (plain.Reset id branch target) = Unit {0}
 IsMarked (plain.Pass id line) = Unit {0}
 
@@ -45,9 +45,9 @@ node_of id c = record { id = id; parents = c.parents; ops = c.ops }
 
 -- the commit that an event is, if it is one
 abbrev pub own_node : PlainEvent → Option Node
-own_node (plain.Commit id mark branch author committer encoding comment parents ops) = Some (record { id = id; parents = parents; ops = ops })
+own_node (plain.Commit id mark branch author committer encoding comment parents ops aliases) = Some (record { id = id; parents = parents; ops = ops })
 own_node (plain.Blob id mark bytes) = None
-own_node (plain.Tag id name target tagger comment) = None
+own_node (plain.Tag id name target tagger comment mark) = None
 own_node (plain.Reset id branch target) = None
 own_node (plain.Pass id line) = None
 

@@ -64,7 +64,7 @@ is_empty_list (x ∷ xs) = false
 abbrev pub closed_commit : List PlainEvent → OpenCommit → Option Signed → List PlainEvent
 closed_commit events c None = events
 closed_commit events c (Some committer) =
-    with_event events (plain.Commit (next_id events) c.mark c.branch (unwrap_or c.author committer) committer c.encoding c.comment c.parents c.ops)
+    with_event events (plain.Commit (next_id events) c.mark c.branch (unwrap_or c.author committer) committer c.encoding c.comment c.parents c.ops aliases)
 
 -- the event that was read last is after the others; without an author its committer is the author
 abbrev pub closed : Known → List PlainEvent
@@ -84,7 +84,7 @@ with_data inline bytes k = elim k.current [
   | ACommit c ↦
       if inline then record k { events = with_event k.events (plain.Blob (next_id k.events) 0 bytes) }
       else record k { current = ACommit (record c { comment = bytes }) }
-  | ATag name target tagger ↦ record { events = with_event k.events (plain.Tag (next_id k.events) name target tagger bytes); current = Nothing }
+  | ATag name target tagger ↦ record { events = with_event k.events (plain.Tag (next_id k.events) name target tagger bytes mark); current = Nothing }
   | AReset branch target ↦ k
 ]
 
@@ -163,10 +163,10 @@ abbrev pub with_marks : ℕ → List PlainEvent → List PlainEvent
 with_marks n [] = []
 with_marks n (plain.Blob id mark bytes ∷ events) =
     if mark == 0 then plain.Blob id (n + 1) bytes ∷ with_marks (n + 1) events else plain.Blob id mark bytes ∷ with_marks n events
-with_marks n (plain.Commit id mark branch author committer encoding comment parents ops ∷ events) =
-    if mark == 0 then plain.Commit id (n + 1) branch author committer encoding comment parents ops ∷ with_marks (n + 1) events
-    else plain.Commit id mark branch author committer encoding comment parents ops ∷ with_marks n events
-with_marks n (plain.Tag id name target tagger comment ∷ events) = plain.Tag id name target tagger comment ∷ with_marks n events
+with_marks n (plain.Commit id mark branch author committer encoding comment parents ops aliases ∷ events) =
+    if mark == 0 then plain.Commit id (n + 1) branch author committer encoding comment parents ops aliases ∷ with_marks (n + 1) events
+    else plain.Commit id mark branch author committer encoding comment parents ops aliases ∷ with_marks n events
+with_marks n (plain.Tag id name target tagger comment mark ∷ events) = plain.Tag id name target tagger comment mark ∷ with_marks n events
 with_marks n (plain.Reset id branch target ∷ events) = plain.Reset id branch target ∷ with_marks n events
 with_marks n (plain.Pass id line ∷ events) = plain.Pass id line ∷ with_marks n events
 

@@ -39,9 +39,9 @@ abbrev pub event_count : Known → ℕ
 event_count k = length k.events + open_count k.current
 
 abbrev pub ops_in_event : PlainEvent → ℕ
-ops_in_event (plain.Commit id mark branch author committer encoding comment parents ops) = length ops
+ops_in_event (plain.Commit id mark branch author committer encoding comment parents ops aliases) = length ops
 ops_in_event (plain.Blob id mark bytes) = 0
-ops_in_event (plain.Tag id name target tagger comment) = 0
+ops_in_event (plain.Tag id name target tagger comment mark) = 0
 ops_in_event (plain.Reset id branch target) = 0
 ops_in_event (plain.Pass id line) = 0
 
@@ -160,8 +160,8 @@ want_of mark = if mark == 0 then 1 else 0
 -- 1 for a blob or a commit without a mark, else 0
 abbrev pub own_want : PlainEvent → ℕ
 own_want (plain.Blob id mark bytes) = want_of mark
-own_want (plain.Commit id mark branch author committer encoding comment parents ops) = want_of mark
-own_want (plain.Tag id name target tagger comment) = 0
+own_want (plain.Commit id mark branch author committer encoding comment parents ops aliases) = want_of mark
+own_want (plain.Tag id name target tagger comment mark) = 0
 own_want (plain.Reset id branch target) = 0
 own_want (plain.Pass id line) = 0
 

@@ -3,7 +3,8 @@ ghost use Rattle.std.specs.Prelude.{◌≡◌, ◌++◌, ◌≤◌, [], OnOk, If
 ghost use Rattle.std.specs.List.{list_any};
 ghost use Rattle.plain_model.specs.Text.{text, text_from, end_text, is_feature_done};
 ghost use Rattle.shown_laws.specs.Showing.{IsShownBy};
-ghost use Rattle.surgeon_store.specs.Outside.{Rose, Puts, PutsSome};
+ghost use Rattle.plain_model.specs.Counts.{Rose};
+ghost use Rattle.surgeon_store.specs.Outside.{Puts, PutsSome};
 ghost use Rattle.plain_model.specs.Soundness.{IsSound};
 
 use crate::events::push_event;

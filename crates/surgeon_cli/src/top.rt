@@ -15,7 +15,8 @@ ghost use Rattle.std.specs.Prelude.{
   Some,
   ◌≢◌,
 };
-ghost use Rattle.surgeon_store.specs.Outside.{Puts, PutsSome, Reads, Rose, StoreState};
+ghost use Rattle.plain_model.specs.Counts.{Rose};
+ghost use Rattle.surgeon_store.specs.Outside.{Puts, PutsSome, Reads, StoreState};
 ghost use Rattle.history_machine.specs.Machine.{EndsAs, World};
 ghost use Rattle.history_machine.specs.Sessions.{empty_session};
 ghost use Rattle.history_machine.specs.Whole.{

@@ -1,7 +1,8 @@
 //! The lines of a script, one after another.
 ghost use Rattle.std.specs.Prelude.{◌≡◌, ◌≤◌, IfSome, IsErrOf, OnOk};
 ghost use Rattle.plain_model.specs.Faults.{refusal};
-ghost use Rattle.surgeon_store.specs.Outside.{Puts, PutsSome, Rose};
+ghost use Rattle.plain_model.specs.Counts.{Rose};
+ghost use Rattle.surgeon_store.specs.Outside.{Puts, PutsSome};
 ghost use Rattle.history_machine.specs.Machine.{SessionEndsAs, World, so_far_after, stops};
 ghost use Rattle.history_machine.specs.Sessions.{line_step};
 ghost use Rattle.history_machine.specs.Whole.{run_from};

@@ -6,10 +6,6 @@ use Rattle.std.specs.FinMap.{empty, get, insert, remove}
 use Rattle.plain_model.specs.Files.{Files}
 use Rattle.surgeon_store.specs.Entries.{appended}
 
--- a count rose, or stands at its last value
-abbrev pub Rose : ℕ → ℕ → Type 0
-Rose before now = min (before + 1) (2 ^ 64 - 1) ≤ now
-
 -- ---- stores
 
 -- what is reported of a store

@@ -7,7 +7,8 @@ use Rattle.surgeon_store.specs.declared.outside.CreateFault.{CreateFault}
 use Rattle.surgeon_store.specs.declared.outside.CreateFault.TheVariants as create_fault
 use Rattle.surgeon_store.specs.declared.outside.WriteFault.{WriteFault}
 use Rattle.surgeon_store.specs.declared.outside.WriteFault.TheVariants as write_fault
-use Rattle.surgeon_store.specs.Outside.{StoreState, SinkState, Rose, Reads, Writes, Opens, Misses, Takes, IsSpent, Begins, Appends, Puts}
+use Rattle.plain_model.specs.Counts.{Rose}
+use Rattle.surgeon_store.specs.Outside.{StoreState, SinkState, Reads, Writes, Opens, Misses, Takes, IsSpent, Begins, Appends, Puts}
 
 pub record PromisesBeginRead (old : StoreState) (name : List ℕ) (result : Result (Unit {0}) OpenFault) (new : StoreState) : Type 0 where
   pub opens : OnOk result (Opens old name new)

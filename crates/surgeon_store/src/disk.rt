@@ -1,7 +1,8 @@
 //! The files of the system and its standard output. Nothing is reported of their bytes, so this module is
 //! trusted where the others are proved.
 ghost use Rattle.std.specs.Prelude.{◌≡◌, ◌≤◌, ◌<◌, length, None, IfOk, IsTrue, OnOk, is_some};
-ghost use Rattle.surgeon_store.specs.Outside.{Rose, alone};
+ghost use Rattle.plain_model.specs.Counts.{Rose};
+ghost use Rattle.surgeon_store.specs.Outside.{alone};
 ghost use Rattle.surgeon_store.specs.Promises.{PromisesBeginRead};
 ghost use Rattle.surgeon_store.specs.Disk.{DiskState, untouched, disk_store_of};
 

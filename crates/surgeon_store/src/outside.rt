@@ -12,21 +12,8 @@ ghost use Rattle.std.specs.Prelude.{
   OnErr,
   IsErrOf,
 };
-ghost use Rattle.surgeon_store.specs.Outside.{
-  StoreState,
-  SinkState,
-  TellsRest,
-  Rose,
-  Reads,
-  Writes,
-  Opens,
-  Misses,
-  Takes,
-  IsSpent,
-  Begins,
-  Appends,
-  Puts,
-};
+ghost use Rattle.plain_model.specs.Counts.{Rose};
+ghost use Rattle.surgeon_store.specs.Outside.{StoreState, SinkState, TellsRest, Reads, Writes, Opens, Misses, Takes, IsSpent, Begins, Appends, Puts};
 
 /// A fault of the outside.
 #[derive(Clone, Copy, Debug, PartialEq, Eq)]

@@ -1,6 +1,7 @@
 //! All of some bytes into a sink.
 ghost use Rattle.std.specs.Prelude.{◌≡◌, ◌≤◌, OnOk, IsErrOf};
-ghost use Rattle.surgeon_store.specs.Outside.{Rose, Puts, PutsSome};
+ghost use Rattle.plain_model.specs.Counts.{Rose};
+ghost use Rattle.surgeon_store.specs.Outside.{Puts, PutsSome};
 
 use crate::outside::{Sink, WriteFault};
 
