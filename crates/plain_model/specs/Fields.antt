@@ -210,8 +210,8 @@ paths_in text =
 -- a line whose first word has a meaning elsewhere that is left out
 abbrev pub is_left_out_word : Bytes → Bool
 is_left_out_word word =
-    bytes_eq word (codes "alias") || bytes_eq word (codes "ls") || bytes_eq word (codes "cat-blob")
-    || bytes_eq word (codes "get-mark") || bytes_eq word (codes "gpgsig") || bytes_eq word (codes "property")
+    bytes_eq word (codes "ls") || bytes_eq word (codes "cat-blob") || bytes_eq word (codes "get-mark")
+    || bytes_eq word (codes "gpgsig") || bytes_eq word (codes "property")
     || bytes_eq word (codes "N")
 
 -- the line of an operation

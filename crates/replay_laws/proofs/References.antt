@@ -4,7 +4,7 @@ use Rattle.std.specs.Prelude.{codes}
 use Rattle.plain_model.specs.declared.fault.Why.{Why}
 use Rattle.plain_model.specs.declared.fault.Why.TheVariants.{BadMark, UnknownMark, UnknownRef, LeftOut}
 use Rattle.plain_model.specs.declared.event.PlainEvent.{PlainEvent}
-use Rattle.plain_model.specs.Fields.{◌>>=◌, expected as or_defect_of, mark_in}
+use Rattle.plain_model.specs.Fields.{◌>>=◌, or_defect as or_defect_of, mark_in}
 use Rattle.plain_model.specs.Parts.{begins}
 use Rattle.plain_model.specs.Paths.{Bytes, is_empty}
 use Rattle.plain_model.specs.Trees.{TreeOf, at}

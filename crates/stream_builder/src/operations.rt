@@ -11,7 +11,7 @@ use crate::references::place;
 use plain_model::{FileOp, Why};
 use std::alloc::Global;
 use stream_drafts::Drafts;
-use stream_fields::{FieldFault, expected, read_content, read_last_path, read_mode, words};
+use stream_fields::{FieldFault, or_defect, read_content, read_last_path, read_mode, words};
 use stream_lines::LineFault;
 
 /// `MODE CONTENT PATH`: what `M` puts at a path. (git-fast-import, `filemodify`.)
@@ -20,7 +20,7 @@ pub fn read_modify(alloc: Global, drafts: &Drafts, text: &[u8]) -> Result<FileOp
 {
     let (mode, fields) = words(text);
     let mode = read_mode(mode)?;
-    let fields = expected(Why::BadMark, fields)?;
+    let fields = or_defect(Why::BadMark, fields)?;
     let (content, path) = words(fields);
     let content = read_content(mode, content)?;
     let content = place(drafts, content)?;

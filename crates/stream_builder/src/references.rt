@@ -7,7 +7,7 @@ ghost use Rattle.stream_grammar.specs.Known.{is_left_out_ref, placed, ref_in};
 
 use plain_model::{BlobId, CommitId, Content, RawContent, Why};
 use stream_drafts::Drafts;
-use stream_fields::{expected, read_mark};
+use stream_fields::{or_defect, read_mark};
 
 fn has_sign(text: &[u8]) -> bool
     ensures { result ≡ list_any (λ b. (b == 94) || (b == 126)) text.now }
@@ -42,9 +42,9 @@ pub fn read_reference(drafts: &Drafts, text: &[u8]) -> Result<CommitId, Why>
     }
     if text.starts_with(b":".as_slice()) {
         let mark = read_mark(text)?;
-        return expected(Why::UnknownMark, drafts.commit_marked(mark));
+        return or_defect(Why::UnknownMark, drafts.commit_marked(mark));
     }
-    expected(Why::UnknownRef, drafts.tip(text))
+    or_defect(Why::UnknownRef, drafts.tip(text))
 }
 
 /// What an operation puts at its path: an earlier blob, an object, or the blob that follows.

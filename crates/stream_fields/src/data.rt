@@ -21,12 +21,12 @@ ghost use Rattle.plain_model.specs.Fields.{
   extent_in,
   extent_by,
   block_after,
-  expected as or_defect_field,
+  or_defect as or_defect_field,
 };
 ghost use Rattle.plain_model.specs.Parts.{number_of};
 ghost use Rattle.stream_fields.specs.Blocks.{IsFirstLine, EndsAt};
 
-use crate::fault::expected;
+use crate::fault::or_defect;
 use crate::lines::{place_of, words};
 use crate::numbers::{is_number, number_up_to};
 use plain_model::Why;
@@ -108,7 +108,7 @@ fn end_by_delimiter(spelled: &[u8], text: &[u8]) -> Result<(usize, usize), Why>
     ensures { EndsAt text.now result (block_after (extent_by spelled.now None) text.now) }
 {
     match delimiter_of(spelled) {
-        Some(delimiter) => expected(Why::Truncated, delimited_end(delimiter, text)),
+        Some(delimiter) => or_defect(Why::Truncated, delimited_end(delimiter, text)),
         None => Err(Why::BadData),
     }
 }

@@ -1,6 +1,6 @@
 //! Why a field is not read.
 ghost use Rattle.std.specs.Prelude.{◌≡◌};
-ghost use Rattle.plain_model.specs.Fields.{expected as or_defect_field};
+ghost use Rattle.plain_model.specs.Fields.{or_defect as or_defect_field};
 ghost use Rattle.stream_fields.specs.declared.fault.FieldFault.TheVariants.{Bad, Memory};
 
 use plain_model::{NoMemory, Why};
@@ -32,7 +32,7 @@ impl From<NoMemory> for FieldFault {
 }
 
 /// What was found, or this defect.
-pub fn expected<T>(why: Why, found: Option<T>) -> Result<T, Why>
+pub fn or_defect<T>(why: Why, found: Option<T>) -> Result<T, Why>
     ensures { result ≡ or_defect_field why found }
 {
     match found {

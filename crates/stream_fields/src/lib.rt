@@ -15,7 +15,7 @@ mod writing;
 mod written_parts;
 
 pub use cursor::Cursor;
-pub use fault::{FieldFault, expected};
+pub use fault::{FieldFault, or_defect};
 pub use lines::{count_line_ends, cut, first_line, skip_line_feed, strip, words};
 pub use names::read_name;
 pub use numbers::{mark_of_digits, number_up_to, read_mark};

@@ -64,7 +64,7 @@ pub fn skip_line_feed(text: &[u8]) -> &[u8]
 /// The first word, and what stands after the space that ends it, if one does.
 pub fn words(text: &[u8]) -> (&[u8], Option<&[u8]>)
     ensures first { result.0.now ≡ first_word text.now }
-    ensures rest_after { option_copied result.1 ≡ after_space text.now }
+    ensures after { option_copied result.1 ≡ after_space text.now }
 {
     match cut(b' ', text) {
         Some((word, rest)) => (word, Some(rest)),

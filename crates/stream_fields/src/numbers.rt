@@ -15,7 +15,7 @@ ghost use Rattle.plain_model.specs.Fields.{mark_in};
 ghost use Rattle.plain_model.specs.Numbers.{is_digit};
 ghost use Rattle.plain_model.specs.Parts.{number_of, number_within, mark_of};
 
-use crate::fault::expected;
+use crate::fault::or_defect;
 use plain_model::{MAX_MARK, Mark, Why};
 
 // The number with one more digit, if it fits.
@@ -76,7 +76,7 @@ pub fn read_mark(text: &[u8]) -> Result<Mark, Why>
     ensures { result ≡ mark_in text.now }
 {
     match text {
-        [b':', digits @ ..] => expected(Why::BadMark, mark_of_digits(digits)),
+        [b':', digits @ ..] => or_defect(Why::BadMark, mark_of_digits(digits)),
         _ => Err(Why::BadMark),
     }
 }

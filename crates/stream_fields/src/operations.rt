@@ -16,7 +16,7 @@ ghost use Rattle.plain_model.specs.Fields.{
 ghost use Rattle.plain_model.specs.Parts.{begins};
 ghost use Rattle.stream_fields.specs.Answers.{Gives};
 
-use crate::fault::{FieldFault, expected};
+use crate::fault::{FieldFault, or_defect};
 use crate::lines::words;
 use crate::numbers::read_mark;
 use crate::paths::{read_last_path, read_path};
@@ -103,7 +103,7 @@ pub fn read_content(mode: Mode, text: &[u8]) -> Result<RawContent, Why>
     if is_id_left_out(text) {
         return Err(Why::LeftOut);
     }
-    let id = expected(Why::BadMark, ObjectId::new(text))?;
+    let id = or_defect(Why::BadMark, ObjectId::new(text))?;
     Ok(RawContent::Object(id))
 }
 
@@ -114,7 +114,7 @@ fn read_modify(alloc: Global, text: &[u8]) -> Result<RawOp, FieldFault>
 {
     let (mode, fields) = words(text);
     let mode = read_mode(mode)?;
-    let fields = expected(Why::BadMark, fields)?;
+    let fields = or_defect(Why::BadMark, fields)?;
     let (content, path) = words(fields);
     let content = read_content(mode, content)?;
     let path = read_last_path(alloc, path)?;
@@ -140,8 +140,7 @@ fn read_paths(alloc: Global, text: &[u8]) -> Result<(Path, Path), FieldFault>
 pub fn is_word_left_out(word: &[u8]) -> bool
     ensures { result ≡ is_left_out_word word.now }
 {
-    word == b"alias".as_slice()
-        || word == b"ls".as_slice()
+    word == b"ls".as_slice()
         || word == b"cat-blob".as_slice()
         || word == b"get-mark".as_slice()
         || word == b"gpgsig".as_slice()
@@ -158,17 +157,17 @@ pub fn read_op(alloc: Global, line: &[u8]) -> Result<RawOp, FieldFault>
     if line == b"deleteall".as_slice() {
         Ok(RawOp::DeleteAll)
     } else if word == b"M".as_slice() {
-        let fields = expected(Why::BadMode, fields)?;
+        let fields = or_defect(Why::BadMode, fields)?;
         read_modify(alloc, fields)
     } else if word == b"D".as_slice() {
         let path = read_last_path(alloc, fields)?;
         Ok(RawOp::Delete { path })
     } else if word == b"C".as_slice() {
-        let fields = expected(Why::BadPath, fields)?;
+        let fields = or_defect(Why::BadPath, fields)?;
         let (source, target) = read_paths(alloc, fields)?;
         Ok(RawOp::Copy { source, target })
     } else if word == b"R".as_slice() {
-        let fields = expected(Why::BadPath, fields)?;
+        let fields = or_defect(Why::BadPath, fields)?;
         let (source, target) = read_paths(alloc, fields)?;
         Ok(RawOp::Rename { source, target })
     } else if is_word_left_out(word) {

@@ -6,7 +6,7 @@ ghost use Rattle.plain_model.specs.Parts.{name_of, zone_of, when_of, when_after,
 ghost use Rattle.plain_model.specs.People.{is_clean};
 ghost use Rattle.stream_fields.specs.Answers.{Gives};
 
-use crate::fault::{FieldFault, expected};
+use crate::fault::{FieldFault, or_defect};
 use crate::lines::{cut, strip};
 use crate::numbers::number_up_to;
 use plain_model::{Items, MAX_SECONDS, Person, Signed, When, Why};
@@ -94,8 +94,8 @@ fn parts_of_person(text: &[u8]) -> Option<(&[u8], &[u8], &[u8])>
 pub fn read_person(alloc: Global, text: &[u8]) -> Result<Signed, FieldFault>
     ensures { Gives (λ who. who) result (person_in text.now) }
 {
-    let (name, email, tail) = expected(Why::BadPerson, parts_of_person(text))?;
-    let when = expected(Why::BadWhen, moment_after(tail))?;
+    let (name, email, tail) = or_defect(Why::BadPerson, parts_of_person(text))?;
+    let when = or_defect(Why::BadWhen, moment_after(tail))?;
     let person = Person {
         name: Items::of(alloc, name)?,
         email: Items::of(alloc, email)?,

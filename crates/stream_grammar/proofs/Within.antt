@@ -28,7 +28,7 @@ Given = Result (List PlainEvent) Fault
 -- ---- what was read
 
 not_spent : (k : Known) (h : List PlainEvent) → unless_spent k ≡ Ok h → history_of k ≡ h
-not_spent k h e = go (nat_lt MAX_MARK (last_mark (closed k))) e
+not_spent k h e = go (nat_lt MAX_MARK (last_mark k)) e
   where
     go : (b : Bool) → ◌≡◌ {A = Given} (cond b (Err MarksSpent) (Ok (history_of k))) (Ok h) → history_of k ≡ h
     go true e = absurd cc
@@ -45,24 +45,24 @@ history bytes h e = go (outcome stream_within all bytes) refl e
 -- ---- why there is none
 
 no_defect : (k : Known) (n : ℕ) (why : Why) → unless_spent k ≡ Err (BadStream n why) → ⊥
-no_defect k n why e = go (nat_lt MAX_MARK (last_mark (closed k))) e
+no_defect k n why e = go (nat_lt MAX_MARK (last_mark k)) e
   where
     go : (b : Bool) → ◌≡◌ {A = Given} (cond b (Err MarksSpent) (Ok (history_of k))) (Err (BadStream n why)) → ⊥
     go true e = absurd cc
     go false e = absurd cc
 
 no_limit : (k : Known) (which : Which) (number : ℕ) → unless_spent k ≡ Err (Limit which number) → ⊥
-no_limit k which number e = go (nat_lt MAX_MARK (last_mark (closed k))) e
+no_limit k which number e = go (nat_lt MAX_MARK (last_mark k)) e
   where
     go : (b : Bool) → ◌≡◌ {A = Given} (cond b (Err MarksSpent) (Ok (history_of k))) (Err (Limit which number)) → ⊥
     go true e = absurd cc
     go false e = absurd cc
 
-spent_marks : (k : Known) → unless_spent k ≡ Err MarksSpent → MAX_MARK < last_mark (closed k)
-spent_marks k e = go (nat_lt MAX_MARK (last_mark (closed k))) refl e
+spent_marks : (k : Known) → unless_spent k ≡ Err MarksSpent → MAX_MARK < last_mark k
+spent_marks k e = go (nat_lt MAX_MARK (last_mark k)) refl e
   where
-    go : (b : Bool) → nat_lt MAX_MARK (last_mark (closed k)) ≡ b → ◌≡◌ {A = Given} (cond b (Err MarksSpent) (Ok (history_of k))) (Err MarksSpent)
-        → MAX_MARK < last_mark (closed k)
+    go : (b : Bool) → nat_lt MAX_MARK (last_mark k) ≡ b → ◌≡◌ {A = Given} (cond b (Err MarksSpent) (Ok (history_of k))) (Err MarksSpent)
+        → MAX_MARK < last_mark k
     go true is e = grind (arith, nat_tests)
     go false is e = absurd cc
 
@@ -95,11 +95,11 @@ limit bytes which number e = go (outcome stream_within all bytes) refl e
         (sym prescribed ∙ ap limit_number same, m, limited_passes stream exceeded bytes m which (is ∙ ap (λ l. Refuses m (Exceeds l)) same))
     go (Misses m) is e = absurd cc
 
-pub spent : (bytes : Bytes) → stream_of bytes ≡ Err MarksSpent → (s : State) × (outcome stream all bytes ≡ Reads s) × (MAX_MARK < last_mark (closed s.known))
+pub spent : (bytes : Bytes) → stream_of bytes ≡ Err MarksSpent → (s : State) × (outcome stream all bytes ≡ Reads s) × (MAX_MARK < last_mark s.known)
 spent bytes e = go (outcome stream_within all bytes) refl e
   where
     go : (o : Answered) → outcome stream_within all bytes ≡ o → if_known (known_given o) ≡ Err MarksSpent
-        → (s : State) × (outcome stream all bytes ≡ Reads s) × (MAX_MARK < last_mark (closed s.known))
+        → (s : State) × (outcome stream all bytes ≡ Reads s) × (MAX_MARK < last_mark s.known)
     go (Reads s) is e = (s, limited_reads stream exceeded all bytes s is, spent_marks s.known e)
     go (Refuses m (Defect w)) is e = absurd cc
     go (Refuses m (Exceeds w)) is e = absurd cc

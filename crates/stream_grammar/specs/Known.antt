@@ -1,7 +1,8 @@
 -- What is known after the lines that were read: the events so far, and the one that is being read
 -- (git-fast-import, "Input format").
-use Rattle.std.specs.Prelude.{ℕ, ◌+◌, ◌==◌, ◌&&◌, ◌||◌, not, Bool, true, false, List, [], ◌∷◌, ◌++◌, length, drop, Option, Some, None, Result, Ok, Err, codes, bytes_eq, option_map, unwrap_or, if◌then◌else◌}
+use Rattle.std.specs.Prelude.{ℕ, ◌+◌, ◌==◌, ◌&&◌, ◌||◌, not, Bool, true, false, List, [], ◌∷◌, ◌++◌, length, drop, Option, Some, None, Result, Ok, Err, codes, bytes_eq, option_map, unwrap_or, filter, map, if◌then◌else◌}
 use Rattle.std.specs.List.{list_any, list_all}
+use Rattle.std.specs.Map.{lookup}
 use Rattle.plain_model.specs.declared.fault.Why.{Why}
 use Rattle.plain_model.specs.declared.fault.Why.TheVariants.{BadMark, BadMode, BadPath, UnknownMark, UnknownRef, MissingSource, LeftOut}
 use Rattle.plain_model.specs.declared.operation.Content.{Content}
@@ -16,11 +17,11 @@ use Rattle.plain_model.specs.declared.event.PlainEvent.{PlainEvent}
 use Rattle.plain_model.specs.declared.event.PlainEvent.TheVariants as plain
 use Rattle.plain_model.specs.Fields.{◌>>=◌, or_defect, first_word, after_space, mark_in, path_in, last_path_in, mode_in, content_in, is_any_hex}
 use Rattle.plain_model.specs.Histories.{begun, folded, tree}
-use Rattle.plain_model.specs.Lookups.{greatest_mark}
+use Rattle.plain_model.specs.Lookups.{greatest_mark, greatest_of}
 use Rattle.plain_model.specs.Parts.{begins}
 use Rattle.plain_model.specs.Paths.{Bytes, is_empty}
 use Rattle.plain_model.specs.Snapshots.{refs}
-use Rattle.plain_model.specs.Streams.{blob_marked, commit_marked}
+use Rattle.plain_model.specs.Streams.{blob_marked, commit_marked, is_among, is_marked}
 use Rattle.plain_model.specs.Trees.{Tree, at, subtree}
 
 -- ---- the events so far
@@ -36,19 +37,21 @@ pub record OpenCommit : Type 0 where
   pub parents : List ℕ
   pub ops : List FileOp
 
--- The event that is being read. A mark that it doesn't have is 0.
+-- The event that is being read. A mark that a blob, a commit or an alias doesn't have yet is 0.
 pub data Open : Type 0 where
   Nothing : Open
   ABlob : ℕ → Open
   ACommit : OpenCommit → Open
-  ATag : Bytes → ℕ → Option Signed → Open
+  ATag : Bytes → ℕ → Option Signed → Option ℕ → Open
   AReset : Bytes → Option ℕ → Open
+  AnAlias : ℕ → Open
 
--- The events so far, of which a blob or a commit without a mark has 0 until the end, and the one that is being read.
--- Ids are places, from 1.
+-- The events so far, of which a blob or a commit without a mark has 0 until the end, and a commit no aliases; the one that
+-- is being read; and each alias so far with the commit that it names. Ids are places, from 1.
 pub record Known : Type 0 where
   pub events : List PlainEvent
   pub current : Open
+  pub aliases : List (ℕ × ℕ)
 
 -- the id of the next event
 abbrev pub next_id : List PlainEvent → ℕ
@@ -64,7 +67,7 @@ is_empty_list (x ∷ xs) = false
 abbrev pub closed_commit : List PlainEvent → OpenCommit → Option Signed → List PlainEvent
 closed_commit events c None = events
 closed_commit events c (Some committer) =
-    with_event events (plain.Commit (next_id events) c.mark c.branch (unwrap_or c.author committer) committer c.encoding c.comment c.parents c.ops aliases)
+    with_event events (plain.Commit (next_id events) c.mark c.branch (unwrap_or c.author committer) committer c.encoding c.comment c.parents c.ops [])
 
 -- the event that was read last is after the others; without an author its committer is the author
 abbrev pub closed : Known → List PlainEvent
@@ -72,20 +75,42 @@ closed k = elim k.current [
   | Nothing ↦ k.events
   | ABlob mark ↦ k.events
   | ACommit c ↦ closed_commit k.events c c.committer
-  | ATag name target tagger ↦ k.events
+  | ATag name target tagger mark ↦ k.events
   | AReset branch target ↦ with_event k.events (plain.Reset (next_id k.events) branch target)
+  | AnAlias mark ↦ k.events
 ]
 
 -- the block of data after a line is there: a blob's bytes, a tag's comment, the bytes of an operation, a commit's comment
 abbrev pub with_data : Bool → Bytes → Known → Known
 with_data inline bytes k = elim k.current [
   | Nothing ↦ k
-  | ABlob mark ↦ record { events = with_event k.events (plain.Blob (next_id k.events) mark bytes); current = Nothing }
+  | ABlob mark ↦ record k { events = with_event k.events (plain.Blob (next_id k.events) mark bytes); current = Nothing }
   | ACommit c ↦
       if inline then record k { events = with_event k.events (plain.Blob (next_id k.events) 0 bytes) }
       else record k { current = ACommit (record c { comment = bytes }) }
-  | ATag name target tagger ↦ record { events = with_event k.events (plain.Tag (next_id k.events) name target tagger bytes mark); current = Nothing }
+  | ATag name target tagger mark ↦ record k { events = with_event k.events (plain.Tag (next_id k.events) name target tagger bytes mark); current = Nothing }
   | AReset branch target ↦ k
+  | AnAlias mark ↦ k
+]
+
+-- ---- aliases
+
+abbrev pub alias_marks : List (ℕ × ℕ) → List ℕ
+alias_marks aliases = map (λ a. a.0) aliases
+
+-- the aliases of a commit, in the order in which they came
+abbrev pub aliases_for : ℕ → List (ℕ × ℕ) → List ℕ
+aliases_for commit aliases = alias_marks (filter (λ a. a.1 == commit) aliases)
+
+-- some event or alias so far has the mark
+abbrev pub is_known_mark : Known → ℕ → Bool
+is_known_mark k mark = is_marked k.events mark || is_among (alias_marks k.aliases) mark
+
+-- the commit with the mark, as its own or as an alias so far
+abbrev pub commit_with : List PlainEvent → List (ℕ × ℕ) → ℕ → Option ℕ
+commit_with events aliases mark = elim (commit_marked events mark) [
+  | Some commit ↦ Some commit
+  | None ↦ lookup (λ a. a == mark) aliases
 ]
 
 -- ---- what a line may refer to
@@ -99,12 +124,12 @@ abbrev pub is_left_out_ref : Bytes → Bool
 is_left_out_ref text =
     list_any (λ b. (b == 94) || (b == 126)) text || ((length text == 40) || (length text == 64)) && list_all is_any_hex text
 
--- the id of the commit that a reference names: an earlier commit by its mark, or the tip of a branch
-abbrev pub ref_in : List PlainEvent → Bytes → Result ℕ Why
-ref_in events text =
+-- the id of the commit that a reference names: an earlier commit by one of its marks, or the tip of a branch
+abbrev pub ref_in : List PlainEvent → List (ℕ × ℕ) → Bytes → Result ℕ Why
+ref_in events aliases text =
     if is_empty text then Err BadMark else
     if is_left_out_ref text then Err LeftOut else
-    if begins (codes ":") text then (mark_in text >>= λ mark. or_defect UnknownMark (commit_marked events mark)) else or_defect UnknownRef (at (refs events) text)
+    if begins (codes ":") text then (mark_in text >>= λ mark. or_defect UnknownMark (commit_with events aliases mark)) else or_defect UnknownRef (at (refs events) text)
 
 -- what an operation puts at its path: an earlier blob, an object, or the blob that follows
 abbrev pub placed : List PlainEvent → RawContent → Result Content Why
@@ -170,6 +195,20 @@ with_marks n (plain.Tag id name target tagger comment mark ∷ events) = plain.T
 with_marks n (plain.Reset id branch target ∷ events) = plain.Reset id branch target ∷ with_marks n events
 with_marks n (plain.Pass id line ∷ events) = plain.Pass id line ∷ with_marks n events
 
+-- each commit has its aliases
+abbrev pub with_aliases : List (ℕ × ℕ) → List PlainEvent → List PlainEvent
+with_aliases aliases [] = []
+with_aliases aliases (plain.Commit id mark branch author committer encoding comment parents ops old ∷ events) =
+    plain.Commit id mark branch author committer encoding comment parents ops (aliases_for id aliases) ∷ with_aliases aliases events
+with_aliases aliases (plain.Blob id mark bytes ∷ events) = plain.Blob id mark bytes ∷ with_aliases aliases events
+with_aliases aliases (plain.Tag id name target tagger comment mark ∷ events) = plain.Tag id name target tagger comment mark ∷ with_aliases aliases events
+with_aliases aliases (plain.Reset id branch target ∷ events) = plain.Reset id branch target ∷ with_aliases aliases events
+with_aliases aliases (plain.Pass id line ∷ events) = plain.Pass id line ∷ with_aliases aliases events
+
+-- the greatest mark that was read, or 0
+abbrev pub greatest_read : Known → ℕ
+greatest_read k = greatest_of (greatest_mark (closed k)) (alias_marks k.aliases)
+
 -- the history of the lines that were read
 abbrev pub history_of : Known → List PlainEvent
-history_of k = let events = closed k in with_marks (greatest_mark events) events
+history_of k = with_aliases k.aliases (with_marks (greatest_read k) (closed k))

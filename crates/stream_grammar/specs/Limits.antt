@@ -5,13 +5,12 @@ use Rattle.plain_model.specs.declared.event.PlainEvent.TheVariants as plain
 use Rattle.plain_model.specs.declared.fault.Fault.{Fault}
 use Rattle.plain_model.specs.declared.fault.Fault.TheVariants as fault
 use Rattle.plain_model.specs.declared.fault.Which.{Which}
-use Rattle.plain_model.specs.declared.fault.Which.TheVariants.{Events, Operations, Parents, PathBytes, Paths}
+use Rattle.plain_model.specs.declared.fault.Which.TheVariants.{Commands, LineBytes, Events, Operations, Parents, Aliases, PathBytes, Paths, NameBytes}
 use Rattle.plain_model.specs.declared.fault.Why.{Why}
 use Rattle.plain_model.specs.declared.fault.Why.TheVariants.{Truncated}
 use Rattle.plain_model.specs.declared.operation.FileOp.{FileOp}
-use Rattle.plain_model.specs.declared.limit.TheConstants.{MAX_EVENTS, MAX_OPERATIONS, MAX_PARENTS, MAX_PATH_BYTES, MAX_PATHS, MAX_MARK}
+use Rattle.plain_model.specs.declared.limit.TheConstants.{MAX_ALIASES, MAX_COMMANDS, MAX_LINE_BYTES, MAX_NAME_BYTES, MAX_EVENTS, MAX_OPERATIONS, MAX_PARENTS, MAX_PATH_BYTES, MAX_PATHS, MAX_MARK}
 use Rattle.plain_model.specs.Histories.{begun, folded, tree}
-use Rattle.plain_model.specs.Lookups.{greatest_mark}
 use Rattle.plain_model.specs.Paths.{Bytes}
 use Rattle.plain_model.specs.Trees.{Tree, Refusal, apply}
 use Rattle.plain_model.specs.Trees.Refusal.{MissingSource, PathBytes as LongPath, Paths as ManyPaths}
@@ -21,19 +20,20 @@ use Rattle.line_automaton.specs.Machine.{Automaton, Outcome, outcome, all}
 use Rattle.line_automaton.specs.Machine.Outcome.{Reads, Refuses, Misses}
 use Rattle.stream_grammar.specs.declared.lines.Word.{Word}
 use Rattle.stream_grammar.specs.declared.lines.Word.TheVariants as word
-use Rattle.stream_grammar.specs.Known.{Known, Open, closed, history_of}
-use Rattle.stream_grammar.specs.Known.Open.{Nothing, ABlob, ACommit, ATag, AReset}
+use Rattle.stream_grammar.specs.Known.{Known, Open, closed, greatest_read, history_of}
+use Rattle.stream_grammar.specs.Known.Open.{Nothing, ABlob, ACommit, ATag, AReset, AnAlias}
 use Rattle.stream_grammar.specs.Lines.{State, stream, word_of, is_comment, judged}
 
 -- ---- what is counted
 
--- the event that is being read is one
+-- the event that is being read is one; an alias is none
 abbrev pub open_count : Open → ℕ
 open_count Nothing = 0
 open_count (ABlob mark) = 1
 open_count (ACommit c) = 1
-open_count (ATag name target tagger) = 1
+open_count (ATag name target tagger mark) = 1
 open_count (AReset branch target) = 1
+open_count (AnAlias mark) = 0
 
 abbrev pub event_count : Known → ℕ
 event_count k = length k.events + open_count k.current
@@ -54,8 +54,9 @@ abbrev pub open_ops : Open → ℕ
 open_ops (ACommit c) = length c.ops
 open_ops Nothing = 0
 open_ops (ABlob mark) = 0
-open_ops (ATag name target tagger) = 0
+open_ops (ATag name target tagger mark) = 0
 open_ops (AReset branch target) = 0
+open_ops (AnAlias mark) = 0
 
 abbrev pub op_count : Known → ℕ
 op_count k = ops_in k.events + open_ops k.current
@@ -64,8 +65,21 @@ abbrev pub open_parents : Open → ℕ
 open_parents (ACommit c) = length c.parents
 open_parents Nothing = 0
 open_parents (ABlob mark) = 0
-open_parents (ATag name target tagger) = 0
+open_parents (ATag name target tagger mark) = 0
 open_parents (AReset branch target) = 0
+open_parents (AnAlias mark) = 0
+
+-- the alias that is being read is one
+abbrev pub open_aliases : Open → ℕ
+open_aliases (AnAlias mark) = 1
+open_aliases Nothing = 0
+open_aliases (ABlob mark) = 0
+open_aliases (ACommit c) = 0
+open_aliases (ATag name target tagger mark) = 0
+open_aliases (AReset branch target) = 0
+
+abbrev pub alias_count : Known → ℕ
+alias_count k = length k.aliases + open_aliases k.current
 
 -- ---- which limit a line passes
 
@@ -98,8 +112,9 @@ tree_limit k = elim k.current [
   | ACommit c ↦ last_limit c.ops (begun (tree k.events) c.parents)
   | Nothing ↦ None
   | ABlob mark ↦ None
-  | ATag name target tagger ↦ None
+  | ATag name target tagger mark ↦ None
   | AReset branch target ↦ None
+  | AnAlias mark ↦ None
 ]
 
 -- the first of these limits: events with so many more, operations, and paths in the commit's tree
@@ -119,7 +134,20 @@ limit_at word.FeatureDone k = limit_if MAX_EVENTS (event_count k) Events None
 limit_at word.Operation k = op_limit 0 k
 limit_at word.InlineOperation k = op_limit 1 k
 limit_at word.Merge k = limit_if MAX_OPERATIONS (op_count k) Operations (limit_if MAX_PARENTS (open_parents k.current) Parents None)
-limit_at _ k = None
+limit_at word.Alias k = limit_if MAX_ALIASES (alias_count k) Aliases None
+limit_at word.Empty k = None
+limit_at word.Mark k = None
+limit_at word.Oid k = None
+limit_at word.Author k = None
+limit_at word.Committer k = None
+limit_at word.Encoding k = None
+limit_at word.Data k = None
+limit_at word.From k = None
+limit_at word.Tagger k = None
+limit_at word.To k = None
+limit_at word.Done k = None
+limit_at word.LeftOut k = None
+limit_at word.Other k = None
 
 -- the same of a line and the state after it; a comment passes none
 abbrev pub exceeded : Bytes → State → Option Which
@@ -151,7 +179,10 @@ limit_number Operations = MAX_OPERATIONS
 limit_number Parents = MAX_PARENTS
 limit_number PathBytes = MAX_PATH_BYTES
 limit_number Paths = MAX_PATHS
-limit_number _ = 0
+limit_number Aliases = MAX_ALIASES
+limit_number NameBytes = MAX_NAME_BYTES
+limit_number Commands = MAX_COMMANDS
+limit_number LineBytes = MAX_LINE_BYTES
 
 -- 1 where there is no mark, else 0
 abbrev pub want_of : ℕ → ℕ
@@ -171,12 +202,12 @@ unmarked_count [] = 0
 unmarked_count (e ∷ events) = own_want e + unmarked_count events
 
 -- the greatest mark, once each blob and commit has one
-abbrev pub last_mark : List PlainEvent → ℕ
-last_mark events = greatest_mark events + unmarked_count events
+abbrev pub last_mark : Known → ℕ
+last_mark k = greatest_read k + unmarked_count (closed k)
 
 -- what was read, unless more marks are wanting than there are
 abbrev pub unless_spent : Known → Result (List PlainEvent) Fault
-unless_spent k = if nat_lt MAX_MARK (last_mark (closed k)) then Err fault.MarksSpent else Ok (history_of k)
+unless_spent k = if nat_lt MAX_MARK (last_mark k) then Err fault.MarksSpent else Ok (history_of k)
 
 abbrev pub fault_of : ℕ → Cause Why Which → Fault
 fault_of n (Defect why) = fault.BadStream n why

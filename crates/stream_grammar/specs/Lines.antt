@@ -11,7 +11,6 @@ use Rattle.plain_model.specs.Fields.Extent.{Counted, Delimited}
 use Rattle.plain_model.specs.Parts.{begins}
 use Rattle.plain_model.specs.Paths.{Bytes}
 use Rattle.plain_model.specs.Snapshots.{refs}
-use Rattle.plain_model.specs.Streams.{is_marked}
 use Rattle.plain_model.specs.Trees.{at}
 use Rattle.line_automaton.specs.Machine.{Next, Automaton, Outcome, outcome, all, Stops, EndsEarly}
 use Rattle.line_automaton.specs.Machine.Next.{More, Block, Until, Over}
@@ -20,12 +19,11 @@ use Rattle.stream_grammar.specs.declared.lines.Expected.{Expected}
 use Rattle.stream_grammar.specs.declared.lines.Expected.TheVariants as expected
 use Rattle.stream_grammar.specs.declared.lines.Follow.{Follow}
 use Rattle.stream_grammar.specs.declared.lines.Follow.TheVariants.{Goes, Missing, Finished}
-use Rattle.stream_grammar.specs.declared.lines.Follow.TheVariants as follow
 use Rattle.stream_grammar.specs.declared.lines.Standing.{Standing}
 use Rattle.stream_grammar.specs.declared.lines.Word.{Word}
 use Rattle.stream_grammar.specs.declared.lines.Word.TheVariants as word
-use Rattle.stream_grammar.specs.Known.{Known, OpenCommit, Open, closed, with_data, with_event, next_id, ensure, ref_in, op_after, with_parent, history_of}
-use Rattle.stream_grammar.specs.Known.Open.{Nothing, ABlob, ACommit, ATag, AReset}
+use Rattle.stream_grammar.specs.Known.{Known, OpenCommit, Open, closed, with_data, with_event, next_id, ensure, is_known_mark, ref_in, op_after, with_parent, history_of}
+use Rattle.stream_grammar.specs.Known.Open.{Nothing, ABlob, ACommit, ATag, AReset, AnAlias}
 
 -- ---- words
 
@@ -61,6 +59,8 @@ word_of line =
     if bytes_eq first (codes "from") then word.From else
     if bytes_eq first (codes "merge") then word.Merge else
     if bytes_eq first (codes "tagger") then word.Tagger else
+    if bytes_eq line (codes "alias") then word.Alias else
+    if bytes_eq first (codes "to") then word.To else
     if bytes_eq first (codes "M") && is_inline line then word.InlineOperation else
     if is_operation first || bytes_eq line (codes "deleteall") then word.Operation else
     if bytes_eq line (codes "feature done") then word.FeatureDone else
@@ -117,24 +117,27 @@ follows expected.CommitOperation word.InlineOperation = Goes expected.InlineData
 follows expected.CommitOperation w = Finished
 follows expected.InlineData word.Data = Goes expected.CommitOperation
 follows expected.InlineData w = Missing
+follows expected.TagMark word.Mark = Goes expected.TagFrom
+follows expected.TagMark word.From = Goes expected.TagOid
+follows expected.TagMark w = Missing
 follows expected.TagFrom word.From = Goes expected.TagOid
-follows expected.TagFrom word.Mark = follow.LeftOut
 follows expected.TagFrom w = Missing
 follows expected.TagOid word.Oid = Goes expected.TagTagger
 follows expected.TagOid word.Tagger = Goes expected.TagData
 follows expected.TagOid word.Data = Goes expected.Event
-follows expected.TagOid word.Mark = follow.LeftOut
 follows expected.TagOid w = Missing
 follows expected.TagTagger word.Tagger = Goes expected.TagData
 follows expected.TagTagger word.Data = Goes expected.Event
-follows expected.TagTagger word.Mark = follow.LeftOut
 follows expected.TagTagger w = Missing
 follows expected.TagData word.Data = Goes expected.Event
-follows expected.TagData word.Mark = follow.LeftOut
 follows expected.TagData w = Missing
 follows expected.ResetFrom word.From = Goes expected.ResetEnd
 follows expected.ResetFrom w = Finished
 follows expected.ResetEnd w = Finished
+follows expected.AliasMark word.Mark = Goes expected.AliasTo
+follows expected.AliasMark w = Missing
+follows expected.AliasTo word.To = Goes expected.Event
+follows expected.AliasTo w = Missing
 
 -- the event can't end here
 abbrev pub is_required : Expected → Bool
@@ -153,7 +156,7 @@ must_go_on s = is_required s.expected || s.wants_done
 -- ---- the meaning of a line
 
 abbrev pub begun_with : Known → Open → Known
-begun_with k event = record { events = closed k; current = event }
+begun_with k event = record k { events = closed k; current = event }
 
 -- a commit on a branch begins after the branch's tip, if there is one
 abbrev pub commit_on : Known → Bytes → Open
@@ -171,7 +174,10 @@ commit_on k branch = ACommit (record {
 abbrev pub with_mark : ℕ → Open → Open
 with_mark mark (ABlob m) = ABlob mark
 with_mark mark (ACommit c) = ACommit (record c { mark = mark })
-with_mark mark event = event
+with_mark mark (ATag name target tagger m) = ATag name target tagger (Some mark)
+with_mark mark (AnAlias m) = AnAlias mark
+with_mark mark Nothing = Nothing
+with_mark mark (AReset branch target) = AReset branch target
 
 -- the same with a change of the commit
 abbrev pub with_commit : (OpenCommit → OpenCommit) → Open → Open
@@ -181,12 +187,12 @@ with_commit change event = event
 -- the commit that `from` names
 abbrev pub with_from : ℕ → Open → Open
 with_from commit (ACommit c) = ACommit (record c { parents = commit ∷ [] })
-with_from commit (ATag name target tagger) = ATag name commit tagger
+with_from commit (ATag name target tagger mark) = ATag name commit tagger mark
 with_from commit (AReset branch target) = AReset branch (Some commit)
 with_from commit event = event
 
 abbrev pub with_tagger : Signed → Open → Open
-with_tagger who (ATag name target tagger) = ATag name target (Some who)
+with_tagger who (ATag name target tagger mark) = ATag name target (Some who) mark
 with_tagger who event = event
 
 abbrev pub with_operation : Known → Bytes → Result Known Why
@@ -194,8 +200,9 @@ with_operation k line = elim k.current [
   | ACommit c ↦ op_after k.events c line >>= λ op. Ok (record k { current = ACommit (record c { ops = c.ops ++ op ∷ [] }) })
   | Nothing ↦ Ok k
   | ABlob mark ↦ Ok k
-  | ATag name target tagger ↦ Ok k
+  | ATag name target tagger mark ↦ Ok k
   | AReset branch target ↦ Ok k
+  | AnAlias mark ↦ Ok k
 ]
 
 -- a feature that is left out: marks from a file, and dates in another form than raw
@@ -205,32 +212,50 @@ is_left_out_feature line =
     || begins (codes "feature date-format=") line && not (bytes_eq line (codes "feature date-format=raw"))
 
 abbrev pub passed : Known → Bytes → Known
-passed k line = record { events = with_event (closed k) (plain.Pass (next_id (closed k)) line); current = Nothing }
+passed k line = record k { events = with_event (closed k) (plain.Pass (next_id (closed k)) line); current = Nothing }
 
 abbrev pub changed : Known → (Open → Open) → Known
 changed k change = record k { current = change k.current }
+
+-- the alias that is being read names the commit, and is there
+abbrev pub aliased : ℕ → Known → Known
+aliased commit k = elim k.current [
+  | AnAlias mark ↦ record k { current = Nothing; aliases = k.aliases ++ (mark, commit) ∷ [] }
+  | Nothing ↦ k
+  | ABlob mark ↦ k
+  | ACommit c ↦ k
+  | ATag name target tagger mark ↦ k
+  | AReset branch target ↦ k
+]
 
 -- what is known after a line, whose fields are judged from left to right
 abbrev pub judged : Word → Bytes → Known → Result Known Why
 judged word.Blob line k = Ok (begun_with k (ABlob 0))
 judged word.Commit line k = name_in (text_of line) >>= λ branch. Ok (begun_with k (commit_on k branch))
-judged word.Tag line k = name_in (text_of line) >>= λ name. Ok (begun_with k (ATag name 0 None))
+judged word.Tag line k = name_in (text_of line) >>= λ name. Ok (begun_with k (ATag name 0 None None))
 judged word.Reset line k = name_in (text_of line) >>= λ branch. Ok (begun_with k (AReset branch None))
 judged word.Mark line k =
     mark_in (text_of line) >>= λ mark.
-    ensure (not (is_marked k.events mark)) RepeatedMark >>= λ new.
+    ensure (not (is_known_mark k mark)) RepeatedMark >>= λ new.
     Ok (changed k (with_mark mark))
 judged word.Author line k = person_in (text_of line) >>= λ who. Ok (changed k (with_commit (λ c. record c { author = Some who })))
 judged word.Committer line k = person_in (text_of line) >>= λ who. Ok (changed k (with_commit (λ c. record c { committer = Some who })))
 judged word.Encoding line k = Ok (changed k (with_commit (λ c. record c { encoding = Some (text_of line) })))
 judged word.Tagger line k = person_in (text_of line) >>= λ who. Ok (changed k (with_tagger who))
-judged word.From line k = ref_in k.events (text_of line) >>= λ commit. Ok (changed k (with_from commit))
-judged word.Merge line k = ref_in k.events (text_of line) >>= λ commit. Ok (changed k (with_commit (with_parent commit)))
+judged word.From line k = ref_in k.events k.aliases (text_of line) >>= λ commit. Ok (changed k (with_from commit))
+judged word.Merge line k = ref_in k.events k.aliases (text_of line) >>= λ commit. Ok (changed k (with_commit (with_parent commit)))
 judged word.Operation line k = with_operation k line
 judged word.InlineOperation line k = with_operation k line
 judged word.Pass line k = ensure (not (is_left_out_feature line)) LeftOut >>= λ kept. Ok (passed k line)
 judged word.FeatureDone line k = Ok (passed k line)
-judged _ line k = Ok k
+judged word.Alias line k = Ok (begun_with k (AnAlias 0))
+judged word.To line k = ref_in k.events k.aliases (text_of line) >>= λ commit. Ok (aliased commit k)
+judged word.Empty line k = Ok k
+judged word.Oid line k = Ok k
+judged word.Data line k = Ok k
+judged word.Done line k = Ok k
+judged word.LeftOut line k = Ok k
+judged word.Other line k = Ok k
 
 -- ---- the form of a stream
 
@@ -238,8 +263,9 @@ judged _ line k = Ok k
 abbrev pub begun_by : Standing → Word → Result Standing Why
 begun_by s word.Blob = Ok (record s { expected = expected.BlobMark })
 begun_by s word.Commit = Ok (record s { expected = expected.CommitMark })
-begun_by s word.Tag = Ok (record s { expected = expected.TagFrom })
+begun_by s word.Tag = Ok (record s { expected = expected.TagMark })
 begun_by s word.Reset = Ok (record s { expected = expected.ResetFrom })
+begun_by s word.Alias = Ok (record s { expected = expected.AliasMark })
 begun_by s word.Pass = Ok (record s { expected = expected.Event })
 begun_by s word.FeatureDone = Ok (record { expected = expected.Event; wants_done = true })
 begun_by s word.Done = Ok (record { expected = expected.Event; wants_done = false })
@@ -250,7 +276,6 @@ abbrev pub gone_on : Standing → Word → Follow → Result Standing Why
 gone_on s w (Goes expected) = Ok (record s { expected = expected })
 gone_on s w Missing = Err MissingLine
 gone_on s w Finished = begun_by s w
-gone_on s w follow.LeftOut = Err LeftOut
 
 -- where a stream stands after a line of such a word; a word that is left out is so wherever a line is expected
 abbrev pub after_word : Standing → Word → Result Standing Why
@@ -305,7 +330,7 @@ abbrev pub data_arrived : State → Bytes → State
 data_arrived s bytes = record s { spelled = bytes ∷ s.spelled; known = with_data (is_inline_expected s.standing.expected) bytes s.known }
 
 abbrev pub nothing_known : Known
-nothing_known = record { events = []; current = Nothing }
+nothing_known = record { events = []; current = Nothing; aliases = [] }
 
 abbrev pub stream : Automaton State Why
 stream = record {

@@ -23,4 +23,4 @@ commit_on_b = codes "commit refs/heads/b" ∷ codes "committer Ann <a@b> 1 +0000
 
 -- the commit that such lines and some operations make
 abbrev pub of_ann : ℕ → ℕ → List ℕ → List FileOp → PlainEvent
-of_ann id mark parents ops = plain.Commit id mark (codes "refs/heads/b") ann ann None [] parents ops aliases
+of_ann id mark parents ops = plain.Commit id mark (codes "refs/heads/b") ann ann None [] parents ops []

@@ -102,27 +102,28 @@ impl Expected {
                 Word::Data => Follow::Goes(Expected::CommitOperation),
                 _ => Follow::Missing,
             },
+            Expected::TagMark => match word {
+                Word::Mark => Follow::Goes(Expected::TagFrom),
+                Word::From => Follow::Goes(Expected::TagOid),
+                _ => Follow::Missing,
+            },
             Expected::TagFrom => match word {
                 Word::From => Follow::Goes(Expected::TagOid),
-                Word::Mark => Follow::LeftOut,
                 _ => Follow::Missing,
             },
             Expected::TagOid => match word {
                 Word::Oid => Follow::Goes(Expected::TagTagger),
                 Word::Tagger => Follow::Goes(Expected::TagData),
                 Word::Data => Follow::Goes(Expected::Event),
-                Word::Mark => Follow::LeftOut,
                 _ => Follow::Missing,
             },
             Expected::TagTagger => match word {
                 Word::Tagger => Follow::Goes(Expected::TagData),
                 Word::Data => Follow::Goes(Expected::Event),
-                Word::Mark => Follow::LeftOut,
                 _ => Follow::Missing,
             },
             Expected::TagData => match word {
                 Word::Data => Follow::Goes(Expected::Event),
-                Word::Mark => Follow::LeftOut,
                 _ => Follow::Missing,
             },
             Expected::ResetFrom => match word {
@@ -130,6 +131,14 @@ impl Expected {
                 _ => Follow::Finished,
             },
             Expected::ResetEnd => Follow::Finished,
+            Expected::AliasMark => match word {
+                Word::Mark => Follow::Goes(Expected::AliasTo),
+                _ => Follow::Missing,
+            },
+            Expected::AliasTo => match word {
+                Word::To => Follow::Goes(Expected::Event),
+                _ => Follow::Missing,
+            },
         }
     }
 }
@@ -142,8 +151,9 @@ impl Standing {
         let expected = match word {
             Word::Blob => Expected::BlobMark,
             Word::Commit => Expected::CommitMark,
-            Word::Tag => Expected::TagFrom,
+            Word::Tag => Expected::TagMark,
             Word::Reset => Expected::ResetFrom,
+            Word::Alias => Expected::AliasMark,
             Word::Pass | Word::Empty | Word::FeatureDone | Word::Done => Expected::Event,
             _ => return Err(Why::UnknownLine),
         };
@@ -152,7 +162,10 @@ impl Standing {
             Word::Done => false,
             _ => self.wants_done,
         };
-        Ok(Standing { expected, wants_done })
+        Ok(Standing {
+            expected,
+            wants_done,
+        })
     }
 
     /// Where the stream stands after a line of this word, or why it can't stand here.
@@ -166,7 +179,6 @@ impl Standing {
             Follow::Goes(expected) => Ok(Standing { expected, ..self }),
             Follow::Missing => Err(Why::MissingLine),
             Follow::Finished => self.begun_by(word),
-            Follow::LeftOut => Err(Why::LeftOut),
         }
     }
 

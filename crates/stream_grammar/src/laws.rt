@@ -8,7 +8,7 @@ ghost use Rattle.plain_model.specs.declared.limit.TheConstants.{MAX_MARK};
 ghost use Rattle.line_automaton.specs.Limits.{ExceedsLimit};
 ghost use Rattle.line_automaton.specs.Machine.{EndsEarly, IsCleanBefore, NoneIsClean, Stops, all, none, outcome, up_to};
 ghost use Rattle.line_automaton.specs.Machine.Outcome.{Misses, Reads, Refuses};
-ghost use Rattle.stream_grammar.specs.Known.{closed, history_of};
+ghost use Rattle.stream_grammar.specs.Known.{history_of};
 ghost use Rattle.stream_grammar.specs.Limits.{last_mark, limit_number, exceeded, stream_of};
 ghost use Rattle.stream_grammar.specs.Lines.{AreSpelledAlike, IsFirstDefect, State, defect_in, history_in, stream};
 
@@ -59,5 +59,5 @@ pub fn limits_refuse_nothing_else()
         stream_of bytes ≡ Err (Limit which number) →
         (number ≡ limit_number which) × (n : ℕ) × ExceedsLimit stream exceeded bytes n which }
     ensures spent { (bytes : List ℕ) → stream_of bytes ≡ Err MarksSpent → (s : State) ×
-        (outcome stream all bytes ≡ Reads s) × (MAX_MARK < last_mark (closed s.known)) }
+        (outcome stream all bytes ≡ Reads s) × (MAX_MARK < last_mark s.known) }
 {}

@@ -2,9 +2,12 @@
 ghost use Rattle.std.specs.Prelude.{◌≡◌};
 ghost use Rattle.stream_grammar.specs.Limits.{limit_number};
 
-use plain_model::{MAX_EVENTS, MAX_OPERATIONS, MAX_PARENTS, MAX_PATH_BYTES, MAX_PATHS, Which};
+use plain_model::{
+    MAX_ALIASES, MAX_COMMANDS, MAX_EVENTS, MAX_LINE_BYTES, MAX_NAME_BYTES, MAX_OPERATIONS,
+    MAX_PARENTS, MAX_PATH_BYTES, MAX_PATHS, Which,
+};
 
-/// The number that a stream may not pass; 0 for a limit that no stream passes.
+/// The number of a limit: what is counted may be as much, and no more.
 pub fn limit_number(which: Which) -> u64
     ensures { result ≡ limit_number which }
 {
@@ -14,6 +17,9 @@ pub fn limit_number(which: Which) -> u64
         Which::Parents => MAX_PARENTS,
         Which::PathBytes => MAX_PATH_BYTES,
         Which::Paths => MAX_PATHS,
-        _ => 0,
+        Which::Aliases => MAX_ALIASES,
+        Which::NameBytes => MAX_NAME_BYTES,
+        Which::Commands => MAX_COMMANDS,
+        Which::LineBytes => MAX_LINE_BYTES,
     }
 }

@@ -20,6 +20,8 @@ pub enum Word {
     From,
     Merge,
     Tagger,
+    Alias,
+    To,
     /// `M`, `D`, `C`, `R` or `deleteall`.
     Operation,
     /// `M` whose content is `inline`, so that a block of data follows.
@@ -53,12 +55,15 @@ pub enum Expected {
     CommitOperation,
     /// The data of an operation with `inline`.
     InlineData,
+    TagMark,
     TagFrom,
     TagOid,
     TagTagger,
     TagData,
     ResetFrom,
     ResetEnd,
+    AliasMark,
+    AliasTo,
 }
 
 /// Where a stream stands between two lines.
@@ -78,6 +83,4 @@ pub enum Follow {
     Missing,
     /// The event is over, or there was none: the line stands between events.
     Finished,
-    /// It has a meaning in git there, which is left out.
-    LeftOut,
 }

@@ -87,6 +87,10 @@ impl Word {
             Word::Merge
         } else if first == b"tagger".as_slice() {
             Word::Tagger
+        } else if line == b"alias".as_slice() {
+            Word::Alias
+        } else if first == b"to".as_slice() {
+            Word::To
         } else if first == b"M".as_slice() && is_inline(line) {
             Word::InlineOperation
         } else if is_operation(first) || line == b"deleteall".as_slice() {

@@ -18,6 +18,7 @@ ghost use Rattle.plain_model.specs.declared.fault.Why.TheVariants.{
 };
 ghost use Rattle.plain_model.specs.declared.event.PlainEvent.TheVariants.{
   Blob,
+  Commit,
   Pass,
   Reset,
   Tag,
@@ -75,7 +76,13 @@ pub fn streams_have_histories()
         ∷ codes "from refs/heads/b" ∷ [] ∷ codes "tag v1" ∷ codes "from refs/heads/c"
         ∷ codes "tagger Ann <a@b> 1 +0000" ∷ codes "data 0" ∷ [] ∷ codes "done" ∷ codes "never read" ∷ []))
         ≡ Some (Pass 1 (codes "feature done") ∷ of_ann 2 1 [] []
-        ∷ Reset 3 (codes "refs/heads/c") (Some 2) ∷ Tag 4 (codes "v1") 2 (Some ann) [] ∷ []) }
+        ∷ Reset 3 (codes "refs/heads/c") (Some 2) ∷ Tag 4 (codes "v1") 2 (Some ann) [] None ∷ []) }
+
+    // An alias is one more mark of its commit, and names it from then on; what has no mark gets one above all of them.
+    ensures alias { history_in (lines (commit_on_b ++ codes "alias" ∷ codes "mark :9" ∷ codes "to refs/heads/b" ∷ []
+        ∷ codes "tag v1" ∷ codes "mark :7" ∷ codes "from :9" ∷ codes "data 0" ∷ []))
+        ≡ Some (Commit 1 10 (codes "refs/heads/b") ann ann None [] [] [] (9 ∷ [])
+        ∷ Tag 2 (codes "v1") 1 None [] (Some 7) ∷ []) }
 {}
 
 /// Lines that can't stand where they do.
@@ -100,7 +107,10 @@ pub fn forms_have_first_defects()
     ensures left_out { outcome stream all (lines (codes "blob" ∷ codes "cat-blob :1" ∷ []))
         ≡ Refuses 2 LeftOut }
     ensures mark_of_a_tag { outcome stream all (lines (commit_on_b ++ [] ∷ codes "tag v1" ∷ codes "from refs/heads/b"
-        ∷ codes "mark :2" ∷ [])) ≡ Refuses 7 LeftOut }
+        ∷ codes "mark :2" ∷ [])) ≡ Refuses 7 MissingLine }
+    ensures alias_without_mark { outcome stream all (lines (commit_on_b ++ codes "alias" ∷ codes "to :1" ∷ []))
+        ≡ Refuses 5 MissingLine }
+    ensures alias_with_more { outcome stream all (lines (codes "alias x" ∷ [])) ≡ Refuses 1 UnknownLine }
     ensures left_out_feature { outcome stream all (lines (codes "feature import-marks=f" ∷ []))
         ≡ Refuses 1 LeftOut }
 {}
@@ -120,6 +130,10 @@ pub fn fields_have_first_defects()
         ≡ Refuses 5 BadPath }
     ensures no_blob { outcome stream all (lines (commit_on_b ++ [] ∷ codes "M 644 :9 f" ∷ []))
         ≡ Refuses 5 UnknownMark }
+    ensures alias_again { outcome stream all (lines (commit_on_b ++ codes "alias" ∷ codes "mark :9" ∷ codes "to refs/heads/b"
+        ∷ codes "alias" ∷ codes "mark :9" ∷ [])) ≡ Refuses 8 RepeatedMark }
+    ensures mark_of_a_tag { outcome stream all (lines (commit_on_b ++ codes "tag v1" ∷ codes "mark :7"
+        ∷ codes "from refs/heads/b" ∷ codes "data 0" ∷ codes "tag v2" ∷ codes "from :7" ∷ [])) ≡ Refuses 9 UnknownMark }
     ensures no_branch { outcome stream all (lines (codes "reset refs/heads/b" ∷ codes "from refs/heads/c" ∷ []))
         ≡ Refuses 2 UnknownRef }
 

@@ -20,7 +20,7 @@ use crate::open::Open;
 use crate::operations::{put_last, read_modify};
 use plain_model::{FileOp, MAX_EVENTS, MAX_OPERATIONS, NoMemory, Path, Place, Which, Why};
 use std::alloc::Global;
-use stream_fields::{FieldFault, expected, read_last_path, read_path, words};
+use stream_fields::{FieldFault, or_defect, read_last_path, read_path, words};
 use stream_lines::LineFault;
 
 impl Builder {
@@ -61,18 +61,18 @@ impl Builder {
     {
         let (word, text) = words(line);
         if word == b"M".as_slice() {
-            return read_modify(alloc, &self.drafts, expected(Why::BadMode, text)?);
+            return read_modify(alloc, &self.drafts, or_defect(Why::BadMode, text)?);
         }
         if word == b"D".as_slice() {
             let path = read_last_path(alloc, text)?;
             return Ok(FileOp::Delete { path });
         }
         if word == b"C".as_slice() {
-            let (source, target) = self.read_paths(alloc, expected(Why::BadPath, text)?)?;
+            let (source, target) = self.read_paths(alloc, or_defect(Why::BadPath, text)?)?;
             return Ok(FileOp::Copy { source, target });
         }
         if word == b"R".as_slice() {
-            let (source, target) = self.read_paths(alloc, expected(Why::BadPath, text)?)?;
+            let (source, target) = self.read_paths(alloc, or_defect(Why::BadPath, text)?)?;
             return Ok(FileOp::Rename { source, target });
         }
         Ok(FileOp::DeleteAll)

@@ -14,5 +14,7 @@ returns c = record {
   bare_word = refl;
   left_out = refl;
   mark_of_a_tag = refl;
+  alias_without_mark = refl;
+  alias_with_more = refl;
   left_out_feature = refl;
 }

@@ -14,4 +14,5 @@ returns c = record {
   root_of_a_merge = refl;
   delimited = refl;
   other_events = refl;
+  alias = refl;
 }
