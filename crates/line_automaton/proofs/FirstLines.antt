@@ -1,5 +1,5 @@
 -- The first lines of a text, and the rest of it.
-use Rattle.std.proofs.Common.{◌≡◌, ℕ, zero, suc, ◌≤◌, Bool, true, false, cond, not, [], ◌∷◌, ◌++◌, refl, sym, ◌∙◌, ap, inl, inr, ◌⊎◌, arith}
+use Rattle.std.proofs.Common.{◌≡◌, ℕ, zero, suc, ◌≤◌, Bool, true, false, cond, not, [], ◌∷◌, ◌++◌, refl, sym, ◌∙◌, ap, inl, inr, ◌⊎◌, arith, append-nil}
 use Rattle.plain_model.specs.Paths.{Bytes}
 use Rattle.plain_model.specs.Parts.{is_lf}
 use Rattle.line_automaton.specs.Machine.{through, HaveSameLines}
@@ -110,3 +110,15 @@ through_fewer inside (suc n) (suc k) (x ∷ xs) h = go (is_lf x) (through_fewer 
 -- texts with the same lines have the same first of them
 pub same_fewer_lines : (n k : ℕ) (x y : Bytes) → n ≤ k → HaveSameLines k x y → HaveSameLines n x y
 same_fewer_lines n k x y h same = sym (through_fewer false n k x h) ∙ ap (through false n) same ∙ through_fewer false n k y h
+
+-- more lines go on from fewer ones
+pub through_more : (inside : Bool) (n k : ℕ) (xs : Bytes) → n ≤ k → (rest : Bytes) × (through inside k xs ≡ through inside n xs ++ rest)
+through_more inside zero k xs h = (through inside k xs, refl)
+through_more inside (suc n) zero xs h = absurd (omega arith)
+through_more inside (suc n) (suc k) [] h = ([], sym (append-nil (cond inside (10 ∷ []) [])))
+through_more inside (suc n) (suc k) (b ∷ bs) h = go (is_lf b) (through_more false n k bs (omega arith)) (through_more true (suc n) (suc k) bs h)
+  where
+    go : (t : Bool) → (rest : Bytes) × (through false k bs ≡ through false n bs ++ rest) → (rest : Bytes) × (through true (suc k) bs ≡ through true (suc n) bs ++ rest)
+        → (rest : Bytes) × (b ∷ cond t (through false k bs) (through true (suc k) bs) ≡ (b ∷ cond t (through false n bs) (through true (suc n) bs)) ++ rest)
+    go true x y = (x.0, ap (λ (l : Bytes). b ∷ l) x.1)
+    go false x y = (y.0, ap (λ (l : Bytes). b ∷ l) y.1)

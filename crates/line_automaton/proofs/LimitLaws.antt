@@ -2,13 +2,14 @@
 use Rattle.std.proofs.Common.{◌≡◌, ℕ, zero, suc, ◌+◌, ◌≤◌, ◌<◌, Bool, true, false, cond, [], ◌∷◌, ◌++◌, Option, Some, None, Result, Ok, Err, refl, sym, ◌∙◌, ap, subst, arith, eqb-true}
 use Rattle.plain_model.specs.Paths.{Bytes}
 use Rattle.plain_model.specs.Parts.{is_lf}
-use Rattle.line_automaton.specs.Machine.{Next, Automaton, Mode, Machine, number_past, answered, compared, moved, feed, run, begun, outcome, all, first_lines}
+use Rattle.line_automaton.specs.Machine.{Next, Automaton, Mode, Machine, Outcome, number_past, answered, compared, moved, feed, run, begun, outcome, all, first_lines}
 use Rattle.line_automaton.specs.Machine.Mode.{InLine, InBlock, After, InDelimited, Ended}
 use Rattle.line_automaton.specs.Machine.Machine.{At, Stopped}
 use Rattle.line_automaton.specs.Machine.Outcome.{Reads, Refuses, Misses}
 use Rattle.line_automaton.specs.Limits.{Cause, within, limited_step, limited, ExceedsLimit}
 use Rattle.line_automaton.specs.Limits.Cause.{Defect, Exceeds}
 use Rattle.line_automaton.proofs.Runs.{run_append, stays}
+use Rattle.line_automaton.proofs.FirstLines.{through_more}
 use Rattle.line_automaton.proofs.Numbers.{AtMost, AtLeast, run_least}
 use Rattle.line_automaton.proofs.Refusals.{first_lines_most, refused_outcome, outcome_refused}
 use Rattle.line_automaton.proofs.InStep.{IsInStep, run_in_step, reads_alike, misses_alike}
@@ -213,3 +214,126 @@ module _ {State Why Limit : Type 0} (a : Automaton State Why) (passed : Bytes �
           let least : n + 1 ≤ k = subst (λ (q : Machine State Why). AtLeast (n + 1) q) stop late in
           let most : k < 1 + n = subst (λ (q : Machine State Why). AtMost (1 + n) q) stop (first_lines_most a all false n 1 (begun a) x (omega arith)) in
           absurd (omega arith)
+
+  -- ---- the other way round
+
+  -- no line below n passes a limit
+  abbrev pub NoneBelow : Bytes → ℕ → Type 0
+  NoneBelow x n = (k : ℕ) (limit : Limit) → ExceedsLimit a passed x k limit → n ≤ k
+
+  -- where the lines through one are read, no line before it is refused
+  not_refused : (x : Bytes) (n k : ℕ) (why : Why) (limit : Limit) → outcome a all x ≡ Refuses n why → n ≤ k → ExceedsLimit a passed x k limit → ⊥
+  not_refused x n k why limit e low p =
+      let more = through_more false n k x low in
+      p.is_read n why
+      (ap (run a all (begun a)) more.1 ∙ run_append a all (begun a) (first_lines n x) more.0
+      ∙ ap (λ m. run a all m more.0) (outcome_refused a all x n why e) ∙ stays a all n why more.0)
+
+  -- a line that is refused without limits is so within them, if none before it passes a limit
+  pub defect_first : (x : Bytes) (n : ℕ) (why : Why) → outcome a all x ≡ Refuses n why → NoneBelow x n → outcome within_limits all x ≡ Refuses n (Defect why)
+  defect_first x n why e none = go (outcome within_limits all x) refl
+    where
+      go : (o : Outcome State (Cause Why Limit)) → outcome within_limits all x ≡ o → outcome within_limits all x ≡ Refuses n (Defect why)
+      go (Reads s) is = absurd (let same = sym (limited_reads all x s is) ∙ e in cc)
+      go (Misses k) is = absurd (let same = sym (limited_misses all x k is) ∙ e in cc)
+      go (Refuses k (Defect w)) is =
+          let same = sym (limited_defect all x k w is) ∙ e in
+          let line : k ≡ n = cc in
+          let kind : w ≡ why = cc in
+          is ∙ (λ i. Refuses (line i) (Defect (kind i)))
+      go (Refuses k (Exceeds limit)) is =
+          let p = limited_passes x k limit is in
+          absurd (not_refused x n k why limit e (none k limit p) p)
+
+  -- what a text lacks it lacks within limits, if no line passes one
+  pub missing_first : (x : Bytes) (n : ℕ) → outcome a all x ≡ Misses n → ((k : ℕ) (limit : Limit) → ExceedsLimit a passed x k limit → ⊥) → outcome within_limits all x ≡ Misses n
+  missing_first x n e none = go (outcome within_limits all x) refl
+    where
+      go : (o : Outcome State (Cause Why Limit)) → outcome within_limits all x ≡ o → outcome within_limits all x ≡ Misses n
+      go (Reads s) is = absurd (let same = sym (limited_reads all x s is) ∙ e in cc)
+      go (Refuses k (Defect w)) is = absurd (let same = sym (limited_defect all x k w is) ∙ e in cc)
+      go (Refuses k (Exceeds limit)) is = absurd (none k limit (limited_passes x k limit is))
+      go (Misses k) is =
+          let same = sym (limited_misses all x k is) ∙ e in
+          let line : k ≡ n = cc in
+          is ∙ ap (λ l. Misses l) line
+
+  -- what is read without limits is read within them, if no line passes one
+  pub read_first : (x : Bytes) (s : State) → outcome a all x ≡ Reads s → ((k : ℕ) (limit : Limit) → ExceedsLimit a passed x k limit → ⊥) → outcome within_limits all x ≡ Reads s
+  read_first x s e none = go (outcome within_limits all x) refl
+    where
+      go : (o : Outcome State (Cause Why Limit)) → outcome within_limits all x ≡ o → outcome within_limits all x ≡ Reads s
+      go (Misses k) is = absurd (let same = sym (limited_misses all x k is) ∙ e in cc)
+      go (Refuses k (Defect w)) is = absurd (let same = sym (limited_defect all x k w is) ∙ e in cc)
+      go (Refuses k (Exceeds limit)) is = absurd (none k limit (limited_passes x k limit is))
+      go (Reads t) is =
+          let same = sym (limited_reads all x t is) ∙ e in
+          let state : t ≡ s = cc in
+          is ∙ ap (λ q. Reads q) state
+
+  -- a refused step, by the limit that it passes
+  step_passes : (line : Bytes) (new : State) (next : Next) (limit : Limit) (r : Result (State × Next) Why) → r ≡ Ok (new, next) → passed line new ≡ Some limit
+      → limited_step a passed line r ≡ Err (Exceeds limit)
+  step_passes line new next limit r made p = ap (limited_step a passed line) made ∙ ap (within a passed (new, next)) p
+
+  -- the first line that passes a limit is refused for it
+  pub limit_first : (x : Bytes) (n : ℕ) (limit : Limit) → ExceedsLimit a passed x n limit → NoneBelow x n → outcome within_limits all x ≡ Refuses n (Exceeds limit)
+  limit_first x n limit p none = go (run within_limits all (begun within_limits) p.before) refl
+    where
+      whole : Machine State (Cause Why Limit)
+      whole = run within_limits all (begun within_limits) (first_lines n x)
+
+      -- no machine stops before line n
+      earlier : (k : ℕ) (cause : Cause Why Limit) → run within_limits all (begun within_limits) p.before ≡ Stopped k cause → ⊥
+      earlier k cause e = by_cause cause s.refused out
+        where
+          s : StopsAt within_limits all (begun within_limits) p.before k cause
+          s = stops_at within_limits all 1 (InLine []) a.start p.before k cause e
+
+          out : outcome within_limits all x ≡ Refuses k cause
+          out = refused_outcome within_limits all x n k cause
+              (ap (run within_limits all (begun within_limits)) p.is_there ∙ run_append within_limits all (begun within_limits) p.before (10 ∷ p.after)
+              ∙ ap (λ m. run within_limits all m (10 ∷ p.after)) e ∙ stays within_limits all k cause (10 ∷ p.after))
+
+          -- the run without limits after the line
+          on : (r : Result (State × Next) Why) → a.step true s.state s.line ≡ r → run a all (moved a k (k + 1) (answered a k s.line r)) s.after ≡ At n (InLine p.line) p.old
+          on r is =
+              sym (ap (run a all (begun a)) s.is_there
+              ∙ run_line a all s.before s.line s.after k s.state (run_within all s.before k (InLine s.line) s.state s.reached)
+              ∙ ap (λ q. run a all (moved a k (k + 1) (answered a k s.line q)) s.after) is)
+              ∙ p.reached
+
+          by_cause : (c : Cause Why Limit) → limited_step a passed s.line (a.step true s.state s.line) ≡ Err c → outcome within_limits all x ≡ Refuses k c → ⊥
+          by_cause (Defect w) refused found =
+              let stopped : Stopped k w ≡ At n (InLine p.line) p.old = sym (stays a all k w s.after) ∙ on (Err w) (step_refused s.line w (a.step true s.state s.line) refused) in
+              absurd cc
+          by_cause (Exceeds l) refused found =
+              let made = step_passed s.line l (a.step true s.state s.line) refused in
+              let m : Machine State Why = moved a k (k + 1) (answered a k s.line (Ok (made.0, made.1))) in
+              let late : AtLeast (k + 1) (run a all m s.after) = run_least a all (k + 1) m s.after (omega arith) in
+              let least : k + 1 ≤ n = subst (λ (q : Machine State Why). AtLeast (k + 1) q) (on (Ok (made.0, made.1)) made.2) late in
+              let none_lower = none k l (limited_passes x k l found) in
+              absurd (omega arith)
+
+      stop : (k : ℕ) (mode : Mode) (s : State) → run within_limits all (begun within_limits) p.before ≡ At k mode s → outcome within_limits all x ≡ Refuses n (Exceeds limit)
+      stop k mode s e =
+          let same = sym (run_within all p.before k mode s e) ∙ p.reached in
+          let there : run within_limits all (begun within_limits) p.before ≡ At n (InLine p.line) p.old = e ∙ (let is : At k mode s ≡ At n (InLine p.line) p.old = here k mode s same in is) in
+          refused_outcome within_limits all x n n (Exceeds limit)
+          (ap (run within_limits all (begun within_limits)) p.is_there
+          ∙ run_line within_limits all p.before p.line p.after n p.old there
+          ∙ ap (λ r. run within_limits all (moved within_limits n (n + 1) (answered within_limits n p.line r)) p.after)
+          (step_passes p.line p.new p.next limit (a.step true p.old p.line) p.made p.passes)
+          ∙ stays within_limits all n (Exceeds limit) p.after)
+        where
+          here : (k : ℕ) (mode : Mode) (s : State) → ◌≡◌ {A = Machine State Why} (At k mode s) (At n (InLine p.line) p.old)
+              → ◌≡◌ {A = Machine State (Cause Why Limit)} (At k mode s) (At n (InLine p.line) p.old)
+          here k mode s e =
+              let number : k ≡ n = cc in
+              let place : mode ≡ InLine p.line = cc in
+              let state : s ≡ p.old = cc in
+              λ i. At (number i) (place i) (state i)
+
+      go : (m : Machine State (Cause Why Limit)) → run within_limits all (begun within_limits) p.before ≡ m → outcome within_limits all x ≡ Refuses n (Exceeds limit)
+      go (Stopped k cause) e = absurd (earlier k cause e)
+      go (At k mode s) e = stop k mode s e

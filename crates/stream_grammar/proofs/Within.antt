@@ -1,5 +1,6 @@
 -- What a stream gives within the limits, against what it gives without.
-use Rattle.std.proofs.Common.{◌≡◌, ℕ, ◌<◌, Bool, true, false, cond, List, Some, Result, Ok, Err, refl, ap, sym, ◌∙◌, inl, inr, nat_lt, arith}
+use Rattle.std.proofs.Common.{◌≡◌, ℕ, ◌<◌, ◌≤◌, Bool, true, false, cond, List, Some, Result, Ok, Err, refl, ap, sym, ◌∙◌, inl, inr, nat_lt, arith}
+use Rattle.std.proofs.lemmas.Bool.{cond-false}
 use Rattle.std.proofs.lemmas.Bool.Decides.{nat_tests}
 use Rattle.plain_model.specs.declared.event.PlainEvent.{PlainEvent}
 use Rattle.plain_model.specs.declared.fault.Fault.{Fault}
@@ -11,10 +12,10 @@ use Rattle.plain_model.specs.declared.limit.TheConstants.{MAX_MARK}
 use Rattle.plain_model.specs.Paths.{Bytes}
 use Rattle.line_automaton.specs.Limits.{Cause, ExceedsLimit}
 use Rattle.line_automaton.specs.Limits.Cause.{Defect, Exceeds}
-use Rattle.line_automaton.specs.Machine.{Outcome, outcome, all}
+use Rattle.line_automaton.specs.Machine.{EndsEarly, Outcome, Stops, outcome, all}
 use Rattle.line_automaton.specs.Machine.Outcome.{Reads, Refuses, Misses}
-use Rattle.line_automaton.proofs.LimitLaws.{limited_reads, limited_misses, limited_defect, limited_passes}
-use Rattle.stream_grammar.specs.Known.{Known, closed, history_of}
+use Rattle.line_automaton.proofs.LimitLaws.{limited_reads, limited_misses, limited_defect, limited_passes, defect_first, missing_first, limit_first, read_first}
+use Rattle.stream_grammar.specs.Known.{Known, history_of}
 use Rattle.stream_grammar.specs.Limits.{exceeded, stream_within, last_mark, unless_spent, known_given, if_known, stream_of, limit_number}
 use Rattle.stream_grammar.specs.Lines.{State, stream, history_read, history_in, IsFirstDefect}
 use Rattle.stream_grammar.proofs.FirstDefect.{stops, ends_early}
@@ -104,3 +105,26 @@ spent bytes e = go (outcome stream_within all bytes) refl e
     go (Refuses m (Defect w)) is e = absurd cc
     go (Refuses m (Exceeds w)) is e = absurd cc
     go (Misses m) is e = absurd cc
+
+-- ---- the other way round
+
+-- no line exceeds a limit, or none before this one
+abbrev ExceedsNone : Bytes → Type 0
+ExceedsNone bytes = (m : ℕ) (which : Which) → ExceedsLimit stream exceeded bytes m which → ⊥
+
+abbrev ExceedsNoneBefore : Bytes → ℕ → Type 0
+ExceedsNoneBefore bytes n = (m : ℕ) (which : Which) → ExceedsLimit stream exceeded bytes m which → n ≤ m
+
+pub defect_reported : (bytes : Bytes) (n : ℕ) (why : Why) → Stops stream bytes n why → ExceedsNoneBefore bytes n → stream_of bytes ≡ Err (BadStream n why)
+defect_reported bytes n why s none = ap (λ o. if_known (known_given o)) (defect_first stream exceeded bytes n why ((stops bytes n why).0 s) none)
+
+pub end_reported : (bytes : Bytes) (n : ℕ) → EndsEarly stream bytes n → ExceedsNone bytes → stream_of bytes ≡ Err (BadStream n Truncated)
+end_reported bytes n s none = ap (λ o. if_known (known_given o)) (missing_first stream exceeded bytes n ((ends_early bytes n).0 s) none)
+
+pub limit_reported : (bytes : Bytes) (n : ℕ) (which : Which) → ExceedsLimit stream exceeded bytes n which → ExceedsNoneBefore bytes n → stream_of bytes ≡ Err (Limit which (limit_number which))
+limit_reported bytes n which s none = ap (λ o. if_known (known_given o)) (limit_first stream exceeded bytes n which s none)
+
+pub history_given : (bytes : Bytes) (s : State) → outcome stream all bytes ≡ Reads s → ExceedsNone bytes → last_mark s.known ≤ MAX_MARK → stream_of bytes ≡ Ok (history_of s.known)
+history_given bytes s is none few =
+    ap (λ o. if_known (known_given o)) (read_first stream exceeded bytes s is none)
+    ∙ cond-false (nat_lt MAX_MARK (last_mark s.known)) (Err MarksSpent) (Ok (history_of s.known)) (grind (arith, nat_tests))

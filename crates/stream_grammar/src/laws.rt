@@ -1,9 +1,10 @@
 //! Laws of streams. Each function's contract is one, and its body is empty.
-ghost use Rattle.std.specs.Prelude.{◌≡◌, ◌↔◌, ◌<◌, ℕ, List, Some, Ok, Err, is_some, not};
+ghost use Rattle.std.specs.Prelude.{◌≡◌, ◌↔◌, ◌<◌, ◌≤◌, ℕ, List, Some, Ok, Err, is_some, not};
 ghost use Rattle.plain_model.specs.declared.event.PlainEvent.{PlainEvent};
 ghost use Rattle.plain_model.specs.declared.fault.Fault.TheVariants.{BadStream, Limit, MarksSpent};
 ghost use Rattle.plain_model.specs.declared.fault.Which.{Which};
 ghost use Rattle.plain_model.specs.declared.fault.Why.{Why};
+ghost use Rattle.plain_model.specs.declared.fault.Why.TheVariants.{Truncated};
 ghost use Rattle.plain_model.specs.declared.limit.TheConstants.{MAX_MARK};
 ghost use Rattle.line_automaton.specs.Limits.{ExceedsLimit};
 ghost use Rattle.line_automaton.specs.Machine.{EndsEarly, IsCleanBefore, NoneIsClean, Stops, all, none, outcome, up_to};
@@ -60,4 +61,22 @@ pub fn limits_refuse_nothing_else()
         (number ≡ limit_number which) × (n : ℕ) × ExceedsLimit stream exceeded bytes n which }
     ensures spent { (bytes : List ℕ) → stream_of bytes ≡ Err MarksSpent → (s : State) ×
         (outcome stream all bytes ≡ Reads s) × (MAX_MARK < last_mark s.known) }
+{}
+
+/// The first cause is reported: the first defect where no line before it exceeds a limit, an early end where none does, the
+/// first line that exceeds a limit where no defect is before it; and what has none of them and marks enough is read.
+pub fn the_first_cause_is_reported()
+    ensures defect { (bytes : List ℕ) (n : ℕ) (why : Why) → Stops stream bytes n why →
+        ((m : ℕ) (which : Which) → ExceedsLimit stream exceeded bytes m which → n ≤ m) →
+        stream_of bytes ≡ Err (BadStream n why) }
+    ensures early_end { (bytes : List ℕ) (n : ℕ) → EndsEarly stream bytes n →
+        ((m : ℕ) (which : Which) → ExceedsLimit stream exceeded bytes m which → ⊥) →
+        stream_of bytes ≡ Err (BadStream n Truncated) }
+    ensures limit { (bytes : List ℕ) (n : ℕ) (which : Which) →
+        ExceedsLimit stream exceeded bytes n which →
+        ((m : ℕ) (other : Which) → ExceedsLimit stream exceeded bytes m other → n ≤ m) →
+        stream_of bytes ≡ Err (Limit which (limit_number which)) }
+    ensures history { (bytes : List ℕ) (s : State) → outcome stream all bytes ≡ Reads s →
+        ((m : ℕ) (which : Which) → ExceedsLimit stream exceeded bytes m which → ⊥) →
+        last_mark s.known ≤ MAX_MARK → stream_of bytes ≡ Ok (history_of s.known) }
 {}

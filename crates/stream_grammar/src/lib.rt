@@ -10,7 +10,8 @@ mod worked;
 
 pub use laws::{
     a_first_defect_is_the_only_one, an_early_end_misses_a_line, first_refusal_is_the_first_defect,
-    limits_refuse_nothing_else, what_is_clean_is_spelled, what_is_no_history_has_a_first_defect,
+    limits_refuse_nothing_else, the_first_cause_is_reported, what_is_clean_is_spelled,
+    what_is_no_history_has_a_first_defect,
 };
 pub use limits::limit_number;
 pub use lines::{Expected, Follow, Standing, Word};
