@@ -120,7 +120,7 @@ take-ids (p ∷ ps) (suc n) h = ap (λ xs. p ∷ xs) (take-ids ps n (omega arith
 
 -- ---- orders
 
--- no id stands twice
+-- no id occurs twice
 abbrev pub AreListedOnce : List AnyId → Type 0
 AreListedOnce [] = Unit {0}
 AreListedOnce (id ∷ ids) = (is_listed id ids ≡ false) × AreListedOnce ids

@@ -1,4 +1,4 @@
--- In a sound history ids, marks and parents stand once, and what isn't there has no children.
+-- In a sound history ids, marks and parents occur once, and what isn't there has no children.
 use Rattle.std.proofs.Common.{◌≡◌, ◌∙◌, ℕ, suc, Bool, true, false, cond, ◌||◌, inl, inr, List, [], ◌∷◌, ◌++◌, Option, Some, None, refl, sym, ap, eqb, arith, append_assoc}
 use Rattle.std.proofs.lemmas.Bool.{cases_Bool, eqb-true, true≢false}
 use Rattle.std.proofs.lemmas.Bool.Decides.{nat_tests}
@@ -217,7 +217,7 @@ no_child c n (plain.Tag id name target tagger comment mark ∷ es) h = no_child 
 no_child c n (plain.Reset id branch target ∷ es) h = no_child c n es h
 no_child c n (plain.Pass id line ∷ es) h = no_child c n es h
 
--- each child stands once
+-- each child occurs once
 pub children-once : (c : ℕ) (es : List PlainEvent) → AreDistinct es → are_distinct (children_of c es) ≡ true
 children-once c [] h = refl
 children-once c (plain.Commit id mark branch author committer encoding comment parents ops aliases ∷ es) h =

@@ -1,4 +1,4 @@
--- Ids, marks and parents that stand once, as in every sound history. (own)
+-- Ids, marks and parents that occur once, as in every sound history. (own)
 use Rattle.std.specs.Prelude.{◌≡◌, ◌==◌, ℕ, List, [], ◌∷◌, None, IsTrue}
 use Rattle.std.specs.List.{AllByRecursion}
 use Rattle.std.specs.Map.{lookup}
@@ -13,7 +13,7 @@ abbrev pub AreDistinct : List PlainEvent → Type 0
 AreDistinct [] = Unit {0}
 AreDistinct (e ∷ events) = (find_event (id_of e) events ≡ None) × AreDistinct events
 
--- no mark stands twice
+-- no mark occurs twice
 abbrev pub AreMarkedOnce : List (ℕ × AnyId) → Type 0
 AreMarkedOnce [] = Unit {0}
 AreMarkedOnce (m ∷ marks) = (lookup (λ n. m.0 == n) marks ≡ None) × AreMarkedOnce marks

@@ -131,7 +131,7 @@ impl Plan {
         self.after.event(id)
     }
 
-    /// The event before which so many stand after.
+    /// The event before which so many are after.
     pub fn nth(&self, place: usize) -> &PlainEvent
         requires { place < length self.now.after }
         ensures { slice_get self.now.after place ≡ Some result.now }
@@ -139,7 +139,7 @@ impl Plan {
         self.after.nth(place)
     }
 
-    /// How many events stand after before the one with the id.
+    /// How many events are after before the one with the id.
     pub fn place(&self, id: AnyId) -> Option<usize>
         ensures place { result ≡ place_of id self.now.after }
         ensures within { IfSome result (λ place. place < length self.now.after) }
@@ -147,7 +147,7 @@ impl Plan {
         self.after.place(id)
     }
 
-    /// The event before which so many stood before.
+    /// The event before which so many were before.
     pub fn old_nth(&self, place: usize) -> &PlainEvent
         requires { place < length self.now.before }
         ensures { slice_get self.now.before place ≡ Some result.now }

@@ -26,7 +26,7 @@ counted_there digits text n e = go (number_of digits) e
         let b = cond_some (nat_le m (length text)) m n h in
         ap (or_defect Truncated) (cond-true (nat_le m (length text)) (Some (take m text, drop m text)) None b.0) ∙ ap parts b.1
 
--- a count that the text lacks
+-- a count that the text misses
 pub counted_short : (digits text : Bytes) → is_some (number_of digits) ≡ true → number_within (length text) digits ≡ None → block_after (extent_by digits (number_of digits)) text ≡ Err Truncated
 unfolding number_within block_after
 counted_short digits text s e = go (number_of digits) s e

@@ -14,7 +14,7 @@ use Rattle.field_laws.proofs.Steps.{is_some-cond}
 
 -- ---- the first byte that passes a test
 
--- what stands before it doesn't pass
+-- what is before it doesn't pass
 before_first : (q : ℕ → Bool) (xs : Bytes) → list_all q (take (prefix_len q xs) xs) ≡ true
 before_first q [] = refl
 before_first q (x ∷ xs) = go (q x) refl (before_first q xs)
@@ -76,7 +76,7 @@ module _ (p : ℕ → Bool) where
 drop_past : (xs : Bytes) (y : ℕ) (rest : Bytes) → drop (length xs + 1) (xs ++ y ∷ rest) ≡ rest
 drop_past xs y rest = sym (drop-drop 1 (length xs) (xs ++ y ∷ rest)) ∙ ap (drop 1) (drop_at xs (y ∷ rest) (length xs) refl)
 
--- ---- what stands before and after a byte
+-- ---- what is before and after a byte
 
 -- the text is cut at its first such byte
 pub cut_is : (b : ℕ) (text x y : Bytes) → cut_at b text ≡ Some (x, y) → (list_all (λ c. not (c == b)) x ≡ true) × (text ≡ x ++ b ∷ y)
@@ -176,4 +176,4 @@ after_read word rest =
     (begins_same word text ∙ begins_own word rest)
     ∙ ap (λ (r : Bytes). Some r) (drop_at word rest (length word) refl)
 
--- ---- an LF that may stand
+-- ---- an LF that may follow

@@ -94,7 +94,7 @@ follows_source p (b ∷ bs) h f = ap (λ c. first_word (p ++ c ∷ bs)) (space b
     space : (b : ℕ) → ((32 == b) && true) ≡ true → b ≡ 32
     space b e = sym (eqb-true 32 b (and_parts (32 == b) true e).0)
 
--- a path that may stand without quotes has no space before another
+-- a path that may be without quotes has no space before another
 no_space : (p : Bytes) → list_any (λ b. (b == 10) || (b == 32)) p ≡ false → has_no_space p ≡ true
 no_space [] h = refl
 no_space (b ∷ bs) h =

@@ -1,4 +1,4 @@
--- The first word of a text is what stands before its first space.
+-- The first word of a text is what is before its first space.
 use Rattle.std.proofs.Common.{◌≡◌, ◌≤◌, length, arith, Bool, true, false, cond, not, [], ◌∷◌, ◌++◌, Some, None, refl, ap, ◌∙◌}
 use Rattle.std.specs.Prelude.{◌==◌}
 use Rattle.std.specs.List.{list_all}

@@ -107,7 +107,7 @@ zone_written : (minus : Bool) (offset : ℕ) → offset ≤ 9999 → IsZone (zon
 zone_written true offset h = record { sign = 45; digits = zone offset; is = refl; signed = inr (refl, refl); four = refl; numeral = zone_digits offset h }
 zone_written false offset h = record { sign = 43; digits = zone offset; is = refl; signed = inl (refl, refl); four = refl; numeral = zone_digits offset h }
 
--- what stands before an email
+-- what is before an email
 name_part : Bytes → Bytes
 name_part name = name ++ cond (nat_lt 0 (length name)) (codes " ") []
 
@@ -143,7 +143,7 @@ person_written who h = record {
 
 -- ---- paths
 
--- a path that can stand unquoted
+-- a path that can be unquoted
 pub record PathFits (path : Bytes) : Type 0 where
   pub is_path : IsPath path
   pub unquoted : begins (codes "\"") path ≡ false

@@ -70,7 +70,7 @@ begun_line (n ∷ older) s (p ∷ ps) k =
 pub tree_of_line : (older : Past) → IsLinkedPast older → (c : ℕ) → IsTrue (knows older c) → tree_in older c ≡ folded (ops_along (first_line older c)) (Some [])
 tree_of_line older s c k = begun_line older s (c ∷ []) k
 
--- where each commit has a tree, its parents stand earlier
+-- where each commit has a tree, its parents are earlier
 pub linked : (older : Past) → IsSoundPast older → IsLinkedPast older
 linked [] s = tt
 linked (n ∷ older) s = (s.0, s.1, linked older s.3)

@@ -4,7 +4,7 @@ use Rattle.std.specs.Prelude.{◌&&◌, ◌||◌, ◌==◌}
 use Rattle.std.proofs.lemmas.Bool.{and_parts, or_cases, or_left, or_right, or_from, false_from_ne_true}
 use Rattle.plain_model.specs.Paths.{Bytes, is_below, is_at_or_below, do_conflict, is_in_the_way}
 
--- what may stand after a path that is moved: nothing, or a slash and more
+-- what may be after a path that is moved: nothing, or a slash and more
 abbrev pub IsRest : Bytes → Type 0
 IsRest [] = Unit {0}
 IsRest (b ∷ r) = (b == 47) ≡ true

@@ -47,11 +47,11 @@ both_moved s t p q a b h =
 module _ {X : Type 0} where
   -- ---- what a changed tree has
 
-  -- what stands at a path of a filtered tree
+  -- what is at a path of a filtered tree
   pub at_where : (test : Bytes → Bool) (q : Bytes) (tree : TreeOf X) → at (where_path test tree) q ≡ cond (test q) (at tree q) None
   at_where test q tree = entries.find-where_key by_bytes test q (λ x e. ap test (sym (slice_cmp-IsAntisymmetric nat_cmp-IsAntisymmetric q x e))) tree
 
-  -- what stands at a path after a put
+  -- what is at a path after a put
   pub at_put : (p q : Bytes) (e : X) (tree : TreeOf X) → at (put p e tree) q ≡ cond (eq_by_cmp by_bytes q p) (Some e) (at tree q)
   at_put p q e tree = entries.find-put by_bytes nat_list_cmp_total q p e tree
 

@@ -1,4 +1,4 @@
--- Operations don't look at what stands at paths: to change each entry and then apply is to apply and then change each.
+-- Operations don't look at what is at paths: to change each entry and then apply is to apply and then change each.
 use Rattle.std.proofs.Common.{◌≡◌, ℕ, suc, Bool, true, false, cond, not, List, [], ◌∷◌, ◌++◌, length, drop, map, refl, sym, ap, ◌∙◌, inl, inr, Option, Some, None, Result, Ok, Err, nat_lt, option_map}
 use Rattle.std.specs.Prelude.{◌||◌, ◌==◌, option_and_then}
 use Rattle.std.specs.List.{AllByRecursion}

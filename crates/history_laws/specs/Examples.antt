@@ -58,7 +58,7 @@ moved_in_turn = in_turn (put 1 (codes "a")) (Rename (codes "a") (codes "a/b")) (
 abbrev pub only : Bytes → Option Tree
 only path = Some ((path, record { mode = Plain; content = OfBlob 1 }) ∷ [])
 
--- the three trees: of what stood in the way nothing is left
+-- the three trees: of what was in the way nothing is left
 abbrev pub file_folder_file : List (Option Tree)
 file_folder_file = only (codes "a") ∷ only (codes "a/b") ∷ only (codes "a") ∷ []
 

@@ -50,7 +50,7 @@ block_rest (Counted k) text bytes rest h =
     (take k text, sym (take-append-drop k text) ∙ ap (λ (p : Bytes × Bytes). take k text ++ p.1) c.1)
 block_rest (Delimited d) text bytes rest h = delimited_rest text d [] [] bytes rest h
 
--- what stands after a block and its LF has no more lines than the text
+-- what is after a block and its LF has no more lines than the text
 pub line_count-block : (extent : Extent) (text bytes rest : Bytes) → block_at extent text ≡ Some (bytes, rest) → line_count (skip_lf rest) ≤ line_count text
 line_count-block extent text bytes rest h =
     let e = block_rest extent text bytes rest h in
@@ -138,7 +138,7 @@ module _ {State Why : Type 0} (a : Automaton State Why) (j : ℕ → Bool) where
   counted_there n zero line s (b ∷ bs) rest h = absurd (omega arith)
   counted_there n (suc k) line s block rest h = ap (λ m. verdict a (closed a j m)) (block_end a j k (n + 1) n [] s false block rest h)
 
-  -- and what stands after it
+  -- and what is after it
   pub counted_whole : (n k : ℕ) (line : Bytes) (s : State) (text : Bytes) → k ≤ length text
       → outcome_from a j (after n line (Block k) s) text
       ≡ outcome_from a j (At (number_after (n + 1) text (skip_lf (drop k text))) (InLine []) (a.arrived s (take k text))) (skip_lf (drop k text))
@@ -165,7 +165,7 @@ module _ {State Why : Type 0} (a : Automaton State Why) (j : ℕ → Bool) where
       (taken : ℕ) × (left ≡ taken + lines_left false rest)
       × (outcome_from a j m text ≡ outcome_from a j (At (n + taken) (After false) (a.arrived s bytes)) rest)
 
-  -- the delimiter as the last line, which may lack its LF
+  -- the delimiter as the last line, which may be without its LF
   found_last : (n from : ℕ) (d kept begun : Bytes) (s : State) (bytes rest : Bytes) → 1 ≤ length d
       → cond {A = Option (Bytes × Bytes)} (bytes_eq begun d) (Some (kept, [])) None ≡ Some (bytes, rest)
       → Finds (At n (InDelimited from d kept begun) s) (lines_left (not (is_empty begun)) []) n s [] bytes rest
@@ -285,7 +285,7 @@ module _ {State Why : Type 0} (a : Automaton State Why) (j : ℕ → Bool) where
       let is : Delimited (drop k line) ≡ extent = same_Some (Delimited (drop k line)) extent e in
       delimited_whole n k line s text bytes rest (subst HasDelimiter (sym is) some) (subst (λ x. block_at x text ≡ Some (bytes, rest)) (sym is) h)
 
-  -- A text that hasn't all of a block lacks it, at the line before it.
+  -- A text that hasn't all of a block misses it, at the line before it.
   pub block_misses : (n : ℕ) (line : Bytes) (next : Next) (s : State) (extent : Extent) (text : Bytes)
       → extent_after line next ≡ Some extent → block_at extent text ≡ None → outcome_from a j (after n line next s) text ≡ Misses n
   block_misses n line More s extent text e h = absurd (none-some extent e)

@@ -40,7 +40,7 @@ extent_has_delimiter head extent e = go (data_text head) e
 
 -- ---- the block
 
--- the bytes of a block, and what stands after the LF that may follow
+-- the bytes of a block, and what is after the LF that may follow
 abbrev with_lf : Bytes × Bytes → Result (Bytes × Bytes) Why
 with_lf x = Ok (x.0, skip_lf x.1)
 
@@ -69,7 +69,7 @@ block_is_not : (o : Option (Bytes × Bytes)) (why : Why) → taken o ≡ Err why
 block_is_not None why h = (refl, let is : Truncated ≡ why = cc in sym is)
 block_is_not (Some x) why h = absurd cc
 
--- A block that is cut off by its line: it is there, with what stands after it.
+-- A block that is cut off by its line: it is there, with what is after it.
 pub block_there : (head text bytes after : Bytes) (extent : Extent) → extent_in head ≡ Ok extent → block_in head text ≡ Ok (bytes, after)
     → (rest : Bytes) × (block_at extent text ≡ Some (bytes, rest)) × (after ≡ skip_lf rest)
 block_there head text bytes after extent e h = block_is (block_at extent text) bytes after (sym (block_by head text extent e) ∙ h)

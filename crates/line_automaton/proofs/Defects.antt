@@ -1,4 +1,4 @@
--- The first refusal of a text is its first defect; a text that lacks something ends early.
+-- The first refusal of a text is its first defect; a text that misses something ends early.
 use Rattle.std.proofs.Common.{◌≡◌, ℕ, zero, suc, pred, ◌+◌, ◌≤◌, ◌<◌, Bool, true, false, cond, [], ◌∷◌, ◌++◌, Result, Ok, Err, refl, sym, ◌∙◌, ap, subst, inl, inr, arith}
 use Rattle.std.specs.Prelude.{bytes_eq, ◌↔◌}
 use Rattle.std.proofs.lemmas.Bool.{cases_Bool}
@@ -18,7 +18,7 @@ use Rattle.line_automaton.proofs.Completion.{completed_through}
 module _ {State Why : Type 0} (a : Automaton State Why) where
   -- ---- refusals
 
-  -- a refusal of line n stands after the lines before it
+  -- a refusal of line n is after the lines before it
   before_refusal : (x : Bytes) (n : ℕ) (why : Why) → outcome a all x ≡ Refuses (suc n) why → IsStopped (run a all (begun a) (through false n x)) → ⊥
   before_refusal x n why h (l, w, e) =
       let same : Refuses l w ≡ Refuses (suc n) why = sym (refused_outcome a all x n l w e) ∙ h in
@@ -85,7 +85,7 @@ module _ {State Why : Type 0} (a : Automaton State Why) where
       go false u = let p = number_past_least n b in omega arith
   feed_from j (At n Ended s) b h = tt
 
-  -- the number where something is due
+  -- the number where something is expected
   or_defect_number : (n l : ℕ) (s : State) (t : Bool) → ◌≡◌ {A = Outcome State Why} (cond t (Misses n) (Reads s)) (Misses l) → n ≡ l
   or_defect_number n l s true e = cc
   or_defect_number n l s false e = absurd cc
@@ -115,7 +115,7 @@ module _ {State Why : Type 0} (a : Automaton State Why) where
       verdict_misses (suc k) l (feed a j m 10) (feed_between a j m 10 refl) (feed_lf_most a j k m 10 refl h) (feed_from j m 10 g) e
   closed_misses j k l (At n Ended s) h g e = absurd cc
 
-  -- a text of fewer than n lines lacks one of them
+  -- a text of fewer than n lines misses one of them
   misses_early : (j : ℕ → Bool) (inside : Bool) (n k l : ℕ) (m : Machine State Why) (xs : Bytes) → has_lines inside n xs ≡ false
       → HasFlag inside m → AtMost k m → IsFromBefore m → outcome_from a j m xs ≡ Misses l → l < k + n
   misses_early j inside zero k l m xs h f most from e = absurd cc
@@ -141,7 +141,7 @@ module _ {State Why : Type 0} (a : Automaton State Why) where
     | inr few ↦ let no : suc p < 1 + p = misses_early all false p 1 (suc p) (begun a) x few tt (omega arith) tt h in absurd (omega arith)
   ]
 
-  -- What stands before an early end can be completed.
+  -- What is before an early end can be completed.
   pub ends_from : (ends : Completes a) (x : Bytes) (n : ℕ) → outcome a all x ≡ Misses n → EndsEarly a x n
   ends_from ends x n h = record {
     before = completed_through a ends x (pred n) (has_lines_before x n h) alive;

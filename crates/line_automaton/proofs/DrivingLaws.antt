@@ -45,7 +45,7 @@ module _ {State Why : Type 0} (a : Automaton State Why) (j : ℕ → Bool) where
   line_end n begun s part rest h =
       run_append a j (At n (InLine begun) s) part (10 ∷ rest) ∙ ap (λ m. run a j m (10 ∷ rest)) (line_part n begun s part h)
 
-  -- the last line, which lacks its LF
+  -- the last line, which misses its LF
   last_line : (n : ℕ) (s : State) (line : Bytes) → 1 ≤ length line → outcome_from a j (At n (InLine line) s) [] ≡ outcome_from a j (after_line n s line) []
   last_line n s [] h = absurd (omega arith)
   last_line n s (b ∷ bs) h =

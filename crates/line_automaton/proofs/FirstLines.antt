@@ -4,7 +4,7 @@ use Rattle.plain_model.specs.Paths.{Bytes}
 use Rattle.plain_model.specs.Parts.{is_lf}
 use Rattle.line_automaton.specs.Machine.{through, HaveSameLines}
 
--- the text has so many lines; a last one may lack its LF
+-- the text has so many lines; a last one may be without its LF
 abbrev pub has_lines : Bool → ℕ → Bytes → Bool
 has_lines inside zero xs = true
 has_lines false (suc n) [] = false
@@ -17,7 +17,7 @@ abbrev pub inside_after : Bool → Bytes → Bool
 inside_after inside [] = inside
 inside_after inside (x ∷ xs) = inside_after (not (is_lf x)) xs
 
--- A text and its first lines: it is shorter and ends in an LF; or a rest follows them; or the last of them lacks its LF.
+-- A text and its first lines: it is shorter and ends in an LF; or a rest follows them; or the last of them misses its LF.
 abbrev pub Parts : Bytes → Bytes → Bool → Bool → Type 0
 Parts first xs inside has_all =
     ((first ≡ xs) × (inside ≡ false))

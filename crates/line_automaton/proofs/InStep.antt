@@ -1,4 +1,4 @@
--- Two automata that go in step until one of them stops: where the first reads or lacks something, so does the second.
+-- Two automata that go in step until one of them stops: where the first reads or misses something, so does the second.
 use Rattle.std.proofs.Common.{◌≡◌, ℕ, zero, suc, ◌+◌, Bool, true, false, cond, [], ◌∷◌, ◌++◌, Result, Ok, Err, refl, sym, ◌∙◌, ap, subst}
 use Rattle.std.specs.Prelude.{bytes_eq}
 use Rattle.plain_model.specs.Paths.{Bytes}
@@ -9,7 +9,7 @@ use Rattle.line_automaton.specs.Machine.Mode.{InLine, InBlock, After, InDelimite
 use Rattle.line_automaton.specs.Machine.Machine.{At, Stopped}
 use Rattle.line_automaton.specs.Machine.Outcome.{Reads, Misses}
 
--- the second machine stands where the first does, in a state that goes with its state, unless the first has stopped
+-- the second machine is where the first does, in a state that goes with its state, unless the first has stopped
 abbrev pub IsInStep : {State Why State' Why' : Type 0} → (ℕ → State → State' → Type 0) → Machine State Why → Machine State' Why' → Type 0
 IsInStep AreTwins (Stopped n why) o = Unit {0}
 IsInStep {State} {Why} {State'} AreTwins (At n mode s) o = (t : State') × (o ≡ At n mode t) × AreTwins n s t
@@ -109,7 +109,7 @@ module _ {State Why State' Why' : Type 0} (a : Automaton State Why) (b : Automat
   abbrev pub ReadsTwin : State → Outcome State' Why' → Type 0
   ReadsTwin s o = (n : ℕ) × (t : State') × (o ≡ Reads t) × AreTwins n s t
 
-  -- the outcome where a line may be due, by that line's number
+  -- the outcome where a line may be expected, by that line's number
   expected_alike : (l : ℕ) (s : State) (t : State') → a.is_expected s ≡ b.is_expected t → (v : Bool) → a.is_expected s ≡ v
       → ◌≡◌ {A = Outcome State' Why'} (cond (b.is_expected t) (Misses l) (Reads t)) (cond v (Misses l) (Reads t))
   expected_alike l s t same v e = ap (λ u. cond {A = Outcome State' Why'} u (Misses l) (Reads t)) (sym same ∙ e)
@@ -151,6 +151,6 @@ module _ {State Why State' Why' : Type 0} (a : Automaton State Why) (b : Automat
   pub reads_alike : (x : Bytes) (s : State) → outcome a j x ≡ Reads s → ReadsTwin s (outcome b i x)
   reads_alike x s h = verdict_reads (closed a j (run a j (begun a) x)) (closed b i (run b i (begun b) x)) s (ended_in_step x) h
 
-  -- Where the first lacks something, so does the second.
+  -- Where the first misses something, so does the second.
   pub misses_alike : (x : Bytes) (n : ℕ) → outcome a j x ≡ Misses n → outcome b i x ≡ Misses n
   misses_alike x n h = verdict_misses (closed a j (run a j (begun a) x)) (closed b i (run b i (begun b) x)) n (ended_in_step x) h

@@ -132,7 +132,7 @@ module _ {State Why Limit : Type 0} (a : Automaton State Why) (passed : Bytes �
 
   -- ---- texts
 
-  -- both stand in one state
+  -- both are in one state
   abbrev Same : ℕ → State → State → Type 0
   Same n s t = s ≡ t
 
@@ -154,11 +154,11 @@ module _ {State Why Limit : Type 0} (a : Automaton State Why) (passed : Bytes �
       let r = reads_alike within_limits a j j Same refl (twin_step j) arrived_alike expected_alike same_later x s h in
       r.2 ∙ ap (λ q. Reads q) (sym r.3)
 
-  -- what it lacks it lacks without limits
+  -- what it misses it misses without limits
   pub limited_misses : (j : ℕ → Bool) (x : Bytes) (n : ℕ) → outcome within_limits j x ≡ Misses n → outcome a j x ≡ Misses n
   limited_misses j x n h = misses_alike within_limits a j j Same refl (twin_step j) arrived_alike expected_alike same_later x n h
 
-  -- the run without limits stands where the run within them does
+  -- the run without limits is where the run within them does
   pub run_within : (j : ℕ → Bool) (xs : Bytes) (n : ℕ) (mode : Mode) (s : State) → run within_limits j (begun within_limits) xs ≡ At n mode s
       → run a j (begun a) xs ≡ At n mode s
   run_within j xs n mode s h =
@@ -245,7 +245,7 @@ module _ {State Why Limit : Type 0} (a : Automaton State Why) (passed : Bytes �
           let p = limited_passes x k limit is in
           absurd (not_refused x n k why limit e (none k limit p) p)
 
-  -- what a text lacks it lacks within limits, if no line passes one
+  -- what a text misses it misses within limits, if no line passes one
   pub missing_first : (x : Bytes) (n : ℕ) → outcome a all x ≡ Misses n → ((k : ℕ) (limit : Limit) → ExceedsLimit a passed x k limit → ⊥) → outcome within_limits all x ≡ Misses n
   missing_first x n e none = go (outcome within_limits all x) refl
     where

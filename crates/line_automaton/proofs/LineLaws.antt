@@ -216,6 +216,6 @@ line_is_one text (b ∷ bs) rest (plain, inr e) =
     ∙ ap (lines_left true) (sym (append-nil (b ∷ bs))) ∙ lines_left-plain (b ∷ bs) [] plain
     ∙ ap (λ (l : Bytes). 1 + line_count l) (sym e.1)
 
--- after a line stands the next one
+-- after a line is the next one
 pub number_after-line : (n : ℕ) (text line rest : Bytes) → IsLine text line rest → number_after n text rest ≡ n + 1
 number_after-line n text line rest is = let one = line_is_one text line rest is in omega arith

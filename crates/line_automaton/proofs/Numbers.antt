@@ -8,7 +8,7 @@ use Rattle.line_automaton.specs.Machine.Mode.{InLine, InBlock, After, InDelimite
 use Rattle.line_automaton.specs.Machine.Machine.{At, Stopped}
 use Rattle.line_automaton.proofs.Runs.{stays}
 
--- the line that is read is at most k, or the one that is refused stands before k
+-- the line that is read is at most k, or the one that is refused is before k
 abbrev pub AtMost : {State Why : Type 0} → ℕ → Machine State Why → Type 0
 AtMost k (At n mode s) = n ≤ k
 AtMost k (Stopped n why) = n < k

@@ -1,4 +1,4 @@
--- A small grammar, at which the laws of machines stand: items, each with its data.
+-- A small grammar, at which the laws of machines are: items, each with its data.
 --
 --     item NAME     an item; no two have one name
 --     data COUNT    its data are so many bytes after this line
@@ -13,7 +13,7 @@ use Rattle.line_automaton.specs.Machine.{Next, Automaton}
 use Rattle.line_automaton.specs.Machine.Next.{More, Block, Until, Over}
 use Rattle.line_automaton.specs.Limits.{Cause, limited}
 
--- no such line; an item's data are due; another item has the name; no number
+-- no such line; an item's data are expected; another item has the name; no number
 pub data ItemDefect : Type 0 where
   UnknownLine : ItemDefect
   MissingData : ItemDefect
@@ -24,7 +24,7 @@ pub data ItemDefect : Type 0 where
 pub data ItemLimit : Type 0 where
   TooManyItems : ItemLimit
 
--- whether an item's data are due; the names so far; and all lines and data as they stand, the last
+-- whether an item's data are expected; the names so far; and all lines and data as they are, the last
 -- first
 pub record ItemsRead : Type 0 where
   pub expected : Bool
@@ -59,7 +59,7 @@ data_step s line =
     if bytes_eq word (codes "data") then counted_step s line (number_of (drop 5 line)) else
     if bytes_eq word (codes "until") then Ok (with_part s line, Until 6) else Err MissingData
 
--- the grammar: a line stands after an item's line, or between items
+-- the grammar: a line is after an item's line, or between items
 abbrev pub example : Automaton ItemsRead ItemDefect
 example = record {
   start = record { expected = false; names = []; parts = [] };

@@ -13,7 +13,7 @@ pub data Cause (Why Limit : Type 0) : Type 0 where
 -- by a line and the state after it, the limit that it passes, if it passes one
 module _ {State Why Limit : Type 0} (a : Automaton State Why)
     (passed : Bytes → State → Option Limit) where
-  -- a step that was made stands where it passes no limit
+  -- a step that was made is where it passes no limit
   abbrev pub within : State × Next → Option Limit → Result (State × Next) (Cause Why Limit)
   within made None = Ok made
   within made (Some limit) = Err (Exceeds limit)

@@ -20,7 +20,7 @@ pub record Automaton (State Why : Type 0) : Type 0 where
   -- the state before the first line
   pub start : State
   -- what a line does; with the flag `judge` its fields are looked at, and else only whether such a
-  -- line may stand there
+  -- line may be there
   pub step : Bool → State → Bytes → Result (State × Next) Why
   -- the state when the block after a line is there
   pub arrived : State → Bytes → State
@@ -29,7 +29,7 @@ pub record Automaton (State Why : Type 0) : Type 0 where
 
 -- ---- the machine that reads
 
--- Where in a text the next byte stands:
+-- Where in a text the next byte is:
 --   in a line, of which this has come;
 --   in a block that follows the line of this number, wants one byte and so many more, and of which
 --   these have come;
@@ -44,20 +44,20 @@ pub data Mode : Type 0 where
   InDelimited : ℕ → Bytes → Bytes → Bytes → Mode
   Ended : Mode
 
--- the number of the line that the next byte stands in, where it stands, and what was read so far;
+-- the number of the line that the next byte is in, where it is, and what was read so far;
 -- or the number of the first line that is refused, and why
 pub data Machine (State Why : Type 0) : Type 0 where
   At : ℕ → Mode → State → Machine State Why
   Stopped : ℕ → Why → Machine State Why
 
 -- A text is read; or its line of this number is refused; or it ends too early, in the block after
--- the line of this number or where a line of this number is due.
+-- the line of this number or where a line of this number is expected.
 pub data Outcome (State Why : Type 0) : Type 0 where
   Reads : State → Outcome State Why
   Refuses : ℕ → Why → Outcome State Why
   Misses : ℕ → Outcome State Why
 
--- the number of the line in which the byte after a byte of line n stands
+-- the number of the line in which the byte after a byte of line n is
 abbrev pub number_past : ℕ → ℕ → ℕ
 number_past n b = if is_lf b then n + 1 else n
 
@@ -109,7 +109,7 @@ module _ {State Why : Type 0} (a : Automaton State Why) where
   run judged m [] = m
   run judged m (b ∷ bs) = run judged (feed judged m b) bs
 
-  -- at the end of a text: where its last line lacks an LF, it gets one
+  -- at the end of a text: where its last line misses an LF, it gets one
   abbrev pub closed : (ℕ → Bool) → Machine State Why → Machine State Why
   closed judged (At n (InLine (b ∷ bs)) s) = feed judged (At n (InLine (b ∷ bs)) s) 10
   closed judged (At n (InDelimited from delimiter bytes (b ∷ bs)) s) =
@@ -154,7 +154,7 @@ up_to n k = nat_le k n
 
 -- ---- the first lines of a text
 
--- the first n lines, each with its LF, which is put after a last line that lacks it; the flag says
+-- the first n lines, each with its LF, which is put after a last line that misses it; the flag says
 -- that the first of them has begun
 abbrev pub through : Bool → ℕ → Bytes → Bytes
 through inside zero bytes = []
@@ -190,21 +190,21 @@ module _ {State Why : Type 0} (a : Automaton State Why) where
   abbrev pub NoneIsClean : Bytes → ℕ → Type 0
   NoneIsClean bytes n = (other : Bytes) → HaveSameLines n bytes other → IsCleanThrough n other → ⊥
 
-  -- The first defect of a text is in line n: what stands before can be completed to a clean text;
+  -- The first defect of a text is in line n: what is before can be completed to a clean text;
   -- with line n it can't; and what is wrong is what the step says that refuses line n.
   pub record Stops (bytes : Bytes) (n : ℕ) (why : Why) : Type 0 where
     pub before : IsCleanBefore bytes n
     pub here : NoneIsClean bytes n
     pub entry : Refused bytes n why
 
-  -- The text ends too early: what stands before line n can be completed to a clean text, and the
-  -- text lacks line n, or the block after it.
+  -- The text ends too early: what is before line n can be completed to a clean text, and the
+  -- text misses line n, or the block after it.
   pub record EndsEarly (bytes : Bytes) (n : ℕ) : Type 0 where
     pub before : IsCleanBefore bytes n
     pub entry : outcome a all bytes ≡ Misses n
 
   -- What a grammar must have for this: from each state some lines lead to an end, as far as the
-  -- form of lines goes. To a text that is read they needn't lead: a line may be due whose fields
+  -- form of lines goes. To a text that is read they needn't lead: a line may be expected whose fields
   -- can't be right, since they name what isn't there.
   pub record Completes : Type 0 where
     pub complete : State → Bytes

@@ -13,7 +13,7 @@ ghost use Rattle.line_automaton.specs.Limits.Cause.{Defect, Exceeds};
 ghost use Rattle.line_automaton.specs.Machine.{all, none, outcome, up_to};
 ghost use Rattle.line_automaton.specs.Machine.Outcome.{Misses, Reads, Refuses};
 
-/// Lines and blocks are kept as they stand.
+/// Lines and blocks are kept as they are.
 pub fn texts_are_read()
     ensures counted { outcome example all (codes "item a\ndata 4\nx\nyz\n")
         ≡ Reads (items (codes "a" ∷ [])
@@ -24,7 +24,7 @@ pub fn texts_are_read()
         ≡ Reads (items (codes "a" ∷ [])
         (codes "x\nEE\n" ∷ codes "until E" ∷ codes "item a" ∷ [])) }
 
-    // The last line may lack its LF, also where it is a delimiter.
+    // The last line may be without its LF, also where it is a delimiter.
     ensures unended { outcome example all (codes "item a\nuntil E\nE")
         ≡ Reads (items (codes "a" ∷ []) ([] ∷ codes "until E" ∷ codes "item a" ∷ [])) }
 
@@ -58,7 +58,7 @@ pub fn lines_have_their_numbers()
         ≡ Refuses 5 UnknownLine }
 {}
 
-/// What a text lacks is reported at the line whose block it is, or at the line that is due.
+/// What a text misses is reported at the line whose block it is, or at the line that is expected.
 pub fn texts_end_early()
     // The last line counts as one, with its LF or without.
     ensures line_expected { outcome example all (codes "item a") ≡ Misses 2 }

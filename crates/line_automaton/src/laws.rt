@@ -75,7 +75,7 @@ pub fn the_first_defect_is_one()
         IsCleanBefore example bytes m → NoneIsClean example bytes m → n ≡ m }
 {}
 
-/// A text ends early where its reading lacks something.
+/// A text ends early where its reading misses something.
 pub fn early_end_is_the_defect()
     ensures { (bytes : List ℕ) (n : ℕ) →
         EndsEarly example bytes n ↔ (outcome example all bytes ≡ Misses n) }
@@ -119,7 +119,7 @@ pub fn a_line_goes_on_or_stops()
 {}
 
 /// From a line on that a block follows, a text answers what it does after the block and the one LF
-/// that may follow; where not all of the block is there, the text lacks it, at that line.
+/// that may follow; where not all of the block is there, the text misses it, at that line.
 pub fn a_block_goes_on_or_misses()
     ensures there { (text before rest line after bytes beyond : List ℕ) (s new : ItemsRead)
         (next : Next) (extent : Extent) → text ≡ before ++ rest →
@@ -164,7 +164,7 @@ pub fn numbers_count_line_feeds()
 {}
 
 /// An automaton with limits refuses what the one without refuses, or a line that passes a limit and
-/// is read without. What it reads or lacks, so does the one without.
+/// is read without. What it reads or misses, so does the one without.
 pub fn limits_refuse_nothing_else()
     ensures defect { (bytes : List ℕ) (n : ℕ) (why : ItemDefect) →
         outcome two_items all bytes ≡ Refuses n (Defect why) →

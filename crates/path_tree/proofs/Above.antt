@@ -21,7 +21,7 @@ ends_above (b ∷ q) (c ∷ p) h =
     let rest = ends_above q p parts.1 in
     record { inside = omega (arith, rest.inside); slash = rest.slash; front = ap (λ x. x ∷ take (length q) p) (sym (eqb-true b c parts.0)) ∙ ap (λ (x : Bytes). b ∷ x) rest.front }
 
--- what stands before a slash is above
+-- what is before a slash is above
 pub above_slash : (p : Bytes) (n : ℕ) → n < length p → get_or p n 0 ≡ 47 → is_below (take n p) p ≡ true
 above_slash [] n h s = absurd (omega arith)
 above_slash (c ∷ p) zero h s = eq-eqb c 47 s

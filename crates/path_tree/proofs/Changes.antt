@@ -1,4 +1,4 @@
--- What stands at each path after a change.
+-- What is at each path after a change.
 use Rattle.std.proofs.Common.{◌≡◌, Bool, true, false, cond, not, [], ◌∷◌, refl, sym, ap, subst, ◌∙◌, Option, Some, None, is_some, bytes_eq, true≢false}
 use Rattle.std.specs.Prelude.{◌&&◌, ◌||◌, Result, Ok, Err, OnOk}
 use Rattle.std.specs.Ordering.{is_eq, eq_by_cmp}
@@ -35,7 +35,7 @@ module _ {X : Type 0} where
   puts [] base = base
   puts (e ∷ es) base = puts es (put e.0 e.1 base)
 
-  -- and those alone that the other tree lacks
+  -- and those alone that the other tree misses
   abbrev pub puts_missing : TreeOf X → TreeOf X → TreeOf X → TreeOf X
   puts_missing gone [] base = base
   puts_missing gone (e ∷ es) base = puts_missing gone es (cond (has gone e.0) base (put e.0 e.1 base))
@@ -58,7 +58,7 @@ module _ {X : Type 0} where
   over_first true x o b h = ap (λ u. cond (is_some u) u (Some x)) (h refl)
   over_first false x o b h = refl
 
-  -- what stands at each path after that
+  -- what is at each path after that
   pub at_puts : (more base : TreeOf X) → IsInOrder more → (q : Bytes) → at (puts more base) q ≡ over more base q
   at_puts [] base h q = refl
   at_puts (e ∷ es) base h q =
@@ -113,7 +113,7 @@ module _ {X : Type 0} where
   missing_put gone es base h =
       subst (λ (t : TreeOf X). Becomes (with_those (λ q. not (has gone q)) es base) base t) (sym (missing gone es base)) (those_put (λ q. not (has gone q)) es base h)
 
-  -- one more entry put that the one tree has and the other lacks
+  -- one more entry put that the one tree has and the other misses
   pub differs_put : (coming gone first last : TreeOf X) (p : Bytes) (x : X) → has coming p ≡ true → has gone p ≡ false
       → DiffersAt (has_alone coming gone) first last → DiffersAt (has_alone coming gone) first (put p x last)
   differs_put coming gone first last p x there missed so_far = record {

@@ -20,7 +20,7 @@ cmp_after : (t x y : Bytes) → by_bytes (t ++ x) (t ++ y) ≡ by_bytes x y
 cmp_after [] x y = refl
 cmp_after (b ∷ t) x y = ap (λ r. ordering_then r (by_bytes (t ++ x) (t ++ y))) (tied_itself nat_cmp_total b) ∙ cmp_after t x y
 
--- two paths that were moved stand as they stood
+-- two paths that were moved are as they were
 moved_cmp : (s t p q : Bytes) → After s p → After s q → by_bytes (t ++ drop (length s) p) (t ++ drop (length s) q) ≡ by_bytes p q
 moved_cmp s t p q a b =
     let x = drop (length s) p in

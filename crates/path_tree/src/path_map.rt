@@ -25,7 +25,7 @@ use std::alloc::Global;
 use std::collections::BTreeMap;
 use std::marker::Model;
 
-/// What stands at each path, in byte order of the paths. It knows no rule of trees: a path may be any
+/// What is at each path, in byte order of the paths. It knows no rule of trees: a path may be any
 /// bytes, and paths may conflict.
 #[derive(Drop)]
 pub struct PathMap {
@@ -55,7 +55,7 @@ impl PathMap {
         }
     }
 
-    /// What stands at the path.
+    /// What is at the path.
     pub fn get(&self, path: &[u8]) -> Option<Entry>
         ensures { result ≡ at self.now path.now }
     {
@@ -86,7 +86,7 @@ impl PathMap {
         Ok(())
     }
 
-    /// Puts an entry at a path, in the place of one that stands there.
+    /// Puts an entry at a path, in the place of one that is there.
     pub fn put(&mut self, path: &[u8], entry: Entry) -> Result<(), NoMemory>
         ensures ok { OnOk result (self.new ≡ put path.now entry self.old) }
         ensures err { OnErr result (self.new ≡ self.old) }
@@ -95,7 +95,7 @@ impl PathMap {
         self.insert(path, entry)
     }
 
-    /// Puts an entry at a path at which one stands, and does nothing at another. It takes no
+    /// Puts an entry at a path at which one is, and does nothing at another. It takes no
     /// memory.
     pub fn set(&mut self, path: &[u8], entry: Entry)
         ensures { self.new ≡

@@ -10,7 +10,7 @@ use plain_model::{Entry, EntryList, FileOp, NoMemory, Path, Steps};
 use std::alloc::Global;
 use std::marker::Model;
 
-/// What stands at each path of a tree. No path conflicts with another: none is a file and a folder.
+/// What is at each path of a tree. No path conflicts with another: none is a file and a folder.
 /// (git-fast-import, file operations; the limits: own.)
 #[derive(Drop)]
 pub struct PathTree {
@@ -59,14 +59,14 @@ impl PathTree {
         self.entries.len()
     }
 
-    /// What stands at the path. It takes no memory.
+    /// What is at the path. It takes no memory.
     pub fn get(&self, path: &Path) -> Option<Entry>
         ensures { result ≡ at self.now path.now }
     {
         self.entries.get(path.as_bytes())
     }
 
-    /// All paths with what stands there, in byte order of the paths.
+    /// All paths with what is there, in byte order of the paths.
     pub fn entries(&self) -> Result<EntryList, NoMemory>
         ensures all { IfOk result (λ list. list ≡ self.now) }
         ensures form { IsTree self.now }
@@ -74,7 +74,7 @@ impl PathTree {
         self.entries.listed()
     }
 
-    /// The path and those below it, with what stands there, in byte order of the paths.
+    /// The path and those below it, with what is there, in byte order of the paths.
     pub fn entries_below(&self, path: &Path) -> Result<EntryList, NoMemory>
         ensures { IfOk result (λ list. list ≡ subtree path.now self.now) }
     {

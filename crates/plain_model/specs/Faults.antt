@@ -36,7 +36,7 @@ which_text limit.Paths = codes "Paths"
 which_text limit.PathBytes = codes "PathBytes"
 which_text limit.NameBytes = codes "NameBytes"
 
--- a field whose value is a text, as it stands
+-- a field whose value is a text, as it is
 abbrev pub text_field : List ℕ → List ℕ → List ℕ
 text_field name value = 32 ∷ (name ++ 61 ∷ value)
 

@@ -35,12 +35,12 @@ or_defect why None = Err why
 
 -- ---- words
 
--- what stands before the first space, or all of it
+-- what is before the first space, or all of it
 abbrev pub first_word : Bytes → Bytes
 first_word [] = []
 first_word (b ∷ bs) = if b == 32 then [] else b ∷ first_word bs
 
--- what stands after the first space, if there is one
+-- what is after the first space, if there is one
 abbrev pub after_space : Bytes → Option Bytes
 after_space [] = None
 after_space (b ∷ bs) = if b == 32 then Some bs else after_space bs
@@ -81,7 +81,7 @@ escaped c =
 abbrev pub is_octal : ℕ → Bool
 is_octal d = nat_le 48 d && nat_le d 55
 
--- where a quoted text stands: between spellings of bytes, after a backslash, or after one or two octal digits
+-- where a quoted text is: between spellings of bytes, after a backslash, or after one or two octal digits
 pub data Quoting : Type 0 where
   Between : Quoting
   Escaping : Quoting
@@ -241,7 +241,7 @@ abbrev pub extent_by : Bytes → Option ℕ → Result Extent Why
 extent_by text (Some n) = Ok (Counted n)
 extent_by text None = delimiter_in text >>= λ delimiter. Ok (Delimited delimiter)
 
--- what stands after the word `data` and a space
+-- what is after the word `data` and a space
 unfoldable pub data_text : Bytes → Option Bytes
 data_text line = if bytes_eq (first_word line) (codes "data") then after_space line else None
 
@@ -249,7 +249,7 @@ data_text line = if bytes_eq (first_word line) (codes "data") then after_space l
 unfoldable pub extent_in : Bytes → Result Extent Why
 extent_in line = or_defect BadData (data_text line) >>= λ text. extent_by text (number_of text)
 
--- The lines up to the first that equals the delimiter, and what stands after it. Kept are the lines so far, and
+-- The lines up to the first that equals the delimiter, and what is after it. Kept are the lines so far, and
 -- what has begun of the next one.
 unfoldable pub delimited : Bytes → Bytes → Bytes → Bytes → Option (Bytes × Bytes)
 delimited delimiter kept begun [] = if bytes_eq begun delimiter then Some (kept, []) else None
@@ -257,7 +257,7 @@ delimited delimiter kept begun (b ∷ bs) =
     if b == 10 then (if bytes_eq begun delimiter then Some (kept, bs) else delimited delimiter (kept ++ begun ++ 10 ∷ []) [] bs)
     else delimited delimiter kept (begun ++ b ∷ []) bs
 
--- a block at the front of a text, and what stands after it, if the text has all of it
+-- a block at the front of a text, and what is after it, if the text has all of it
 abbrev pub block_at : Extent → Bytes → Option (Bytes × Bytes)
 block_at (Counted n) text = if nat_le n (length text) then Some (take n text, drop n text) else None
 block_at (Delimited delimiter) text = delimited delimiter [] [] text
@@ -266,7 +266,7 @@ block_at (Delimited delimiter) text = delimited delimiter [] [] text
 unfoldable pub block_after : Result Extent Why → Bytes → Result (Bytes × Bytes) Why
 block_after extent text = extent >>= λ e. or_defect Truncated (block_at e text)
 
--- the block after its line, and what stands after it and the LF that may follow
+-- the block after its line, and what is after it and the LF that may follow
 unfoldable pub block_in : Bytes → Bytes → Result (Bytes × Bytes) Why
 block_in head text = block_after (extent_in head) text >>= λ x. Ok (x.0, skip_lf x.1)
 

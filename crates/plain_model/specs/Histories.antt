@@ -35,7 +35,7 @@ abbrev pub begun : (ℕ → Option Tree) → List ℕ → Option Tree
 begun tree_of [] = Some []
 begun tree_of (p ∷ ps) = tree_of p
 
--- The commits from the last one back. The parents of each stand after it.
+-- The commits from the last one back. The parents of each are after it.
 abbrev pub Past : Type 0
 Past = List Node
 

@@ -55,7 +55,7 @@ find_event id (e ∷ events) = if same_id id (id_of e) then Some e else find_eve
 abbrev pub AreIdsBelow : ℕ → List PlainEvent → Type 0
 AreIdsBelow bound events = (id : AnyId) → IsSome (find_event id events) → id_number id < bound
 
--- how many events stand before it
+-- how many events are before it
 abbrev pub place_of : AnyId → List PlainEvent → Option ℕ
 place_of id [] = None
 place_of id (e ∷ events) = if same_id id (id_of e) then Some 0 else option_map suc (place_of id events)

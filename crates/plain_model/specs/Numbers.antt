@@ -1,4 +1,4 @@
--- Numbers that are spelled in decimal digits. Leading zeros may stand.
+-- Numbers that are spelled in decimal digits. Leading zeros are read.
 use Rattle.std.specs.Prelude.{◌≡◌, ℕ, ◌+◌, ◌-◌, ◌*◌, ◌/◌, ◌%◌, ◌≤◌, zero, suc, Bool, true, false, ◌&&◌, nat_le, nat_lt, List, [], ◌∷◌, ◌++◌, length, IsTrue}
 use Rattle.std.specs.List.{list_all}
 

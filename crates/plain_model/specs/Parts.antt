@@ -30,7 +30,7 @@ abbrev pub cut_parts : Bytes → Option ℕ → Option (Bytes × Bytes)
 cut_parts text (Some i) = Some (take i text, drop (i + 1) text)
 cut_parts text None = None
 
--- what stands before the first such byte, and what stands after it
+-- what is before the first such byte, and what is after it
 unfoldable pub cut_at : ℕ → Bytes → Option (Bytes × Bytes)
 cut_at byte text = cut_parts text (position (λ b. b == byte) text)
 
@@ -50,7 +50,7 @@ line_at (b ∷ bs) = Some (line_cut (b ∷ bs) (position is_lf (b ∷ bs)))
 abbrev pub IsLine : Bytes → Bytes → Bytes → Type 0
 IsLine text line rest = IsTrue (has_no_lf line) × ((text ≡ line ++ 10 ∷ rest) ⊎ ((text ≡ line) × (rest ≡ []) × (1 ≤ length line)))
 
--- what stands after a word
+-- what is after a word
 unfoldable pub rest_after : Bytes → Bytes → Option Bytes
 rest_after word text = if pointwise nat_eq (take (length word) text) word then Some (drop (length word) text) else None
 
@@ -82,7 +82,7 @@ mark_of digits = number_within MAX_MARK digits >>= λ m. as_mark m
 
 -- ---- people
 
--- the name before an email: nothing, or what stands before a last space
+-- the name before an email: nothing, or what is before a last space
 unfoldable pub name_of : Bytes → Option Bytes
 name_of part = if is_empty part then Some [] else if get_or part (length part - 1) 0 == 32 then Some (take (length part - 1) part) else None
 

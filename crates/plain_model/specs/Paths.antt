@@ -39,7 +39,7 @@ path_fault bytes =
 abbrev pub IsPath : Bytes → Type 0
 IsPath bytes = path_fault bytes ≡ None
 
--- ---- where paths stand to each other
+-- ---- how paths relate
 
 -- the bytes begin with a slash
 abbrev pub begins_with_slash : Bytes → Bool

@@ -13,7 +13,7 @@ is_clean_byte b = not (b == 60) && not (b == 62) && not (b == 0)
 abbrev pub is_clean : Bytes → Bool
 is_clean text = list_all is_clean_byte text
 
--- what stands before the email: nothing, or the name and a space that is no part of it
+-- what is before the email: nothing, or the name and a space that is no part of it
 abbrev pub IsNamePart : Bytes → Bytes → Type 0
 IsNamePart part name = ((part ≡ []) × (name ≡ [])) ⊎ (part ≡ name ++ 32 ∷ [])
 

@@ -1,4 +1,4 @@
--- What a history shows: its commits with their trees, and where its branches stand.
+-- What a history shows: its commits with their trees, and where its branches are.
 use Rattle.std.specs.Prelude.{ℕ, not, ◌==◌, List, [], ◌∷◌, map, Option, Some, None, option_map, bytes_eq, if◌then◌else◌}
 use Rattle.plain_model.specs.declared.operation.Mode.{Mode}
 use Rattle.plain_model.specs.declared.operation.Content.{Content}
@@ -51,7 +51,7 @@ commit_mark (Tag id name target tagger comment mark ∷ events) c = commit_mark 
 commit_mark (Reset id branch target ∷ events) c = commit_mark events c
 commit_mark (Pass id line ∷ events) c = commit_mark events c
 
--- the branches after the events, from where they stood before
+-- the branches after the events, from where they were before
 abbrev pub refs_after : TreeOf ℕ → List PlainEvent → TreeOf ℕ
 refs_after tips [] = tips
 refs_after tips (Commit id mark branch author committer encoding comment parents ops aliases ∷ events) = refs_after (put branch id tips) events
@@ -61,7 +61,7 @@ refs_after tips (Blob id mark bytes ∷ events) = refs_after tips events
 refs_after tips (Tag id name target tagger comment mark ∷ events) = refs_after tips events
 refs_after tips (Pass id line ∷ events) = refs_after tips events
 
--- each branch with the commit on which it stands
+-- each branch with the commit on which it is
 abbrev pub refs : List PlainEvent → TreeOf ℕ
 refs events = refs_after [] events
 

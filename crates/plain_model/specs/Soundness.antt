@@ -1,4 +1,4 @@
--- When a history is sound: ids and marks stand once, each referent stands earlier and is of the right kind, each
+-- When a history is sound: ids and marks occur once, each referent is earlier and is of the right kind, each
 -- field is such as a stream spells it, and each commit has a tree.
 use Rattle.std.specs.Prelude.{ℕ, ◌≤◌, Bool, true, false, not, ◌&&◌, ◌||◌, ◌==◌, List, [], ◌∷◌, ◌++◌, length, codes, IsTrue, IsFalse, IsSome, IfSome}
 use Rattle.std.specs.List.{list_any, AllByRecursion}
@@ -48,7 +48,7 @@ RefersBack earlier (Copy source target) = Unit {0}
 RefersBack earlier (Rename source target) = Unit {0}
 RefersBack earlier DeleteAll = Unit {0}
 
--- no item stands twice
+-- no item occurs twice
 abbrev pub are_distinct : List ℕ → Bool
 are_distinct [] = true
 are_distinct (n ∷ ns) = not (list_any (λ m. m == n) ns) && are_distinct ns

@@ -141,7 +141,7 @@ module _ (whole : List PlainEvent) where
   reset_text tips branch [] = if has tips branch then line (codes "reset " ++ branch) else []
   reset_text tips branch (p ∷ ps) = []
 
-  -- an event, where the branches stand so
+  -- an event, where the branches are so
   abbrev pub event_text : TreeOf ℕ → PlainEvent → Bytes
   event_text tips (Blob id mark bytes) = line (codes "blob") ++ line (codes "mark " ++ marked mark) ++ data_block bytes
   event_text tips (Commit id mark branch author committer encoding comment parents ops aliases) =

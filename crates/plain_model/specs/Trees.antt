@@ -16,11 +16,11 @@ pub data Refusal : Type 0 where
   PathBytes : Refusal
   Paths : Refusal
 
--- paths with what stands there, in byte order of the paths
+-- paths with what is there, in byte order of the paths
 abbrev pub TreeOf : Type 0 → Type 0
 TreeOf X = List (Bytes × X)
 
--- an operation, whatever stands at paths
+-- an operation, whatever is at paths
 pub data Change (X : Type 0) : Type 0 where
   Put : X → Bytes → Change X
   Remove : Bytes → Change X
@@ -29,14 +29,14 @@ pub data Change (X : Type 0) : Type 0 where
   Clear : Change X
 
 module _ {X : Type 0} where
-  -- what stands at a path
+  -- what is at a path
   abbrev pub at : TreeOf X → Bytes → Option X
   at tree p = entries.find (slice_cmp nat_cmp) p tree
 
   abbrev pub has : TreeOf X → Bytes → Bool
   has tree p = is_some (at tree p)
 
-  -- each path stands once, in byte order, and no two conflict
+  -- each path occurs once, in byte order, and no two conflict
   pub record IsTree (tree : TreeOf X) : Type 0 where
     pub in_order : T (entries.is_sorted (slice_cmp nat_cmp) tree)
     pub apart : (p q : Bytes) → IsTrue (has tree p) → IsTrue (has tree q) → do_conflict p q ≡ false
@@ -53,7 +53,7 @@ module _ {X : Type 0} where
   put_all [] base = base
   put_all (e ∷ es) base = put e.0 e.1 (put_all es base)
 
-  -- what stands at p or below it
+  -- what is at p or below it
   abbrev pub subtree : Bytes → TreeOf X → TreeOf X
   subtree p tree = where_path (is_at_or_below p) tree
 

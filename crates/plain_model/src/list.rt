@@ -162,7 +162,7 @@ impl<T> Items<T> {
 }
 
 impl<T: Drop> Items<T> {
-    /// Takes away what stands after so many items.
+    /// Takes away what is after so many items.
     pub fn truncate(&mut self, len: usize)
         ensures { self.new ≡ take len self.old }
     {

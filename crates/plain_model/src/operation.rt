@@ -7,7 +7,7 @@ use crate::object::ObjectId;
 use crate::path::Path;
 use std::alloc::Global;
 
-/// What kind of thing stands at a path: 100644, 100755, 120000, 160000. (git-fast-import, `<mode>`.)
+/// What kind of thing is at a path: 100644, 100755, 120000, 160000. (git-fast-import, `<mode>`.)
 #[derive(Clone, Copy, Debug, PartialEq, Eq)]
 pub enum Mode {
     Plain,
@@ -16,7 +16,7 @@ pub enum Mode {
     Gitlink,
 }
 
-/// What stands at a path: a blob of the history, or an object outside it.
+/// What is at a path: a blob of the history, or an object outside it.
 #[derive(Clone, Copy)]
 pub enum Content {
     Blob(BlobId),
@@ -55,7 +55,7 @@ pub enum FileOp {
 /// The operations of a commit, in order.
 pub type OpList = Items<FileOp>;
 
-/// Paths, each with what stands there.
+/// Paths, each with what is there.
 pub type EntryList = Items<(Path, Entry)>;
 
 impl Copied for Entry {

@@ -5,7 +5,7 @@ use crate::object::ObjectId;
 use crate::operation::Mode;
 use crate::path::Path;
 
-/// Where a path stands in its line: at the end, or before a space and another path. (git-fast-import, `C`, `R`.)
+/// Where a path is in its line: at the end, or before a space and another path. (git-fast-import, `C`, `R`.)
 #[derive(Clone, Copy, Debug, PartialEq, Eq)]
 pub enum Place {
     Last,

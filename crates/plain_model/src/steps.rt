@@ -3,7 +3,7 @@ ghost use Rattle.std.specs.Prelude.{◌≡◌, ◌+◌, ◌-◌, ◌^◌, min};
 
 use std::marker::{Model, PhantomData};
 
-/// A count of steps of the kind that the marker type names, from 0. It stands still at 2^64 - 1, the
+/// A count of steps of the kind that the marker type names, from 0. It stays at 2^64 - 1, the
 /// greatest number of its type. (own)
 #[derive(Drop)]
 pub struct Steps<L> {

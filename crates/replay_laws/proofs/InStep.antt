@@ -28,7 +28,7 @@ place_of (After inside) = AtLine
 place_of (InDelimited from d bytes text) = AtBlock
 place_of Ended = AtEnd
 
--- the second machine stands where the first does, in a state that goes with its state there, unless the first has stopped
+-- the second machine is where the first does, in a state that goes with its state there, unless the first has stopped
 abbrev IsInStep : {State Why State' Why' : Type 0} → (Place → State → State' → Type 0) → Machine State Why → Machine State' Why' → Type 0
 IsInStep AreTwins (Stopped n why) o = Unit {0}
 IsInStep {State} {Why} {State'} AreTwins (At n mode s) o = (t : State') × (o ≡ At n mode t) × AreTwins (place_of mode) s t

@@ -96,7 +96,7 @@ lower : (k : ℕ) (cs : List Numbered) → AllByRecursion (λ (c : Numbered). su
 lower k [] b = tt
 lower k (c ∷ cs) b = (let here = b.0 in omega arith, lower k cs b.1)
 
--- what stands after the first place has a greater number
+-- what is after the first place has a greater number
 after_first : (k id n : ℕ) → id ≡ k → suc k ≤ n → id < n
 after_first k id n is h = omega arith
 

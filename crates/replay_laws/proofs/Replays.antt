@@ -53,7 +53,7 @@ is_data : (w : Word) → (w ≡ word.Data) ⊎ (w ≡ word.Data → ⊥)
 is_data word.Data = inl refl
 is_data _ = inr (λ e. absurd cc)
 
--- only the line of its data may stand after an operation that waits
+-- only the line of its data may be after an operation that waits
 not_waiting : (old standing : Standing) (w : Word) → (w ≡ word.Data → ⊥) → after_word old w ≡ Ok standing → old.expected ≡ expected.InlineData → ⊥
 not_waiting old standing word.Data d h e = absurd (d refl)
 not_waiting old standing word.LeftOut d h e = absurd cc

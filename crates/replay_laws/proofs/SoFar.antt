@@ -48,7 +48,7 @@ pub record NodeBelow (n : ℕ) (c : Node) : Type 0 where
   pub parents : AllBelow n c.parents
   pub blobs : AllBelow n (blobs_of c.ops)
 
--- each branch stands on a commit whose id is below a number
+-- each branch is on a commit whose id is below a number
 abbrev pub TipsBelow : ℕ → TreeOf ℕ → Type 0
 TipsBelow n tips = AllByRecursion (λ (e : Bytes × ℕ). e.1 < n) tips
 

@@ -1,4 +1,4 @@
--- Where a stream stands after a line: before the operations of a commit, or after their beginning; and where an operation
+-- Where a stream is after a line: before the operations of a commit, or after their beginning; and where an operation
 -- waits for its bytes.
 use Rattle.std.proofs.Common.{◌≡◌, Bool, true, false, not, refl, sym, ap, ◌∙◌, Result, Ok, Err}
 use Rattle.std.specs.Prelude.{◌||◌}
@@ -36,7 +36,7 @@ data_expected s standing h e =
     let goes : gone_on s word.Data (follows s.expected word.Data) ≡ Ok (record s { expected = expected.CommitOperation }) = ap (λ d. gone_on s word.Data (follows d word.Data)) e in
     sym (ap (λ (x : Standing). x.expected) (standing_of (record s { expected = expected.CommitOperation }) (gone_on s word.Data (follows s.expected word.Data)) standing h goes))
 
--- where an end may stand, no operation waits
+-- where an end may be, no operation waits
 pub no_end : (s : Standing) → must_go_on s ≡ false → s.expected ≡ expected.InlineData → ⊥
 no_end s h e =
     let needs : (is_required expected.InlineData || s.wants_done) ≡ false = ap (λ d. is_required d || s.wants_done) (sym e) ∙ h in
@@ -99,7 +99,7 @@ module _ (s standing : Standing) where
   no_more : (w : Word) (f : Follow) → is_after f ≡ true → begins_event w ≡ false → gone_on s w f ≡ Ok standing → is_before standing.expected ≡ true → ⊥
   no_more w f k b h e = let no = gone_after w f k b h in absurd cc
 
-  -- what stands before operations after a line stood there before it
+  -- what is before operations after a line was there before it
   pub still_before : (w : Word) → begins_event w ≡ false → (d : Expected) → gone_on s w (follows d w) ≡ Ok standing → is_before standing.expected ≡ true → is_before d ≡ true
   still_before w b expected.Event h e = absurd (no_more w Finished refl b h e)
   still_before w b expected.CommitMerge h e = absurd (no_more w (follows expected.CommitMerge w) (after_merge w) b h e)
@@ -110,7 +110,7 @@ module _ (s standing : Standing) where
   leads : (w : Word) (d : Expected) → gone_on s w (Goes d) ≡ Ok standing → standing.expected ≡ d
   leads w d h = sym (ap (λ (x : Standing). x.expected) (standing_of (record s { expected = d }) (gone_on s w (Goes d)) standing h refl))
 
-  -- `from` stands before merges and operations
+  -- `from` is before merges and operations
   pub from_before : (d : Expected) → gone_on s word.From (follows d word.From) ≡ Ok standing → is_before d ≡ true
   from_before expected.Event h = absurd cc
   from_before expected.CommitMerge h = absurd cc

@@ -42,7 +42,7 @@ use Rattle.replay_laws.proofs.References.{named_alike, no_ops, begins_alike, tip
 
 -- ---- a line where nothing waits
 
--- where the text stands after a line
+-- where the text is after a line
 abbrev pub place_of : Word → Place
 place_of word.Data = AtBlock
 place_of word.Done = AtEnd
@@ -312,7 +312,7 @@ module _ (old standing : Standing) (k : Known) (files : Option (TreeOf Shown)) (
     operates rawop.DeleteAll op a w =
         subst (Operated c rawop.DeleteAll) (sym a) (changed_files Clear files, None, refl, changes_files DeleteAll tt)
 
-  -- the line of an operation, after which none stands before operations
+  -- the line of an operation, after which none is before operations
   operations : (inline : Bool) → IsOperation inline line → (inline ≡ true → standing.expected ≡ expected.InlineData) → is_before standing.expected ≡ false → (known : Known) → with_operation k line ≡ Ok known
       → Became AtLine standing known (after_operation line state)
   operations inline is waiting after known e = go k.current g e

@@ -1,7 +1,7 @@
 -- A replay of a stream by plain maps: from marks to bytes of blobs, from numbers of commits to all their files, from
--- branches to the commits on which they stand. It knows no history, no ids in operations and no trees but what a change
+-- branches to the commits on which they are. It knows no history, no ids in operations and no trees but what a change
 -- does to one (git-fast-import, "Input format": `mark`, `from`, `merge`, `reset`, `filemodify` and the other changes of
--- files). Which line may stand where is the form of a stream, and not reported again here.
+-- files). Which line may be where is the form of a stream, and not reported again here.
 use Rattle.std.specs.Prelude.{ℕ, ◌+◌, ◌==◌, false, not, max, List, [], ◌∷◌, ◌++◌, map, Option, Some, None, Result, Ok, Err, codes, bytes_eq, option_map, option_and_then, option_to_list, unwrap_or, if◌then◌else◌}
 use Rattle.std.specs.List.{list_any}
 use Rattle.plain_model.specs.declared.fault.Why.{Why}
@@ -42,7 +42,7 @@ pub record Replayed : Type 0 where
   pub commits : List Numbered
   -- each with the number of its commit
   pub tags : List ShownTag
-  -- each branch with the number of the commit on which it stands
+  -- each branch with the number of the commit on which it is
   pub tips : TreeOf ℕ
   -- each further mark of a commit with the number of the commit, in the order in which they came
   pub aliases : List (ℕ × ℕ)

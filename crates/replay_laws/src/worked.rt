@@ -21,7 +21,7 @@ ghost use Rattle.replay_laws.specs.Worked.{
   without_files,
 };
 
-/// Where commits begin, and where branches stand.
+/// Where commits begin, and where branches are.
 pub fn commits_and_branches()
     ensures empty { BothShow [] (record { commits = []; tags = []; refs = [] }) }
 

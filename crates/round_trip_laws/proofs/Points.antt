@@ -30,7 +30,7 @@ use Rattle.stream_grammar.specs.declared.lines.Word.TheVariants as word
 use Rattle.stream_grammar.specs.Known.{Known, Open, with_data, history_of}
 use Rattle.stream_grammar.specs.Lines.{State, stream, line_step, word_step, word_of, is_comment, after_word, next_of, judged, read_on, is_inline_expected, must_go_on, history_read, next_by}
 
--- where a stream stands, and what is known of its events
+-- where a stream is, and what is known of its events
 pub record Point : Type 0 where
   pub standing : Standing
   pub known : Known
@@ -43,7 +43,7 @@ point expected wants events aliases current =
 abbrev pub state_at : List Bytes → Point → State
 state_at spelled p = record { standing = p.standing; spelled = spelled; known = p.known }
 
--- a text that is read on from here has this history, whatever stands before
+-- a text that is read on from here has this history, whatever is before
 abbrev pub Gives : Point → Bytes → List PlainEvent → Type 0
 Gives p text history =
     (n : ℕ) (spelled : List Bytes)
@@ -86,7 +86,7 @@ line_ends p q text rest w history h e n spelled =
     ap history_read (line_over stream all n (state_at spelled p) (line text ++ rest) text rest there (state_at (text ∷ spelled) q) (step_made p q text w Over h spelled))
     ∙ ap (λ (l : List PlainEvent). Some l) e
 
--- the end of a text, where no line is due
+-- the end of a text, where no line is expected
 pub text_ends : (p : Point) (history : List PlainEvent) → must_go_on p.standing ≡ false → history_of p.known ≡ history → Gives p [] history
 unfolding line_at
 text_ends p history free e n spelled =

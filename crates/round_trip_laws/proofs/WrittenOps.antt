@@ -108,7 +108,7 @@ content_plain (spelled.Marked mark) h = plain_mark mark h
 content_plain (spelled.Object digits) h = all_pass is_hex (λ b. not (b == 10)) (λ b e. ap not (hex_isnt b 10 refl e)) digits (digits_of digits h)
 content_plain spelled.Inline h = refl
 
--- what stands before a path isn't the word for data that follow
+-- what is before a path isn't the word for data that follow
 abbrev IsNoInline : RawContent → Type 0
 IsNoInline content = bytes_eq (raw_content_text content) (codes "inline") ≡ false
 

@@ -17,7 +17,7 @@ ArePlaced k (e ∷ events) = (id_number (id_of e) ≡ k) × ArePlaced (suc k) ev
 
 -- ---- roots
 
--- a commit without parents stands where its branch has no tip
+-- a commit without parents is where its branch has no tip
 abbrev pub IsRooted : List PlainEvent → PlainEvent → Type 0
 IsRooted earlier (Commit id mark branch author committer encoding comment [] ops aliases) = IsFalse (has (refs earlier) branch)
 IsRooted earlier other = Unit {0}

@@ -1,4 +1,4 @@
--- The command that stands in a line. (reposurgeon manual, of each command word its section; what is at fault: own)
+-- The command that is in a line. (reposurgeon manual, of each command word its section; what is at fault: own)
 use Rattle.std.specs.Prelude.{List, [], ◌∷◌, Option, Some, None, Result, Ok, Err, bytes_eq, codes, if◌then◌else◌}
 use Rattle.plain_model.specs.Paths.{Bytes}
 use Rattle.plain_model.specs.declared.fault.Fault.{Fault}
@@ -39,7 +39,7 @@ name_in (Plain text) = if begins_with_sign text then None else Some text
 name_in (Quoted text) = Some text
 name_in (Broken rest) = None
 
--- a value after which no word stands
+-- a value after which no word is
 abbrev pub alone : {A : Type 0} → A → List Word → Result A Fault
 alone x [] = Ok x
 alone x (word ∷ words) = at_fault word

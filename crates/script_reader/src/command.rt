@@ -1,4 +1,4 @@
-//! Commands, as they stand in a line.
+//! Commands, as they are in a line.
 ghost use Rattle.script_reader.specs.Answering.{Answers, Refuses};
 ghost use Rattle.script_reader.specs.Commands.{command_of};
 ghost use Rattle.plain_model.specs.declared.fault.Fault.TheVariants.{UnknownCommand};

@@ -1,4 +1,4 @@
-//! The forms of the commands: what may stand after each command word.
+//! The forms of the commands: what may be after each command word.
 ghost use Rattle.std.specs.Prelude.{◌≡◌, IfOk, Some};
 ghost use Rattle.plain_model.specs.declared.fault.Fault.TheVariants.{BadWords};
 ghost use Rattle.script_reader.specs.Answering.{Answers, Refuses};

@@ -1,4 +1,4 @@
--- What a sound history keeps when resets stand before its roots: each referent is there, and all but the ids of tags,
+-- What a sound history keeps when resets are before its roots: each referent is there, and all but the ids of tags,
 -- resets and lines is as soundness wants it.
 use Rattle.std.proofs.Common.{◌≡◌, ℕ, Bool, true, false, List, [], ◌∷◌, ◌++◌, refl, sym, ap, subst, ◌∙◌, Some, None, append_assoc}
 use Rattle.std.specs.Prelude.{◌||◌, IsFalse, IsTrue, IfSome, if◌then◌else◌}

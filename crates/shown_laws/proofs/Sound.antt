@@ -65,7 +65,7 @@ same_turned (any.Pass a) (any.Commit b) = refl
 same_turned (any.Pass a) (any.Tag b) = refl
 same_turned (any.Pass a) (any.Reset b) = refl
 
--- an event whose id stands nowhere before it has its place
+-- an event whose id is nowhere before it has its place
 place_own : (earlier events : List PlainEvent) (e : PlainEvent) → has_id earlier (id_of e) ≡ false → place_of (id_of e) (earlier ++ e ∷ events) ≡ Some (length earlier)
 place_own [] events e h = cond-true (same_id (id_of e) (id_of e)) (Some 0) (option_map suc (place_of (id_of e) events)) (same_id-refl (id_of e))
 place_own (x ∷ earlier) events e h =

@@ -155,7 +155,7 @@ not_passed most count which other h = go (nat_lt most count) refl h
     go true is h = absurd cc
     go false is h = (grind (arith, nat_tests), h)
 
--- ---- where a stream stands
+-- ---- where a stream is
 
 -- an event that was counted is to come: the blob of the bytes that are expected
 abbrev owed : Expected → ℕ

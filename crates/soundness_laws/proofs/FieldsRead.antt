@@ -35,7 +35,7 @@ use Rattle.field_laws.proofs.Persons.{person_in_is, four_digits}
 pub plain_parts : (a b : Bytes) → has_no_lf (a ++ b) ≡ true → (has_no_lf a ≡ true) × (has_no_lf b ≡ true)
 plain_parts a b h = and_parts (has_no_lf a) (has_no_lf b) (sym (list_all-append (λ c. not (c == 10)) a b) ∙ h)
 
--- what stands after the first space
+-- what is after the first space
 pub plain_text : (line : Bytes) → has_no_lf line ≡ true → has_no_lf (text_of line) ≡ true
 plain_text [] h = refl
 plain_text (b ∷ bs) h = go (b == 32) (plain_text bs (and_parts (not (b == 10)) (has_no_lf bs) h).1)

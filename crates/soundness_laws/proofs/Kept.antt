@@ -1,4 +1,4 @@
--- What is kept of the events so far and the one that is being read, by where a stream stands.
+-- What is kept of the events so far and the one that is being read, by where a stream is.
 use Rattle.std.proofs.Common.{◌≡◌, ℕ, Bool, true, false, List, [], ◌∷◌, ◌++◌, Option, Some, None, refl, sym, ap, subst, ◌∙◌, inl, unwrap_or}
 use Rattle.std.specs.Prelude.{IfSome, is_some}
 use Rattle.std.specs.List.{AllByRecursion}

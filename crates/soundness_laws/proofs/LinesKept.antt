@@ -1,4 +1,4 @@
--- What each line keeps, wherever it may stand.
+-- What each line keeps, wherever it may be.
 use Rattle.std.proofs.Common.{◌≡◌, ℕ, Bool, true, false, cond, List, [], ◌∷◌, codes, Option, Some, None, Result, Ok, Err, refl, ap, subst, ◌∙◌, inl, eq-eqb}
 use Rattle.std.specs.Prelude.{◌==◌, ◌||◌, IfSome, bytes_eq}
 use Rattle.std.specs.List.{AllByRecursion}
@@ -43,7 +43,7 @@ use Rattle.soundness_laws.proofs.OpsRead.{IsOp, op_fits}
 use Rattle.soundness_laws.proofs.SoFar.{AreWell, IsCommitSoFar, have_trees, refers_imply, tip_is_commit}
 use Rattle.soundness_laws.proofs.WordsRead.{not_inline}
 
--- ---- where lines may stand
+-- ---- where lines may be
 
 -- the words that begin or end events
 abbrev pub starts : Word → Bool
@@ -74,7 +74,7 @@ never_goes expected.Event after word.Blob st e = absurd cc
 never_goes _ after word.Blob st e = absurd cc
 never_goes _ after _ st e = absurd cc
 
--- a word that begins or ends an event stands where one can end
+-- a word that begins or ends an event is where one can end
 pub start_ok : (w : Word) (s new : Standing) → starts w ≡ true → gone_on s w (follows s.expected w) ≡ Ok new → (is_required s.expected ≡ false) × (begun_by s w ≡ Ok new)
 start_ok w s new st e = go (follows s.expected w) refl e
   where
@@ -83,7 +83,7 @@ start_ok w s new st e = go (follows s.expected w) refl e
     go Missing is e = absurd cc
     go Finished is e = (finished s.expected w is, e)
 
--- P of where the stream stands then, if it goes on
+-- P of where the stream is then, if it goes on
 abbrev pub GoesWith : (Expected → Type 0) → Follow → Type 0
 GoesWith P (Goes after) = P after
 GoesWith P Missing = Unit {0}

@@ -208,7 +208,7 @@ events_above n m (e ∷ events) h =
 
 -- ---- all marks
 
--- Where no mark was there twice, none is once each blob, commit and alias has its own.
+-- Where no mark was there twice, none occurs once each blob, commit and alias has its own.
 pub are_once : (k : Known) → ArePlaced 1 (closed k) → ((m : ℕ) → 0 < m → weight (one m) (closed k) + weigh (one m) (alias_marks k.aliases) ≤ 1)
     → AreOnce (marked_events k.aliases (greatest_read k) (closed k))
 are_once k placed h m is = go (nat_lt (greatest_read k) m) refl

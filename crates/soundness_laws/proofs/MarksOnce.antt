@@ -1,4 +1,4 @@
--- No mark is twice in what is known: each line and each block keeps it so.
+-- No mark occurs twice in what is known: each line and each block keeps it so.
 use Rattle.std.proofs.Common.{◌≡◌, ℕ, ◌+◌, ◌<◌, ◌≤◌, Bool, true, false, cond, not, List, [], ◌∷◌, ◌++◌, Option, Some, None, Result, Ok, refl, ap, subst, arith, eqb-true, ne_eqb}
 use Rattle.std.specs.Prelude.{◌==◌, option_to_list}
 use Rattle.std.specs.List.{list_any}

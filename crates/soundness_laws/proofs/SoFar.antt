@@ -228,6 +228,6 @@ tips_after earlier (e ∷ events) h w =
     here = subst (λ (t : TreeOf ℕ). AreCommits (earlier ++ e ∷ []) t) (sym (refs_append [] earlier (e ∷ [])))
         (tips_more earlier e (refs earlier) w.0 (all_imply (λ x. IsCommitOf earlier x.1) (λ x. IsCommitOf (earlier ++ e ∷ []) x.1) (λ x i. has_id_still earlier (e ∷ []) (any.Commit x.1) i) (refs earlier) h))
 
--- where a branch stands is a commit
+-- where a branch is is a commit
 pub tip_is_commit : (events : List PlainEvent) → AreWell events → (branch : Bytes) (c : ℕ) → at (refs events) branch ≡ Some c → IsCommitOf events c
 tip_is_commit events w branch c e = all_at (IsCommitOf events) (refs events) branch c (tips_after [] events tt w) e

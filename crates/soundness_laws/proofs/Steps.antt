@@ -1,4 +1,4 @@
--- A line that is stepped over within the limits: a comment, or a line whose word may stand there.
+-- A line that is stepped over within the limits: a comment, or a line whose word may be there.
 use Rattle.std.proofs.Common.{◌≡◌, Bool, true, false, cond, ◌∷◌, Option, Some, None, Result, Ok, Err, refl, sym, ap, subst, ◌∙◌}
 use Rattle.plain_model.specs.declared.fault.Which.{Which}
 use Rattle.plain_model.specs.declared.fault.Why.{Why}

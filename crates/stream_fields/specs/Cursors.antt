@@ -1,4 +1,4 @@
--- Where a cursor stands in a text.
+-- Where a cursor is in a text.
 use Rattle.std.specs.Prelude.{ℕ, ◌+◌, drop, take, count_by}
 use Rattle.plain_model.specs.Paths.{Bytes}
 use Rattle.plain_model.specs.Parts.{is_lf}
@@ -9,10 +9,10 @@ pub record Position : Type 0 where
   pub at : ℕ
   pub number : ℕ
 
--- what stands after the place
+-- what is after the place
 abbrev pub rest : Position → Bytes
 rest p = drop p.at p.text
 
--- the number of the line that begins at a place: one more than the LFs that stand before it
+-- the number of the line that begins at a place: one more than the LFs that are before it
 abbrev pub number_at : Bytes → ℕ → ℕ
 number_at text at = 1 + count_by is_lf (take at text)

@@ -18,7 +18,7 @@ use std::marker::Model;
 pub struct Cursor<'a> {
     text: &'a [u8],
     at: usize,
-    // The LFs that stand before the place.
+    // The LFs that are before the place.
     ends: u64,
     number: u64,
 }

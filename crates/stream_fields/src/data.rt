@@ -31,7 +31,7 @@ use crate::lines::{place_of, words};
 use crate::numbers::{is_number, number_up_to};
 use plain_model::Why;
 
-// What stands after the word `data` and a space.
+// What is after the word `data` and a space.
 #[tactic(auto, unfolding(plain_model::specs::Fields::data_text))]
 fn text_of_data(line: &[u8]) -> Option<&[u8]>
     ensures { option_copied result ≡ data_text line.now }
@@ -55,7 +55,7 @@ fn delimiter_of(text: &[u8]) -> Option<&[u8]>
     }
 }
 
-// How many bytes the first line has, and how many stand before what follows it.
+// How many bytes the first line has, and how many are before what follows it.
 fn sizes_of_line(text: &[u8]) -> (usize, usize)
     ensures { IsFirstLine text.now result.0 result.1 }
 {
@@ -71,7 +71,7 @@ fn are_same(left: &[u8], right: &[u8]) -> bool
     left == right
 }
 
-// How many bytes stand before the line of the delimiter, and how many before what follows it.
+// How many bytes are before the line of the delimiter, and how many before what follows it.
 fn delimited_end(delimiter: &[u8], text: &[u8]) -> Option<(usize, usize)>
     requires { 1 ≤ length delimiter.now }
     ensures value { option_map (λ x. (take x.0 text.now, drop x.1 text.now)) result
@@ -125,7 +125,7 @@ fn end_by(spelled: &[u8], text: &[u8]) -> Result<(usize, usize), Why>
     }
 }
 
-/// How many bytes of a text are the block after a line `data COUNT` or `data <<DELIMITER`, and how many stand before
+/// How many bytes of a text are the block after a line `data COUNT` or `data <<DELIMITER`, and how many are before
 /// what follows it. A count is compared before anything is taken. (git-fast-import, `data`.)
 #[tactic(auto, unfolding(plain_model::specs::Fields::extent_in, plain_model::specs::Fields::block_after),)]
 pub fn block_end(head: &[u8], text: &[u8]) -> Result<(usize, usize), Why>

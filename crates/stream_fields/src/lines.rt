@@ -13,7 +13,7 @@ pub fn place_of(byte: u8, text: &[u8]) -> Option<usize>
     memchr::memchr(byte, text)
 }
 
-/// What stands before the first such byte, and what stands after it.
+/// What is before the first such byte, and what is after it.
 #[tactic(auto, unfolding(plain_model::specs::Parts::cut_at))]
 pub fn cut(byte: u8, text: &[u8]) -> Option<(&[u8], &[u8])>
     ensures { option_map (λ x. (x.0.now, x.1.now)) result ≡ cut_at byte text.now }
@@ -43,7 +43,7 @@ pub fn count_line_ends(text: &[u8]) -> usize
     text.iter().filter(|b| **b == b'\n').count()
 }
 
-/// What stands after a word, where the text begins with it.
+/// What is after a word, where the text begins with it.
 #[tactic(auto, unfolding(plain_model::specs::Parts::rest_after))]
 pub fn strip<'a>(word: &[u8], text: &'a [u8]) -> Option<&'a [u8]>
     ensures { option_copied result ≡ rest_after word.now text.now }
@@ -51,7 +51,7 @@ pub fn strip<'a>(word: &[u8], text: &'a [u8]) -> Option<&'a [u8]>
     text.strip_prefix(word)
 }
 
-/// What follows the one LF that may stand there.
+/// What follows the one LF that may be there.
 pub fn skip_line_feed(text: &[u8]) -> &[u8]
     ensures { result.now ≡ skip_lf text.now }
 {
@@ -61,7 +61,7 @@ pub fn skip_line_feed(text: &[u8]) -> &[u8]
     }
 }
 
-/// The first word, and what stands after the space that ends it, if one does.
+/// The first word, and what is after the space that ends it, if one does.
 pub fn words(text: &[u8]) -> (&[u8], Option<&[u8]>)
     ensures first { result.0.now ≡ first_word text.now }
     ensures after { option_copied result.1 ≡ after_space text.now }

@@ -23,7 +23,7 @@ use crate::paths::{read_last_path, read_path};
 use plain_model::{Mark, Mode, ObjectId, Path, Place, RawContent, RawOp, Why};
 use std::alloc::Global;
 
-/// The kind of thing that stands at a path. (git-fast-import, `<mode>`; folders are left out.)
+/// The kind of thing that is at a path. (git-fast-import, `<mode>`; folders are left out.)
 #[tactic(auto, unfolding(plain_model::specs::Fields::mode_in))]
 pub fn read_mode(text: &[u8]) -> Result<Mode, Why>
     ensures { result ≡ mode_in text.now }

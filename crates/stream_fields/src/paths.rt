@@ -34,7 +34,7 @@ fn path_of(alloc: Global, bytes: &[u8]) -> Result<Path, FieldFault>
     }
 }
 
-// Whether such a text may stand after a path in quotes.
+// Whether such a text may be after a path in quotes.
 fn fits_after(place: Place, rest: &[u8]) -> bool
     ensures { result ≡ may_follow place rest.now }
 {
@@ -87,8 +87,8 @@ pub fn begins_with_quote(text: &[u8]) -> bool
 }
 
 /// The path at the front of a text, and how many bytes its spelling takes, quotes included. Without quotes a path
-/// goes to the first space where another follows, else to the end. In quotes a backslash stands before one of
-/// `abfnrtv"\` or three octal digits; after the last quote stands nothing, or a space where another path follows.
+/// goes to the first space where another follows, else to the end. In quotes a backslash is before one of
+/// `abfnrtv"\` or three octal digits; after the last quote is nothing, or a space where another path follows.
 /// (git-fast-import, `<path>`.)
 #[tactic(auto, unfolding(plain_model::specs::Fields::path_in))]
 pub fn read_path(alloc: Global, text: &[u8], place: Place) -> Result<(Path, usize), FieldFault>

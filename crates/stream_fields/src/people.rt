@@ -12,7 +12,7 @@ use crate::numbers::number_up_to;
 use plain_model::{Items, MAX_SECONDS, Person, Signed, When, Why};
 use std::alloc::Global;
 
-// The name before an email: nothing, or what stands before a last space.
+// The name before an email: nothing, or what is before a last space.
 #[tactic(auto, unfolding(plain_model::specs::Parts::name_of))]
 fn name_before(part: &[u8]) -> Option<&[u8]>
     ensures { option_copied result ≡ name_of part.now }

@@ -13,7 +13,7 @@ ghost use Rattle.stream_fields.specs.Quotes.{
 use plain_model::{Items, NoMemory, Text};
 use std::alloc::Global;
 
-/// Where a quoted text stands: between spellings of bytes, after a backslash, or after one or two octal digits,
+/// Where a quoted text is: between spellings of bytes, after a backslash, or after one or two octal digits,
 /// which say a number so far.
 #[derive(Clone, Copy)]
 pub enum QuotePlace {
@@ -94,7 +94,7 @@ fn step(place: QuotePlace, byte: u8) -> QuoteStep
     }
 }
 
-/// The bytes for which a quoted text stands after its first quote, and how many bytes go up to the quote that
+/// The bytes for which a quoted text is after its first quote, and how many bytes go up to the quote that
 /// ends it; none where an escape isn't one, or no quote ends it.
 pub fn unquote(alloc: Global, text: &[u8]) -> Result<Option<(Text, usize)>, NoMemory>
     ensures value { IfOk result (λ found. option_map (λ x. (x.0, drop x.1 text.now)) found ≡ unquoted Between text.now) }

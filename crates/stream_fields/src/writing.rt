@@ -55,8 +55,8 @@ pub fn write_person(signed: &Signed, into: &mut Text) -> Result<(), NoMemory>
     into.push_all(field.as_slice())
 }
 
-/// Puts a path, in quotes exactly where it begins with one, holds an LF, or stands before another path and holds a
-/// space. In quotes a backslash stands before `"` and a backslash, and LF is `\n`. (git-fast-import, `<path>`.)
+/// Puts a path, in quotes exactly where it begins with one, holds an LF, or is before another path and holds a
+/// space. In quotes a backslash is before `"` and a backslash, and LF is `\n`. (git-fast-import, `<path>`.)
 #[tactic(auto, using(field_laws::proofs::PathsAgain::path_again))]
 pub fn write_path(path: &Path, place: Place, into: &mut Text) -> Result<(), NoMemory>
     ensures ok { OnOk result (into.new ≡ into.old ++ path_text place path.now) }

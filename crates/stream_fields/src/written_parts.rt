@@ -1,4 +1,4 @@
-//! Parts of a written line at the end of a text. Where memory is wanting it is left open how much of them stands
+//! Parts of a written line at the end of a text. Where memory runs out it is left open how much of them is
 //! there: the text is a new one, which is dropped then.
 ghost use Rattle.std.specs.Prelude.{
   ◌≡◌,
@@ -240,7 +240,7 @@ pub fn push_op(out: &mut Text, op: &RawOp) -> Result<(), NoMemory>
     }
 }
 
-/// Puts the line `data COUNT`, the bytes and an LF. Where memory is wanting a part of them may stand there.
+/// Puts the line `data COUNT`, the bytes and an LF. Where memory runs out a part of them may be there.
 #[tactic(auto, using(crate::proofs::Fronts::fronts))]
 pub fn push_data(out: &mut Text, bytes: &[u8]) -> Result<(), NoMemory>
     ensures text { OnOk result (out.new ≡ out.old ++ counted_block bytes.now) }

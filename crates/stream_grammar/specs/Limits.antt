@@ -205,7 +205,7 @@ unmarked_count (e ∷ events) = own_want e + unmarked_count events
 abbrev pub last_mark : Known → ℕ
 last_mark k = greatest_read k + unmarked_count (closed k)
 
--- what was read, unless more marks are wanting than there are
+-- what was read, unless more marks are wanted than there are
 abbrev pub unless_spent : Known → Result (List PlainEvent) Fault
 unless_spent k = if nat_lt MAX_MARK (last_mark k) then Err fault.MarksSpent else Ok (history_of k)
 

@@ -27,7 +27,7 @@ use Rattle.stream_grammar.specs.Known.Open.{Nothing, ABlob, ACommit, ATag, ARese
 
 -- ---- words
 
--- what stands after the first space, empty if there is none
+-- what is after the first space, empty if there is none
 abbrev pub text_of : Bytes → Bytes
 text_of line = elim (after_space line) [ None ↦ [] | Some text ↦ text ]
 
@@ -149,7 +149,7 @@ is_required expected.ResetFrom = false
 is_required expected.ResetEnd = false
 is_required _ = true
 
--- a stream can't end here: in an event that lacks a line, or where `done` was promised
+-- a stream can't end here: in an event that misses a line, or where `done` was promised
 abbrev pub must_go_on : Standing → Bool
 must_go_on s = is_required s.expected || s.wants_done
 
@@ -259,7 +259,7 @@ judged word.Other line k = Ok k
 
 -- ---- the form of a stream
 
--- where a stream stands after a line between events
+-- where a stream is after a line between events
 abbrev pub begun_by : Standing → Word → Result Standing Why
 begun_by s word.Blob = Ok (record s { expected = expected.BlobMark })
 begun_by s word.Commit = Ok (record s { expected = expected.CommitMark })
@@ -277,12 +277,12 @@ gone_on s w (Goes expected) = Ok (record s { expected = expected })
 gone_on s w Missing = Err MissingLine
 gone_on s w Finished = begun_by s w
 
--- where a stream stands after a line of such a word; a word that is left out is so wherever a line is expected
+-- where a stream is after a line of such a word; a word that is left out is so wherever a line is expected
 abbrev pub after_word : Standing → Word → Result Standing Why
 after_word s word.LeftOut = Err LeftOut
 after_word s w = gone_on s w (follows s.expected w)
 
--- how far the block after a data line goes; the delimiter stands after `data <<`
+-- how far the block after a data line goes; the delimiter is after `data <<`
 abbrev pub next_by : Extent → Next
 next_by (Counted n) = Block n
 next_by (Delimited delimiter) = Until 7
@@ -295,7 +295,7 @@ next_of w line = Ok More
 
 -- ---- the grammar as an automaton
 
--- What was read so far: where the stream stands, the lines and blocks as they are spelled, the last first, and what is
+-- What was read so far: where the stream is, the lines and blocks as they are spelled, the last first, and what is
 -- known of the events.
 pub record State : Type 0 where
   pub standing : Standing
@@ -309,7 +309,7 @@ looked_at judge w line k = if judge then judged w line k else Ok k
 abbrev pub read_on : State → Bytes → Standing → Next → Known → Result (State × Next) Why
 read_on s line standing next known = Ok (record { standing = standing; spelled = line ∷ s.spelled; known = known }, next)
 
--- a line that is no comment: it may stand there, what follows it is known, and then its fields are looked at
+-- a line that is no comment: it may be there, what follows it is known, and then its fields are looked at
 abbrev pub word_step : Bool → State → Bytes → Word → Result (State × Next) Why
 word_step judge s line w =
     after_word s.standing w >>= λ standing.
@@ -317,7 +317,7 @@ word_step judge s line w =
     looked_at judge w line s.known >>= λ known.
     read_on s line standing next known
 
--- a comment may stand wherever a line is expected
+-- a comment may be wherever a line is expected
 abbrev pub line_step : Bool → State → Bytes → Result (State × Next) Why
 line_step judge s line = if is_comment line then Ok (s, More) else word_step judge s line (word_of line)
 

@@ -1,4 +1,4 @@
-//! Which line may stand where.
+//! Which line may be where.
 ghost use Rattle.std.specs.Prelude.{◌≡◌};
 ghost use Rattle.stream_grammar.specs.Lines.{
   begun_by,
@@ -14,7 +14,7 @@ use crate::lines::{Expected, Follow, Standing, Word};
 use plain_model::Why;
 
 impl Expected {
-    /// The event lacks a line.
+    /// The event misses a line.
     pub fn is_required(self) -> bool
         ensures { result ≡ is_required self }
     {
@@ -168,7 +168,7 @@ impl Standing {
         })
     }
 
-    /// Where the stream stands after a line of this word, or why it can't stand here.
+    /// Where the stream is after a line of this word, or why it can't be here.
     pub fn after(self, word: Word) -> Result<Standing, Why>
         ensures { result ≡ after_word self word }
     {

@@ -29,7 +29,7 @@ pub fn a_first_defect_is_the_only_one()
         Stops stream bytes m other → (n ≡ m) × (why ≡ other) }
 {}
 
-/// A stream ends early where its reading lacks a line or a block.
+/// A stream ends early where its reading misses a line or a block.
 pub fn an_early_end_misses_a_line()
     ensures { (bytes : List ℕ) (n : ℕ) →
         EndsEarly stream bytes n ↔ (outcome stream all bytes ≡ Misses n) }

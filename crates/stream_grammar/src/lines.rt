@@ -66,7 +66,7 @@ pub enum Expected {
     AliasTo,
 }
 
-/// Where a stream stands between two lines.
+/// Where a stream is between two lines.
 #[derive(Clone, Copy, Debug, PartialEq, Eq)]
 pub struct Standing {
     pub expected: Expected,
@@ -81,6 +81,6 @@ pub enum Follow {
     Goes(Expected),
     /// Another line is expected.
     Missing,
-    /// The event is over, or there was none: the line stands between events.
+    /// The event is over, or there was none: the line is between events.
     Finished,
 }

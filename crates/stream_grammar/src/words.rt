@@ -21,7 +21,7 @@ pub fn is_comment(line: &[u8]) -> bool
     line.starts_with(b"#".as_slice())
 }
 
-/// What stands after the first space.
+/// What is after the first space.
 pub fn text_of(line: &[u8]) -> &[u8]
     ensures { result.now ≡ text_of line.now }
 {

@@ -67,7 +67,7 @@ pub fn streams_have_histories()
         ∷ codes "committer Ann <a@b> 1 +0000" ∷ codes "data 0" ∷ codes "reset refs/heads/b"
         ∷ commit_on_b ++ [] ∷ codes "from :1" ∷ codes "deleteall" ∷ [])) }
 
-    // A delimiter ends the data, and a comment may stand wherever a line is expected.
+    // A delimiter ends the data, and a comment may be wherever a line is expected.
     ensures delimited { history_in (lines (codes "blob" ∷ codes "# of two lines" ∷ codes "data <<END" ∷ codes "# x"
         ∷ codes "y" ∷ codes "END" ∷ []))
         ≡ Some (Blob 1 1 (lines (codes "# x" ∷ codes "y" ∷ [])) ∷ []) }
@@ -85,7 +85,7 @@ pub fn streams_have_histories()
         ∷ Tag 2 (codes "v1") 1 None [] (Some 7) ∷ []) }
 {}
 
-/// Lines that can't stand where they do.
+/// Lines that can't be where they do.
 pub fn forms_have_first_defects()
     ensures unknown { outcome stream all (lines (codes "hello" ∷ [])) ≡ Refuses 1 UnknownLine }
     ensures no_data { outcome stream all (lines (codes "blob" ∷ codes "mark :1" ∷ codes "blob" ∷ []))

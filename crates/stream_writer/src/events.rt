@@ -140,7 +140,7 @@ fn push_body(
     out.push(b'\n')
 }
 
-/// Puts an event, where the branches stand so before it.
+/// Puts an event, where the branches are so before it.
 pub fn push_event(
     out: &mut Text,
     history: &MarkedHistory,

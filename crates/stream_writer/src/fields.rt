@@ -1,5 +1,5 @@
-//! Lines at the end of a text. Where memory is wanting, here and in the other modules, it is
-//! left open how much of them stands there: the text is dropped then.
+//! Lines at the end of a text. Where memory runs out, here and in the other modules, it is
+//! left open how much of them is there: the text is dropped then.
 ghost use Rattle.std.specs.Prelude.{◌≡◌, ◌++◌, OnOk};
 ghost use Rattle.plain_model.specs.Text.{line, marked, person};
 

@@ -50,7 +50,7 @@ fn number_of(mark: Option<Mark>) -> u64
 impl Marks {
     ghost use Rattle.stream_writer.specs.Tables.{Records};
 
-    // Takes in an event that stands before those that were taken in.
+    // Takes in an event that is before those that were taken in.
     fn take(&mut self, event: &PlainEvent) -> Result<(), NoMemory>
         ensures { OnOk result
             ((events : List PlainEvent) → Records self.old events

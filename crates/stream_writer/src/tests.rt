@@ -145,7 +145,7 @@ fn pass(alloc: Global, id: u64, line: &[u8]) -> Result<PlainEvent, Fail> {
     })
 }
 
-// What `text_of` gives, and `write_stream` after bytes that stand there.
+// What `text_of` gives, and `write_stream` after bytes that are there.
 fn is_written(alloc: Global, events: &EventList, want: &[u8]) -> Result<bool, Fail> {
     let text = text_of(alloc, events.as_slice())?;
     let mut sink = SureSink::new(alloc)?;

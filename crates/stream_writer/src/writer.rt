@@ -68,7 +68,7 @@ pub fn text_of(alloc: Global, events: &[PlainEvent]) -> Result<Text, NoMemory>
     Ok(out)
 }
 
-/// Writes the text of a history to the end of a sink. After a refusal a first part of it stands there.
+/// Writes the text of a history to the end of a sink. After a refusal a first part of it is there.
 pub fn write_stream<W: Sink>(
     alloc: Global,
     events: &EventList,

@@ -16,7 +16,7 @@ use crate::fault::ApplyFault;
 use plain_model::{MAX_PATHS, NoMemory, Which};
 
 impl PathMap {
-    /// Puts in those entries of the one map whose paths the other lacks. Refused, it may have put in
+    /// Puts in those entries of the one map whose paths the other misses. Refused, it may have put in
     /// some.
     fn put_missing(&mut self, coming: &PathMap, gone: &PathMap) -> Result<(), NoMemory>
         ensures ok { OnOk result (Becomes
@@ -41,7 +41,7 @@ impl PathMap {
         }
     }
 
-    /// Takes out the paths of the one map that the other lacks. It takes no memory.
+    /// Takes out the paths of the one map that the other misses. It takes no memory.
     pub fn remove_all(&mut self, gone: &PathMap, coming: &PathMap)
         ensures { Becomes (with_none (has_alone gone.now coming.now) self.old) self.old self.new }
     {

@@ -1,4 +1,4 @@
-//! The entries whose paths stand to a path in some way.
+//! The entries whose paths are at, above or below a path.
 ghost use Rattle.std.specs.Prelude.{◌≡◌, ◌++◌, ◌∷◌, [], bytes_eq, IfOk, OnOk};
 ghost use Rattle.plain_model.specs.Paths.{is_below, is_in_the_way};
 ghost use Rattle.plain_model.specs.Trees.{subtree, where_path};
@@ -17,7 +17,7 @@ fn followed_by(alloc: Global, bytes: &[u8], byte: u8) -> Result<Vec<u8>, NoMemor
 }
 
 impl PathMap {
-    /// Puts what stands at the path into another map.
+    /// Puts what is at the path into another map.
     pub fn add_at(&self, path: &[u8], found: &mut PathMap) -> Result<(), NoMemory>
         ensures { OnOk result
             (Becomes (with_those (bytes_eq path.now) self.now found.old) found.old found.new) }
@@ -28,7 +28,7 @@ impl PathMap {
         }
     }
 
-    /// Puts what stands below the path into another map.
+    /// Puts what is below the path into another map.
     pub fn add_below(&self, path: &[u8], found: &mut PathMap) -> Result<(), NoMemory>
         ensures { OnOk result
             (Becomes (with_those (is_below path.now) self.now found.old) found.old found.new) }
@@ -43,7 +43,7 @@ impl PathMap {
         Ok(())
     }
 
-    /// Puts what stands above the path, where another path wants a folder, into another map.
+    /// Puts what is above the path, where another path wants a folder, into another map.
     fn add_above(&self, path: &[u8], found: &mut PathMap) -> Result<(), NoMemory>
         ensures { OnOk result
             (Becomes (with_those (λ q. is_below q path.now) self.now found.old)
@@ -57,7 +57,7 @@ impl PathMap {
         Ok(())
     }
 
-    /// What stands at the path and below it.
+    /// What is at the path and below it.
     pub fn at_or_below(&self, path: &[u8]) -> Result<PathMap, NoMemory>
         ensures { IfOk result (λ found. found ≡ subtree path.now self.now) }
     {

@@ -19,7 +19,7 @@ fn path_of(alloc: Global, bytes: &[u8]) -> Result<Path, NoMemory>
 }
 
 impl PathMap {
-    /// The paths and what stands at them, in byte order of the paths.
+    /// The paths and what is at them, in byte order of the paths.
     pub fn listed(&self) -> Result<EntryList, NoMemory>
         requires { AllPaths self.now }
         ensures { IfOk result (λ list. list ≡ self.now) }

@@ -18,7 +18,7 @@ fn joined(alloc: Global, front: &[u8], rest: &[u8]) -> Result<Vec<u8>, NoMemory>
     Ok(made)
 }
 
-/// What stands after so many bytes.
+/// What is after so many bytes.
 fn rest_of(path: &[u8], count: usize) -> &[u8]
     ensures { result.now ≡ drop count path.now }
 {
@@ -53,7 +53,7 @@ fn moved_path(
 }
 
 impl PathMap {
-    /// What stands at the source and below it, each at the target and the rest of its path.
+    /// What is at the source and below it, each at the target and the rest of its path.
     pub fn moved(&self, source: &[u8], target: &[u8]) -> Result<PathMap, ApplyFault>
         ensures ok { IfOk result
             (λ made. moved_if_short source.now target.now (subtree source.now self.now) ≡ Ok made) }
