@@ -26,9 +26,6 @@ record IsCounted (date : Date) (days : ℕ) : Type 0 where
   civil : IsCivilDate (pos date.year) date.month date.day
   counts : day_count (pos date.year) date.month date.day ≡ days
 
-year_is : (year : ℕ) → cal.days_in_year (pos year) ≡ days_in_year year
-year_is year = refl
-
 -- from a month on, the lengths are those of the calendar, up to December
 abbrev AreMonths : ℕ → ℕ → List ℕ → Type 0
 AreMonths year month [] = month ≡ 13

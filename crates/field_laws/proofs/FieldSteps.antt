@@ -12,10 +12,6 @@ bind_ok (Err why) f y e = absurd (cc)
 pub ok_then : {A B : Type 0} (r : Result A Why) (f : A → Result B Why) (x : A) (y : Result B Why) → r ≡ Ok x → f x ≡ y → (r >>= f) ≡ y
 ok_then r f x y e h = ap (λ q. q >>= f) e ∙ h
 
--- a field with a defect, before any next
-pub err_then : {A B : Type 0} (r : Result A Why) (f : A → Result B Why) (why : Why) → r ≡ Err why → (r >>= f) ≡ Err why
-err_then r f why e = ap (λ q. q >>= f) e
-
 pub or_defect_is : {A : Type 0} (why : Why) (o : Option A) (x : A) → or_defect why o ≡ Ok x → o ≡ Some x
 or_defect_is why (Some y) x e = cc
 or_defect_is why None x e = absurd (cc)

@@ -48,10 +48,6 @@ greater_plain b h = ap not (ne_eqb b 10 (λ e. absurd (omega arith)))
 plain_digits : (ds : Bytes) → list_all is_digit ds ≡ true → has_no_lf ds ≡ true
 plain_digits ds h = all_pass is_digit (λ b. not (b == 10)) (λ b d. greater_plain b (let low = leb-true 48 b (and_parts (nat_le 48 b) (nat_le b 57) d).0 in omega arith)) ds h
 
--- digits that say a number have no LF
-plain_numeral : (ds : Bytes) (n : ℕ) → IsNumeral ds n → has_no_lf ds ≡ true
-plain_numeral ds n h = plain_digits ds h.all
-
 -- the digits that are written have no LF
 plain_number : (n : ℕ) → n < 10 ^ 64 → has_no_lf (decimal n) ≡ true
 plain_number n h = plain_digits (decimal n) (numeral_written n h).all

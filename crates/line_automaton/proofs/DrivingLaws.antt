@@ -64,17 +64,6 @@ module _ {State Why : Type 0} (a : Automaton State Why) (j : ℕ → Bool) where
 
   -- ---- counted blocks
 
-  -- a part of a block
-  pub block_part : (k left n from : ℕ) (bytes : Bytes) (s : State) (part : Bytes) → k ≡ left + length part
-      → run a j (At n (InBlock from k bytes) s) part ≡ At (n + count_by is_lf part) (InBlock from left (bytes ++ part)) s
-  block_part k left n from bytes s [] e =
-      let here : k ≡ left = omega arith in
-      λ i. At (sym (add-zero n) i) (InBlock from (here i) (sym (append-nil bytes) i)) s
-  block_part zero left n from bytes s (b ∷ bs) e = absurd (omega arith)
-  block_part (suc k) left n from bytes s (b ∷ bs) e =
-      block_part k left (number_past n b) from (bytes ++ b ∷ []) s bs (omega arith)
-      ∙ (λ i. At (past_count n b bs i) (InBlock from left (append_assoc bytes (b ∷ []) bs i)) s)
-
   -- the end of a block, and what follows
   pub block_end : (k n from : ℕ) (bytes : Bytes) (s : State) (inside : Bool) (part rest : Bytes) → length part ≡ suc k
       → run a j (At n (InBlock from k bytes) s) (part ++ rest)

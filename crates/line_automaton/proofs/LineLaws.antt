@@ -67,34 +67,6 @@ line_is (b ∷ bs) line rest e =
         let all : take at text ≡ text = take_all at text (ltb-false at (length text) f) in
         (ap has_no_lf (sym all) ∙ plain_front text, inr (refl, refl, omega arith))
 
--- the bytes before an LF at a known place
-found_front : (text : Bytes) (at : ℕ) → at ≤ length text → ((k : ℕ) → k < at → is_lf (get_or text k 0) ≡ false) → has_no_lf (take at text) ≡ true
-found_front text zero within before = refl
-found_front [] (suc at) within before = refl
-found_front (b ∷ bs) (suc at) within before =
-    and_from (not (is_lf b)) (has_no_lf (take at bs)) (ap not (before zero (omega arith)))
-    (found_front bs at (omega arith) (λ k lt. before (suc k) (omega arith)))
-
-found_lf : (text : Bytes) (at : ℕ) → at < length text → is_lf (get_or text at 0) ≡ true → text ≡ take at text ++ 10 ∷ drop (at + 1) text
-found_lf [] at lt here = absurd (omega arith)
-found_lf (b ∷ bs) zero lt here = ap (λ c. c ∷ bs) (eqb-true b 10 here)
-found_lf (b ∷ bs) (suc at) lt here =
-    let more : suc (at + 1) ≡ suc at + 1 = omega arith in
-    ap (λ (l : Bytes). b ∷ l) (found_lf bs at (omega arith) here) ∙ ap (λ k. (b ∷ take at bs) ++ 10 ∷ drop k (b ∷ bs)) more
-
--- A line that is found by the place of its LF, or that goes to the end of the text.
-pub line_found : (text : Bytes) (at : ℕ) → at ≤ length text → 1 ≤ length text
-    → ((k : ℕ) → k < at → is_lf (get_or text k 0) ≡ false) → (at < length text → is_lf (get_or text at 0) ≡ true)
-    → IsLine text (take at text) (drop (at + 1) text)
-line_found text at within some before here = (found_front text at within before, go (cases_lt at (length text)))
-  where
-    go : (at < length text) ⊎ (length text ≤ at)
-        → (text ≡ take at text ++ 10 ∷ drop (at + 1) text) ⊎ ((text ≡ take at text) × (drop (at + 1) text ≡ []) × (1 ≤ length (take at text)))
-    go (inl lt) = inl (found_lf text at lt (here lt))
-    go (inr le) =
-        let all : take at text ≡ text = take_all at text le in
-        inr (sym all, drop_all (at + 1) text (omega arith), subst (λ (l : Bytes). 1 ≤ length l) (sym all) some)
-
 -- ---- how many lines
 
 -- the lines that are left, where a line may have begun

@@ -118,9 +118,3 @@ module _ {X : Type 0} where
       by : (b : Bool) → cond b (Err PathBytes) (put_over (cleared_for target base) (moved source target (e ∷ taken))) ≡ (cond b (Err PathBytes) (Ok (moved source target (e ∷ taken))) >>= put_over (cleared_for target base))
       by true = refl
       by false = refl
-
--- a fault that tells of a refusal, also of what would come after
-pub reports_on : (expected : Result Tree Refusal) (next : Tree → Result Tree Refusal) (fault : _) → TellsOf expected fault → TellsOf (expected >>= next) fault
-reports_on expected next fault (inl memory) = inl memory
-reports_on (Ok t) next fault (inr h) = absurd h
-reports_on (Err r) next fault (inr h) = inr h

@@ -1,5 +1,5 @@
 -- The texts of faults: a number and a name, and for each field a space, the field's name, `=` and the value. (own)
-use Rattle.std.specs.Prelude.{ℕ, List, [], ◌∷◌, ◌++◌, codes}
+use Rattle.std.specs.Prelude.{◌≡◌, ℕ, List, [], ◌∷◌, ◌++◌, Result, Ok, Err, codes}
 use Rattle.std.specs.Fmt.{decimal}
 use Rattle.plain_model.specs.declared.fault.Why.{Why}
 use Rattle.plain_model.specs.declared.fault.Why.TheVariants as defect
@@ -7,6 +7,8 @@ use Rattle.plain_model.specs.declared.fault.Which.{Which}
 use Rattle.plain_model.specs.declared.fault.Which.TheVariants as limit
 use Rattle.plain_model.specs.declared.fault.Fault.{Fault}
 use Rattle.plain_model.specs.declared.fault.Fault.TheVariants as fault
+use Rattle.plain_model.specs.declared.fault.Halt.{Halt}
+use Rattle.plain_model.specs.declared.fault.Halt.TheVariants as halt
 
 abbrev pub why_text : Why → List ℕ
 why_text defect.UnknownLine = codes "UnknownLine"
@@ -93,6 +95,12 @@ fault_text (fault.BadMessage line) = codes "70 BadMessage" ++ number_field (code
 fault_text (fault.NoSuchTarget line) = codes "71 NoSuchTarget" ++ number_field (codes "line") line
 fault_text (fault.CheckText line) = codes "72 CheckText" ++ number_field (codes "line") line
 fault_text (fault.BadAuthors line) = codes "73 BadAuthors" ++ number_field (codes "line") line
+
+-- what a call answers is the value that is specified, or the fault; only memory may be out
+abbrev pub Returns : {X Y : Type 0} → (X → Y) → Result X Halt → Result Y Fault → Type 0
+Returns view (Ok x) specified = specified ≡ Ok (view x)
+Returns view (Err (halt.Refused fault)) specified = specified ≡ Err fault
+Returns view (Err halt.Memory) specified = Unit {0}
 
 -- the line that is printed where the command of a script's line is refused
 unfoldable pub refusal : ℕ → Fault → List ℕ

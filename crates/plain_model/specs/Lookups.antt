@@ -1,5 +1,5 @@
 -- What is looked up in a list of events: by id, by number and by mark; whose child a commit is; what an event refers to. (own)
-use Rattle.std.specs.Prelude.{ℕ, suc, ◌+◌, ◌-◌, ◌<◌, Bool, false, ◌==◌, List, [], ◌∷◌, ◌++◌, Option, Some, None, IsSome, option_map, option_to_list, unwrap_or, if◌then◌else◌, flat_map, map, max, slice_get}
+use Rattle.std.specs.Prelude.{ℕ, suc, ◌+◌, ◌-◌, ◌<◌, Bool, false, ◌==◌, List, [], ◌∷◌, ◌++◌, Option, Some, None, IsSome, option_map, option_to_list, unwrap_or, if◌then◌else◌, flat_map, map, max, slice_get, length}
 use Rattle.std.specs.List.{fold, list_any}
 use Rattle.std.specs.Map.{lookup}
 use Rattle.plain_model.specs.declared.limit.TheConstants.{MAX_MARK}
@@ -109,6 +109,15 @@ greatest_mark events = fold (λ n e. max n (top_mark e)) 0 events
 -- one above the greatest mark, if that is a mark
 abbrev pub next_mark : List PlainEvent → Option ℕ
 next_mark events = if greatest_mark events == MAX_MARK then None else Some (greatest_mark events + 1)
+
+-- how many aliases the commits have, all together
+abbrev pub alias_count : List PlainEvent → ℕ
+alias_count [] = 0
+alias_count (Commit id mark branch author committer encoding comment parents ops aliases ∷ events) = length aliases + alias_count events
+alias_count (Blob id mark bytes ∷ events) = alias_count events
+alias_count (Tag id name target tagger comment mark ∷ events) = alias_count events
+alias_count (Reset id branch target ∷ events) = alias_count events
+alias_count (Pass id line ∷ events) = alias_count events
 
 -- ---- parents, children and other referents
 

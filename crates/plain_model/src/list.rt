@@ -153,6 +153,11 @@ impl<T: Drop> Items<T> {
 }
 
 impl<T> Items<T> {
+    /// The allocator that the list keeps.
+    pub fn alloc(&self) -> Global {
+        self.alloc
+    }
+
     /// The empty list over the same allocator. It takes no memory.
     pub fn empty_like(&self) -> Items<T>
         ensures { result ≡ [] }

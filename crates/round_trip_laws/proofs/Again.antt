@@ -189,7 +189,7 @@ aliases_go done seen mark c [] rest history is_mark found fresh apart k d wants 
 aliases_go done seen mark c (a ∷ aliases) rest history is_mark found fresh apart k d wants events current h =
     let parts = and_parts (not (list_any (λ m. m == a) aliases)) (are_distinct aliases) apart in
     let next = aliases_go done (seen ++ (a, c) ∷ []) mark c aliases rest history is_mark found (fresh_more done seen (a, c) aliases (not-true (list_any (λ m. m == a) aliases) parts.0) fresh.1) parts.1
-        (subst (λ (l : List (ℕ × ℕ)). GivesAfter done l rest history) (sym (append_assoc seen ((a, c) ∷ []) (map (λ x. (x, c)) aliases))) k) in
+    (subst (λ (l : List (ℕ × ℕ)). GivesAfter done l rest history) (sym (append_assoc seen ((a, c) ∷ []) (map (λ x. (x, c)) aliases))) k) in
     subst (λ (text : Bytes). Gives (point d wants events seen current) text history) (sym (append_assoc (alias_text mark a) (flat_map (alias_text mark) aliases) rest))
     (alias_goes d wants events current done seen h (flat_map (alias_text mark) aliases ++ rest) history mark c a is_mark found fresh.0.0 fresh.0.1 next)
 
@@ -241,9 +241,14 @@ own_aliases whole front (Commit id mark branch author committer encoding comment
     all_fresh [] u n f = tt
     all_fresh (a ∷ rest_of) u n f =
         let other = or_parts (a == mark) (list_any (λ m. m == mark) rest_of) n in
-        let known = marked_bare front a u.0 in
-        ((f.0, or_from (is_marked (bare front ++ Commit id mark branch author committer encoding comment parents ops [] ∷ []) a) (is_among (alias_marks (pairs front)) a)
-          (marked_more (bare front) id mark branch author committer encoding comment parents ops a known.0 (eqb_turned mark a ∙ other.0)) known.1), all_fresh rest_of u.1 other.1 f.1)
+        let known = marked_bare front a u.0 in (
+          (
+            f.0,
+            or_from (is_marked (bare front ++ Commit id mark branch author committer encoding comment parents ops [] ∷ []) a) (is_among (alias_marks (pairs front)) a)
+                (marked_more (bare front) id mark branch author committer encoding comment parents ops a known.0 (eqb_turned mark a ∙ other.0)) known.1,
+          ),
+          all_fresh rest_of u.1 other.1 f.1,
+        )
 own_aliases whole front (Blob id mark bytes) later s rest history k = subst (λ (l : List (ℕ × ℕ)). GivesAfter (bare front ++ Blob id mark bytes ∷ []) l rest history) (append-nil (pairs front)) k
 own_aliases whole front (Tag id name target tagger comment mark) later s rest history k = subst (λ (l : List (ℕ × ℕ)). GivesAfter (bare front ++ Tag id name target tagger comment mark ∷ []) l rest history) (append-nil (pairs front)) k
 own_aliases whole front (Reset id branch target) later s rest history k = subst (λ (l : List (ℕ × ℕ)). GivesAfter (bare front ++ Reset id branch target ∷ []) l rest history) (append-nil (pairs front)) k
@@ -257,14 +262,14 @@ events_go whole front (e ∷ later) formed placed trees s =
     let next = events_go whole (front ++ e ∷ []) later formed placed trees (next_walked whole front e later s) in
     let after = text_from whole (refs_after (refs front) (e ∷ [])) later ++ end_text whole in
     let on : GivesAfter (bare front ++ bare_event e ∷ []) (pairs front ++ own_pairs e) after whole =
-        subst (λ (tips : TreeOf ℕ). GivesAfter (bare front ++ bare_event e ∷ []) (pairs front ++ own_pairs e) (text_from whole tips later ++ end_text whole) whole) (refs_parts [] front (e ∷ []))
-        (subst (λ (l : List (ℕ × ℕ)). GivesAfter (bare front ++ bare_event e ∷ []) l (text_from whole (refs (front ++ e ∷ [])) later ++ end_text whole) whole) (pairs_append front (e ∷ []) ∙ ap (λ (l : List (ℕ × ℕ)). pairs front ++ l) (append-nil (own_pairs e)))
-        (subst (λ (l : List PlainEvent). GivesAfter l (pairs (front ++ e ∷ [])) (text_from whole (refs (front ++ e ∷ [])) later ++ end_text whole) whole) (bare_append front (e ∷ [])) next)) in
+    subst (λ (tips : TreeOf ℕ). GivesAfter (bare front ++ bare_event e ∷ []) (pairs front ++ own_pairs e) (text_from whole tips later ++ end_text whole) whole) (refs_parts [] front (e ∷ []))
+    (subst (λ (l : List (ℕ × ℕ)). GivesAfter (bare front ++ bare_event e ∷ []) l (text_from whole (refs (front ++ e ∷ [])) later ++ end_text whole) whole) (pairs_append front (e ∷ []) ∙ ap (λ (l : List (ℕ × ℕ)). pairs front ++ l) (append-nil (own_pairs e)))
+    (subst (λ (l : List PlainEvent). GivesAfter l (pairs (front ++ e ∷ [])) (text_from whole (refs (front ++ e ∷ [])) later ++ end_text whole) whole) (bare_append front (e ∷ [])) next)) in
     subst (λ (text : Bytes). GivesAfter (bare front) (pairs front) text whole)
     (sym (append_assoc (event_text whole (refs front) e) (text_from whole (refs_after (refs front) (e ∷ [])) later) (end_text whole)
-      ∙ ap (λ (t : Bytes). t ++ after) (event_bare whole (refs front) e)
-      ∙ append_assoc (event_text (bare whole) (refs front) (bare_event e)) (alias_lines e) after
-      ∙ ap (λ (tips : TreeOf ℕ). event_text (bare whole) tips (bare_event e) ++ (alias_lines e ++ after)) (sym (refs_bare [] front))))
+    ∙ ap (λ (t : Bytes). t ++ after) (event_bare whole (refs front) e)
+    ∙ append_assoc (event_text (bare whole) (refs front) (bare_event e)) (alias_lines e) after
+    ∙ ap (λ (tips : TreeOf ℕ). event_text (bare whole) tips (bare_event e) ++ (alias_lines e ++ after)) (sym (refs_bare [] front))))
     (event_goes (bare whole) front e later trees s.split s.sound.0 (alias_lines e ++ after) whole (own_aliases whole front e later s after whole on))
 
 -- what is written of a history that was read is read again as it

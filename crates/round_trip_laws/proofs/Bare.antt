@@ -59,10 +59,6 @@ pub pairs_append : (a b : List PlainEvent) → pairs (a ++ b) ≡ pairs a ++ pai
 pairs_append [] b = refl
 pairs_append (e ∷ a) b = ap (λ (l : List (ℕ × ℕ)). own_pairs e ++ l) (pairs_append a b) ∙ sym (append_assoc (own_pairs e) (pairs a) (pairs b))
 
-pub length_bare : (events : List PlainEvent) → length (bare events) ≡ length events
-length_bare [] = refl
-length_bare (e ∷ events) = ap suc (length_bare events)
-
 -- ---- what doesn't look at aliases
 
 pub has_id_bare : (events : List PlainEvent) (id : AnyId) → has_id (bare events) id ≡ has_id events id
@@ -141,11 +137,10 @@ marked_bare [] m h = (refl, refl)
 marked_bare (Commit id mark branch author committer encoding comment parents ops aliases ∷ events) m h =
     let parts = or_parts (mark == m) (is_among aliases m || is_marked events m) h in
     let others = or_parts (is_among aliases m) (is_marked events m) parts.1 in
-    let rest = marked_bare events m others.1 in
-    (
+    let rest = marked_bare events m others.1 in (
       or_from (mark == m) (is_marked (bare events) m) parts.0 rest.0,
       ap (λ (l : List ℕ). is_among l m) (alias_marks_append (map (λ a. (a, id)) aliases) (pairs events) ∙ ap (λ (l : List ℕ). l ++ alias_marks (pairs events)) (alias_marks_own id aliases))
-      ∙ among_append aliases (alias_marks (pairs events)) m others.0 rest.1,
+          ∙ among_append aliases (alias_marks (pairs events)) m others.0 rest.1,
     )
 marked_bare (Blob id mark bytes ∷ events) m h =
     let parts = or_parts (mark == m) (is_marked events m) h in

@@ -71,7 +71,7 @@ module _ (whole : List PlainEvent) where
   pub event_bare : (tips : TreeOf ℕ) (e : PlainEvent) → event_text whole tips e ≡ event_text (bare whole) tips (bare_event e) ++ alias_lines e
   event_bare tips (Commit id mark branch author committer encoding comment parents ops aliases) =
       (λ i. reset_bare tips branch parents i ++ line (codes "commit " ++ branch) ++ line (codes "mark " ++ marked mark) ++ line (codes "author " ++ person author)
-        ++ line (codes "committer " ++ person committer) ++ encoding_bare encoding i ++ data_block comment ++ parents_text_bare parents i ++ ops_bare ops i ++ line [] ++ flat_map (alias_text mark) aliases)
+      ++ line (codes "committer " ++ person committer) ++ encoding_bare encoding i ++ data_block comment ++ parents_text_bare parents i ++ ops_bare ops i ++ line [] ++ flat_map (alias_text mark) aliases)
       ∙ ap (λ (t : Bytes). t ++ flat_map (alias_text mark) aliases) (sym (append-nil _))
   event_bare tips (Blob id mark bytes) = sym (append-nil _)
   event_bare tips (Tag id name target tagger comment mark) =
@@ -146,14 +146,14 @@ again_from k front (Commit id mark branch author committer encoding comment pare
     let own = map (λ a. (a, id)) aliases in
     let here : id ≡ k = h.0 in
     let its : aliases_for id (front ++ (own ++ pairs events)) ≡ aliases =
-        for_parts id front (own ++ pairs events)
-        ∙ ap (λ (l : List ℕ). l ++ aliases_for id (own ++ pairs events)) (none_for id front (subst (λ n. AllByRecursion (λ (x : ℕ × ℕ). (x.1 == n) ≡ false) front) (sym here) (below_apart k front b)))
-        ∙ for_parts id own (pairs events)
-        ∙ ap (λ (l : List ℕ). aliases_for id own ++ l) (none_for id (pairs events) (later_pairs id (suc k) events h.1 (omega arith)))
-        ∙ append-nil (aliases_for id own) ∙ own_for id aliases in
+    for_parts id front (own ++ pairs events)
+    ∙ ap (λ (l : List ℕ). l ++ aliases_for id (own ++ pairs events)) (none_for id front (subst (λ n. AllByRecursion (λ (x : ℕ × ℕ). (x.1 == n) ≡ false) front) (sym here) (below_apart k front b)))
+    ∙ for_parts id own (pairs events)
+    ∙ ap (λ (l : List ℕ). aliases_for id own ++ l) (none_for id (pairs events) (later_pairs id (suc k) events h.1 (omega arith)))
+    ∙ append-nil (aliases_for id own) ∙ own_for id aliases in
     let rest : with_aliases (front ++ (own ++ pairs events)) (bare events) ≡ events =
-        ap (λ (l : List (ℕ × ℕ)). with_aliases l (bare events)) (sym (append_assoc front own (pairs events)))
-        ∙ again_from (suc k) (front ++ own) events (below_more k front own b (own_below id k aliases here)) h.1 in
+    ap (λ (l : List (ℕ × ℕ)). with_aliases l (bare events)) (sym (append_assoc front own (pairs events)))
+    ∙ again_from (suc k) (front ++ own) events (below_more k front own b (own_below id k aliases here)) h.1 in
     λ i. Commit id mark branch author committer encoding comment parents ops (its i) ∷ rest i
 again_from k front (Blob id mark bytes ∷ events) b h = ap (λ (l : List PlainEvent). Blob id mark bytes ∷ l) (again_from (suc k) front events (wider k front b) h.1)
 again_from k front (Tag id name target tagger comment mark ∷ events) b h = ap (λ (l : List PlainEvent). Tag id name target tagger comment mark ∷ l) (again_from (suc k) front events (wider k front b) h.1)

@@ -104,7 +104,9 @@ module _ (d : Expected) (between : is_between d ≡ true) (wants : Bool) (events
               comment = [];
               parents = option_to_list (at (refs l) name);
               ops = [];
-            }); aliases = aliases })) are;
+            });
+            aliases = aliases;
+          })) are;
     }
 
     pub tag_leads : Leads here (codes "tag " ++ name) word.Tag More (point expected.TagMark wants done aliases (ATag name 0 None None))

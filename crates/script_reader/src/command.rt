@@ -1,5 +1,6 @@
 //! Commands, as they are in a line.
-ghost use Rattle.script_reader.specs.Answering.{Answers, Refuses};
+ghost use Rattle.plain_model.specs.Faults.{Returns};
+ghost use Rattle.script_reader.specs.Answering.{Refuses};
 ghost use Rattle.script_reader.specs.Commands.{command_of};
 ghost use Rattle.plain_model.specs.declared.fault.Fault.TheVariants.{UnknownCommand};
 
@@ -51,7 +52,7 @@ impl Command {
     /// such command, else with its first word that doesn't fit.
     #[tactic(auto, unfolding(crate::specs::Commands::command_of))]
     pub fn read(alloc: Global, line: &str) -> Result<Command, Halt>
-        ensures { Answers (λ command. command) result (command_of line.now) }
+        ensures { Returns (λ command. command) result (command_of line.now) }
     {
         let (head, after) = cut_head(line);
         match Keyword::of(head.as_bytes()) {

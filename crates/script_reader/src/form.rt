@@ -1,7 +1,8 @@
 //! The forms of the commands: what may be after each command word.
 ghost use Rattle.std.specs.Prelude.{◌≡◌, IfOk, Some};
 ghost use Rattle.plain_model.specs.declared.fault.Fault.TheVariants.{BadWords};
-ghost use Rattle.script_reader.specs.Answering.{Answers, Refuses};
+ghost use Rattle.plain_model.specs.Faults.{Returns};
+ghost use Rattle.script_reader.specs.Answering.{Refuses};
 ghost use Rattle.script_reader.specs.Commands.{
   choose_form,
   drop_form,
@@ -48,7 +49,7 @@ fn at_fault(alloc: Global, word: &Word) -> Halt
 
 // The name that a last word is, which is no redirection.
 fn name_in(alloc: Global, word: &Word) -> Result<Text, Halt>
-    ensures { Answers (λ name. name) result (or_at_fault word.now (name_in word.now)) }
+    ensures { Returns (λ name. name) result (or_at_fault word.now (name_in word.now)) }
 {
     match word {
         Word::Plain(text) if !begins_with_sign(text.as_bytes()) => Ok(Items::of(
@@ -62,7 +63,7 @@ fn name_in(alloc: Global, word: &Word) -> Result<Text, Halt>
 
 // `[>FILE]`
 fn output(alloc: Global, words: &[Word]) -> Result<Option<ScriptText>, Halt>
-    ensures { Answers (λ to. to) result (output_in words.now) }
+    ensures { Returns (λ to. to) result (output_in words.now) }
 {
     match words {
         [] => Ok(None),
@@ -76,7 +77,7 @@ fn output(alloc: Global, words: &[Word]) -> Result<Option<ScriptText>, Halt>
 
 // `[NAME]`
 fn name_within(alloc: Global, words: &[Word]) -> Result<Option<Text>, Halt>
-    ensures { Answers (λ name. name) result (name_within words.now) }
+    ensures { Returns (λ name. name) result (name_within words.now) }
 {
     match words {
         [] => Ok(None),
@@ -101,7 +102,7 @@ fn read_of(alloc: Global, file: &str) -> Result<Option<Command>, NoMemory>
 
 // `read <FILE`, of the one word
 fn read_one(alloc: Global, word: &Word) -> Result<Command, Halt>
-    ensures { Answers (λ command. command) result
+    ensures { Returns (λ command. command) result
         (or_at_fault word.now (read_of (redirected Direction.Input word.now))) }
 {
     if let Some(file) = redirected(Direction::Input, word) {
@@ -115,7 +116,7 @@ fn read_one(alloc: Global, word: &Word) -> Result<Command, Halt>
 // `read <FILE`
 #[tactic(auto, unfolding(crate::specs::Commands::read_form))]
 fn read(alloc: Global, words: &[Word]) -> Result<Command, Halt>
-    ensures { Answers (λ command. command) result (read_form words.now) }
+    ensures { Returns (λ command. command) result (read_form words.now) }
 {
     match words {
         [] => Err(bad_words(alloc, b"read")),
@@ -127,7 +128,7 @@ fn read(alloc: Global, words: &[Word]) -> Result<Command, Halt>
 // `write [>FILE]`
 #[tactic(auto, unfolding(crate::specs::Commands::write_form))]
 fn write(alloc: Global, words: &[Word]) -> Result<Command, Halt>
-    ensures { Answers (λ command. command) result (write_form words.now) }
+    ensures { Returns (λ command. command) result (write_form words.now) }
 {
     let to = output(alloc, words)?;
     Ok(Command::Write { to })
@@ -136,7 +137,7 @@ fn write(alloc: Global, words: &[Word]) -> Result<Command, Halt>
 // `choose [NAME]`
 #[tactic(auto, unfolding(crate::specs::Commands::choose_form))]
 fn choose(alloc: Global, words: &[Word]) -> Result<Command, Halt>
-    ensures { Answers (λ command. command) result (choose_form words.now) }
+    ensures { Returns (λ command. command) result (choose_form words.now) }
 {
     match name_within(alloc, words)? {
         Some(name) => Ok(Command::Choose { name }),
@@ -147,7 +148,7 @@ fn choose(alloc: Global, words: &[Word]) -> Result<Command, Halt>
 // `drop [NAME]`
 #[tactic(auto, unfolding(crate::specs::Commands::drop_form))]
 fn forget(alloc: Global, words: &[Word]) -> Result<Command, Halt>
-    ensures { Answers (λ command. command) result (drop_form words.now) }
+    ensures { Returns (λ command. command) result (drop_form words.now) }
 {
     match name_within(alloc, words)? {
         Some(name) => Ok(Command::Drop { name }),
@@ -158,7 +159,7 @@ fn forget(alloc: Global, words: &[Word]) -> Result<Command, Halt>
 // `renumber`
 #[tactic(auto, unfolding(crate::specs::Commands::renumber_form))]
 fn renumber(alloc: Global, words: &[Word]) -> Result<Command, Halt>
-    ensures { Answers (λ command. command) result (renumber_form words.now) }
+    ensures { Returns (λ command. command) result (renumber_form words.now) }
 {
     match words {
         [] => Ok(Command::Renumber),
@@ -169,7 +170,7 @@ fn renumber(alloc: Global, words: &[Word]) -> Result<Command, Halt>
 // `list [>FILE]`
 #[tactic(auto, unfolding(crate::specs::Commands::list_form))]
 fn list(alloc: Global, words: &[Word]) -> Result<Command, Halt>
-    ensures { Answers (λ command. command) result (list_form words.now) }
+    ensures { Returns (λ command. command) result (list_form words.now) }
 {
     let to = output(alloc, words)?;
     Ok(Command::List { to })
@@ -178,7 +179,7 @@ fn list(alloc: Global, words: &[Word]) -> Result<Command, Halt>
 // `index [>FILE]`
 #[tactic(auto, unfolding(crate::specs::Commands::index_form))]
 fn index(alloc: Global, words: &[Word]) -> Result<Command, Halt>
-    ensures { Answers (λ command. command) result (index_form words.now) }
+    ensures { Returns (λ command. command) result (index_form words.now) }
 {
     let to = output(alloc, words)?;
     Ok(Command::Index { to })
@@ -187,7 +188,7 @@ fn index(alloc: Global, words: &[Word]) -> Result<Command, Halt>
 // `names [>FILE]`
 #[tactic(auto, unfolding(crate::specs::Commands::names_form))]
 fn names(alloc: Global, words: &[Word]) -> Result<Command, Halt>
-    ensures { Answers (λ command. command) result (names_form words.now) }
+    ensures { Returns (λ command. command) result (names_form words.now) }
 {
     let to = output(alloc, words)?;
     Ok(Command::Names { to })
@@ -195,7 +196,7 @@ fn names(alloc: Global, words: &[Word]) -> Result<Command, Halt>
 
 /// The command of a command word and the words after it.
 pub fn form(alloc: Global, keyword: Keyword, words: &[Word]) -> Result<Command, Halt>
-    ensures { Answers (λ command. command) result (form_of keyword words.now) }
+    ensures { Returns (λ command. command) result (form_of keyword words.now) }
 {
     match keyword {
         Keyword::Read => read(alloc, words),

@@ -37,7 +37,7 @@ ghost use Rattle.plain_model.specs.Trees.{at};
 ghost use Rattle.stream_grammar.specs.Limits.{ops_in, stream_of};
 ghost use Rattle.stream_grammar.specs.Lines.{history_in};
 ghost use Rattle.round_trip_laws.specs.AsRead.{IsAsRead};
-ghost use Rattle.soundness_laws.specs.Counts.{alias_count};
+ghost use Rattle.plain_model.specs.Lookups.{alias_count};
 
 /// What a stream gives is a sound history, such as reading gives it.
 pub fn what_is_read_is_sound()

@@ -4,7 +4,7 @@ ghost use Rattle.plain_model.specs.declared.fault.Fault.TheVariants.{MarksSpent}
 ghost use Rattle.plain_model.specs.declared.fault.Which.TheVariants as which;
 ghost use Rattle.plain_model.specs.declared.limit.TheConstants.{MAX_ALIASES, MAX_EVENTS};
 ghost use Rattle.stream_grammar.specs.Known.Open.{Nothing as NoEvent};
-ghost use Rattle.stream_grammar.specs.Limits.{alias_count, event_count, limit_if, unless_spent, within_limit};
+ghost use Rattle.stream_grammar.specs.Limits.{known_aliases, event_count, limit_if, unless_spent, within_limit};
 ghost use Rattle.stream_grammar.specs.Lines.{begun_with, nothing_known};
 ghost use Rattle.stream_lines.specs.Reading.{Judges};
 ghost use Rattle.stream_builder.specs.Building.{open_of, ops_in};
@@ -105,7 +105,7 @@ impl Builder {
     // Whether there are too many aliases.
     fn within_aliases(&self) -> Result<(), LineFault>
         ensures { Judges self.now result
-            (within_limit (limit_if MAX_ALIASES (alias_count self.now) which.Aliases None) self.now) }
+            (within_limit (limit_if MAX_ALIASES (known_aliases self.now) which.Aliases None) self.now) }
     {
         let most = match self.current {
             Open::Alias { .. } => MAX_ALIASES - 1,

@@ -78,8 +78,8 @@ open_aliases (ACommit c) = 0
 open_aliases (ATag name target tagger mark) = 0
 open_aliases (AReset branch target) = 0
 
-abbrev pub alias_count : Known → ℕ
-alias_count k = length k.aliases + open_aliases k.current
+abbrev pub known_aliases : Known → ℕ
+known_aliases k = length k.aliases + open_aliases k.current
 
 -- ---- which limit a line passes
 
@@ -134,7 +134,7 @@ limit_at word.FeatureDone k = limit_if MAX_EVENTS (event_count k) Events None
 limit_at word.Operation k = op_limit 0 k
 limit_at word.InlineOperation k = op_limit 1 k
 limit_at word.Merge k = limit_if MAX_OPERATIONS (op_count k) Operations (limit_if MAX_PARENTS (open_parents k.current) Parents None)
-limit_at word.Alias k = limit_if MAX_ALIASES (alias_count k) Aliases None
+limit_at word.Alias k = limit_if MAX_ALIASES (known_aliases k) Aliases None
 limit_at word.Empty k = None
 limit_at word.Mark k = None
 limit_at word.Oid k = None
