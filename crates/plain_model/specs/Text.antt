@@ -88,6 +88,14 @@ raw_op_text rawop.DeleteAll = codes "deleteall"
 
 -- ---- events
 
+-- a further mark of the commit with the mark
+abbrev pub alias_text : ℕ → ℕ → Bytes
+alias_text mark alias = line (codes "alias") ++ line (codes "mark " ++ marked alias) ++ line (codes "to " ++ marked mark)
+
+abbrev pub mark_text : Option ℕ → Bytes
+mark_text None = []
+mark_text (Some mark) = line (codes "mark " ++ marked mark)
+
 module _ (whole : List PlainEvent) where
   abbrev pub blob_mark_in : List PlainEvent → ℕ → ℕ
   blob_mark_in [] b = 0
@@ -115,14 +123,6 @@ module _ (whole : List PlainEvent) where
   abbrev pub parents_text : List ℕ → Bytes
   parents_text [] = []
   parents_text (p ∷ ps) = line (codes "from " ++ marked (commit_mark whole p)) ++ flat_map (λ q. line (codes "merge " ++ marked (commit_mark whole q))) ps
-
-  -- a further mark of the commit with the mark
-  abbrev pub alias_text : ℕ → ℕ → Bytes
-  alias_text mark alias = line (codes "alias") ++ line (codes "mark " ++ marked alias) ++ line (codes "to " ++ marked mark)
-
-  abbrev pub mark_text : Option ℕ → Bytes
-  mark_text None = []
-  mark_text (Some mark) = line (codes "mark " ++ marked mark)
 
   abbrev pub encoding_text : Option Bytes → Bytes
   encoding_text None = []

@@ -1,6 +1,6 @@
 -- The marks at the end: a history gets them as the replay does, and is shown alike.
 use Rattle.std.proofs.Common.{◌≡◌, ℕ, suc, ◌+◌, ◌<◌, ◌≤◌, Bool, true, false, cond, List, [], ◌∷◌, ◌++◌, map, reverse, refl, sym, ap, subst, ◌∙◌, Option, Some, None, arith, eq-eqb, ne_eqb}
-use Rattle.std.specs.Prelude.{◌==◌, option_map}
+use Rattle.std.specs.Prelude.{◌==◌, filter, option_map}
 use Rattle.std.specs.List.{AllByRecursion}
 use Rattle.std.proofs.lemmas.Bool.{cond-true, cond-false}
 use Rattle.plain_model.specs.declared.operation.Content.{Content}
@@ -10,12 +10,12 @@ use Rattle.plain_model.specs.declared.event.PlainEvent.{PlainEvent}
 use Rattle.plain_model.specs.declared.event.PlainEvent.TheVariants.{Blob, Commit, Tag, Reset, Pass}
 use Rattle.plain_model.specs.Trees.{TreeOf, put}
 use Rattle.plain_model.specs.Histories.{Node, nodes, tree_in}
-use Rattle.plain_model.specs.Lookups.{greatest_mark}
+use Rattle.plain_model.specs.Lookups.{greatest_mark, greatest_of}
 use Rattle.plain_model.specs.Snapshots.{ShownCommit, ShownTag, blob_bytes, shown_content, map_tree, shown_tree, commit_mark, refs_after, refs, shown_commits, shown_tags, snapshot}
 use Rattle.plain_model.specs.Snapshots.ShownContent.{ShownBytes}
-use Rattle.stream_grammar.specs.Known.{with_marks}
-use Rattle.replay_laws.specs.Replay.{Numbered, commit_numbered, mark_among, mark_of_number, shown_of}
-use Rattle.replay_laws.proofs.Placed.{ArePlaced, commits_seen, tags_seen, unmarked_in, seen_of}
+use Rattle.stream_grammar.specs.Known.{alias_marks, aliases_for, with_aliases, with_marks}
+use Rattle.replay_laws.specs.Replay.{Numbered, commit_numbered, marks_for, mark_among, mark_of_number, shown_of}
+use Rattle.replay_laws.proofs.Placed.{ArePlaced, commits_seen, tags_seen, unmarked_in, seen_with}
 
 -- ---- what marks don't change
 
@@ -136,7 +136,7 @@ mark_alike w k n (Commit id mark branch author committer encoding comment parent
     own : Numbered
     own = record {
       number = id;
-      commit = record { mark = mark; branch = branch; author = author; committer = committer; encoding = encoding; comment = comment; parents = parents; tree = shown_tree w id };
+      commit = record { mark = mark; branch = branch; author = author; committer = committer; encoding = encoding; comment = comment; parents = parents; tree = shown_tree w id; aliases = [] };
     }
 
     one : (b : Bool) → (mark == 0) ≡ b → ((m : ℕ) → commit_mark (with_marks m es) c ≡ mark_found m (unmarked_in es) (commit_numbered (commits_seen w es) c)) → (v : Bool)
@@ -156,34 +156,85 @@ mark_alike w k n (Tag id name target tagger comment mark ∷ es) a c = mark_alik
 mark_alike w k n (Reset id branch target ∷ es) a c = mark_alike w (suc k) n es a.1 c
 mark_alike w k n (Pass id line ∷ es) a c = mark_alike w (suc k) n es a.1 c
 
+-- ---- what aliases don't change
+
+nodes_aliased : (al : List (ℕ × ℕ)) (es : List PlainEvent) → nodes (with_aliases al es) ≡ nodes es
+nodes_aliased al [] = refl
+nodes_aliased al (Commit id mark branch author committer encoding comment parents ops aliases ∷ es) = ap (λ (l : List Node). record { id = id; parents = parents; ops = ops } ∷ l) (nodes_aliased al es)
+nodes_aliased al (Blob id mark bytes ∷ es) = nodes_aliased al es
+nodes_aliased al (Tag id name target tagger comment mark ∷ es) = nodes_aliased al es
+nodes_aliased al (Reset id branch target ∷ es) = nodes_aliased al es
+nodes_aliased al (Pass id line ∷ es) = nodes_aliased al es
+
+refs_aliased : (t : TreeOf ℕ) (al : List (ℕ × ℕ)) (es : List PlainEvent) → refs_after t (with_aliases al es) ≡ refs_after t es
+refs_aliased t al [] = refl
+refs_aliased t al (Commit id mark branch author committer encoding comment parents ops aliases ∷ es) = refs_aliased (put branch id t) al es
+refs_aliased t al (Blob id mark bytes ∷ es) = refs_aliased t al es
+refs_aliased t al (Tag id name target tagger comment mark ∷ es) = refs_aliased t al es
+refs_aliased t al (Reset id branch None ∷ es) = refs_aliased _ al es
+refs_aliased t al (Reset id branch (Some c) ∷ es) = refs_aliased (put branch c t) al es
+refs_aliased t al (Pass id line ∷ es) = refs_aliased t al es
+
+bytes_aliased : (al : List (ℕ × ℕ)) (es : List PlainEvent) (b : ℕ) → blob_bytes (with_aliases al es) b ≡ blob_bytes es b
+bytes_aliased al [] b = refl
+bytes_aliased al (Blob id mark bytes ∷ es) b = ap (cond (id == b) bytes) (bytes_aliased al es b)
+bytes_aliased al (Commit id mark branch author committer encoding comment parents ops aliases ∷ es) b = bytes_aliased al es b
+bytes_aliased al (Tag id name target tagger comment mark ∷ es) b = bytes_aliased al es b
+bytes_aliased al (Reset id branch target ∷ es) b = bytes_aliased al es b
+bytes_aliased al (Pass id line ∷ es) b = bytes_aliased al es b
+
+mark_aliased : (al : List (ℕ × ℕ)) (es : List PlainEvent) (c : ℕ) → commit_mark (with_aliases al es) c ≡ commit_mark es c
+mark_aliased al [] c = refl
+mark_aliased al (Commit id mark branch author committer encoding comment parents ops aliases ∷ es) c = ap (cond (id == c) mark) (mark_aliased al es c)
+mark_aliased al (Blob id mark bytes ∷ es) c = mark_aliased al es c
+mark_aliased al (Tag id name target tagger comment mark ∷ es) c = mark_aliased al es c
+mark_aliased al (Reset id branch target ∷ es) c = mark_aliased al es c
+mark_aliased al (Pass id line ∷ es) c = mark_aliased al es c
+
+content_aliased : (al : List (ℕ × ℕ)) (es : List PlainEvent) (c : Content) → shown_content (with_aliases al es) c ≡ shown_content es c
+content_aliased al es (OfBlob b) = λ i. ShownBytes (bytes_aliased al es b i)
+content_aliased al es (Object digits) = refl
+
+tree_aliased : (al : List (ℕ × ℕ)) (es : List PlainEvent) (c : ℕ) → shown_tree (with_aliases al es) c ≡ shown_tree es c
+tree_aliased al es c = λ i. option_map (map_tree (λ (e : Entry). record { mode = e.mode; content = content_aliased al es e.content i })) (tree_in (reverse (nodes_aliased al es i)) c)
+
+-- a commit's aliases are the marks of its number
+marks_are : (c : ℕ) (al : List (ℕ × ℕ)) → aliases_for c al ≡ marks_for c al
+marks_are c [] = refl
+marks_are c (a ∷ al) = go (a.1 == c) (marks_are c al)
+  where
+    go : (b : Bool) → aliases_for c al ≡ marks_for c al → alias_marks (cond b (a ∷ filter (λ x. x.1 == c) al) (filter (λ x. x.1 == c) al)) ≡ cond b (a.0 ∷ marks_for c al) (marks_for c al)
+    go true e = ap (λ (l : List ℕ). a.0 ∷ l) e
+    go false e = e
+
 -- ---- what is shown
 
 -- a commit that is shown with its mark, counted from n, and with the marks of its parents
-abbrev shown_by : List PlainEvent → ℕ → List ℕ → Numbered → ShownCommit
-shown_by v n unmarked c = record c.commit { mark = mark_by n unmarked c; parents = map (commit_mark v) c.commit.parents }
+abbrev shown_by : List PlainEvent → List (ℕ × ℕ) → ℕ → List ℕ → Numbered → ShownCommit
+shown_by v al n unmarked c = record c.commit { mark = mark_by n unmarked c; parents = map (commit_mark v) c.commit.parents; aliases = marks_for c.number al }
 
-shift_shown : (v : List PlainEvent) (n id : ℕ) (unmarked : List ℕ) (cs : List Numbered) → AllByRecursion (λ (c : Numbered). suc id ≤ c.number) cs → map (shown_by v n (id ∷ unmarked)) cs ≡ map (shown_by v (n + 1) unmarked) cs
-shift_shown v n id unmarked [] a = refl
-shift_shown v n id unmarked (c ∷ cs) a = λ i. record c.commit { mark = shift n id unmarked c a.0 i; parents = map (commit_mark v) c.commit.parents } ∷ shift_shown v n id unmarked cs a.1 i
+shift_shown : (v : List PlainEvent) (al : List (ℕ × ℕ)) (n id : ℕ) (unmarked : List ℕ) (cs : List Numbered) → AllByRecursion (λ (c : Numbered). suc id ≤ c.number) cs → map (shown_by v al n (id ∷ unmarked)) cs ≡ map (shown_by v al (n + 1) unmarked) cs
+shift_shown v al n id unmarked [] a = refl
+shift_shown v al n id unmarked (c ∷ cs) a = λ i. record c.commit { mark = shift n id unmarked c a.0 i; parents = map (commit_mark v) c.commit.parents; aliases = marks_for c.number al } ∷ shift_shown v al n id unmarked cs a.1 i
 
-module _ (v w : List PlainEvent) (same : (c : ℕ) → shown_tree v c ≡ shown_tree w c) where
+module _ (v w : List PlainEvent) (al : List (ℕ × ℕ)) (same : (c : ℕ) → shown_tree v c ≡ shown_tree w c) where
   -- from the id of the first place on
   from_first : (k id : ℕ) → id ≡ k → (cs : List Numbered) → AllByRecursion (λ (c : Numbered). suc k ≤ c.number) cs → AllByRecursion (λ (c : Numbered). suc id ≤ c.number) cs
   from_first k id is cs a = subst (λ n. AllByRecursion (λ (c : Numbered). suc n ≤ c.number) cs) (sym is) a
 
   -- the commits are shown alike
-  commits_alike : (k n : ℕ) (es : List PlainEvent) → ArePlaced k es → shown_commits v (with_marks n es) ≡ map (shown_by v n (unmarked_in es)) (commits_seen w es)
+  commits_alike : (k n : ℕ) (es : List PlainEvent) → ArePlaced k es → shown_commits v (with_aliases al (with_marks n es)) ≡ map (shown_by v al n (unmarked_in es)) (commits_seen w es)
   commits_alike k n [] a = refl
   commits_alike k n (Blob id mark bytes ∷ es) a = go (mark == 0) (λ m. commits_alike (suc k) m es a.1)
     where
-      go : (b : Bool) → ((m : ℕ) → shown_commits v (with_marks m es) ≡ map (shown_by v m (unmarked_in es)) (commits_seen w es))
-          → shown_commits v (cond b (Blob id (n + 1) bytes ∷ with_marks (n + 1) es) (Blob id mark bytes ∷ with_marks n es)) ≡ map (shown_by v n (cond b (id ∷ []) [] ++ unmarked_in es)) (commits_seen w es)
-      go true r = r (n + 1) ∙ sym (shift_shown v n id (unmarked_in es) (commits_seen w es) (from_first k id a.0 (commits_seen w es) (later w (suc k) es a.1)))
+      go : (b : Bool) → ((m : ℕ) → shown_commits v (with_aliases al (with_marks m es)) ≡ map (shown_by v al m (unmarked_in es)) (commits_seen w es))
+          → shown_commits v (with_aliases al (cond b (Blob id (n + 1) bytes ∷ with_marks (n + 1) es) (Blob id mark bytes ∷ with_marks n es))) ≡ map (shown_by v al n (cond b (id ∷ []) [] ++ unmarked_in es)) (commits_seen w es)
+      go true r = r (n + 1) ∙ sym (shift_shown v al n id (unmarked_in es) (commits_seen w es) (from_first k id a.0 (commits_seen w es) (later w (suc k) es a.1)))
       go false r = r n
   commits_alike k n (Commit id mark branch author committer encoding comment parents ops aliases ∷ es) a = go (mark == 0) refl (λ m. commits_alike (suc k) m es a.1)
     where
-      go : (b : Bool) → (mark == 0) ≡ b → ((m : ℕ) → shown_commits v (with_marks m es) ≡ map (shown_by v m (unmarked_in es)) (commits_seen w es))
-          → shown_commits v (cond b (Commit id (n + 1) branch author committer encoding comment parents ops aliases ∷ with_marks (n + 1) es) (Commit id mark branch author committer encoding comment parents ops aliases ∷ with_marks n es))
+      go : (b : Bool) → (mark == 0) ≡ b → ((m : ℕ) → shown_commits v (with_aliases al (with_marks m es)) ≡ map (shown_by v al m (unmarked_in es)) (commits_seen w es))
+          → shown_commits v (with_aliases al (cond b (Commit id (n + 1) branch author committer encoding comment parents ops aliases ∷ with_marks (n + 1) es) (Commit id mark branch author committer encoding comment parents ops aliases ∷ with_marks n es)))
           ≡ record {
             mark = cond (mark == 0) (mark_among n (cond b (id ∷ []) [] ++ unmarked_in es) id) mark;
             branch = branch;
@@ -193,53 +244,61 @@ module _ (v w : List PlainEvent) (same : (c : ℕ) → shown_tree v c ≡ shown_
             comment = comment;
             parents = map (commit_mark v) parents;
             tree = shown_tree w id;
-          } ∷ map (shown_by v n (cond b (id ∷ []) [] ++ unmarked_in es)) (commits_seen w es)
+            aliases = marks_for id al;
+          } ∷ map (shown_by v al n (cond b (id ∷ []) [] ++ unmarked_in es)) (commits_seen w es)
       go true e r =
-          let rest = r (n + 1) ∙ sym (shift_shown v n id (unmarked_in es) (commits_seen w es) (from_first k id a.0 (commits_seen w es) (later w (suc k) es a.1))) in
+          let rest = r (n + 1) ∙ sym (shift_shown v al n id (unmarked_in es) (commits_seen w es) (from_first k id a.0 (commits_seen w es) (later w (suc k) es a.1))) in
           let own : n + 1 ≡ cond (mark == 0) (mark_among n (id ∷ unmarked_in es) id) mark =
           sym (cond-true (mark == 0) (mark_among n (id ∷ unmarked_in es) id) mark e ∙ cond-true (id == id) (n + 1) (mark_among (n + 1) (unmarked_in es) id) (eq-eqb id id refl)) in
-          λ i. record { mark = own i; branch = branch; author = author; committer = committer; encoding = encoding; comment = comment; parents = map (commit_mark v) parents; tree = same id i } ∷ rest i
+          λ i. record { mark = own i; branch = branch; author = author; committer = committer; encoding = encoding; comment = comment; parents = map (commit_mark v) parents; tree = same id i; aliases = marks_are id al i } ∷ rest i
       go false e r =
           let rest = r n in
           let own : mark ≡ cond (mark == 0) (mark_among n (unmarked_in es) id) mark = sym (cond-false (mark == 0) (mark_among n (unmarked_in es) id) mark e) in
-          λ i. record { mark = own i; branch = branch; author = author; committer = committer; encoding = encoding; comment = comment; parents = map (commit_mark v) parents; tree = same id i } ∷ rest i
+          λ i. record { mark = own i; branch = branch; author = author; committer = committer; encoding = encoding; comment = comment; parents = map (commit_mark v) parents; tree = same id i; aliases = marks_are id al i } ∷ rest i
   commits_alike k n (Tag id name target tagger comment mark ∷ es) a = commits_alike (suc k) n es a.1
   commits_alike k n (Reset id branch target ∷ es) a = commits_alike (suc k) n es a.1
   commits_alike k n (Pass id line ∷ es) a = commits_alike (suc k) n es a.1
 
 -- the tags are shown alike
-tags_alike : (v : List PlainEvent) (n : ℕ) (es : List PlainEvent) → shown_tags v (with_marks n es) ≡ map (λ (t : ShownTag). record t { target = commit_mark v t.target }) (tags_seen es)
-tags_alike v n [] = refl
-tags_alike v n (Tag id name target tagger comment mark ∷ es) = ap (λ (l : List ShownTag). record { name = name; target = commit_mark v target; tagger = tagger; comment = comment } ∷ l) (tags_alike v n es)
-tags_alike v n (Blob id mark bytes ∷ es) = go (mark == 0) (λ m. tags_alike v m es)
+tags_alike : (v : List PlainEvent) (al : List (ℕ × ℕ)) (n : ℕ) (es : List PlainEvent) → shown_tags v (with_aliases al (with_marks n es)) ≡ map (λ (t : ShownTag). record t { target = commit_mark v t.target }) (tags_seen es)
+tags_alike v al n [] = refl
+tags_alike v al n (Tag id name target tagger comment mark ∷ es) = ap (λ (l : List ShownTag). record { name = name; target = commit_mark v target; tagger = tagger; comment = comment; mark = mark } ∷ l) (tags_alike v al n es)
+tags_alike v al n (Blob id mark bytes ∷ es) = go (mark == 0) (λ m. tags_alike v al m es)
   where
-    go : (b : Bool) → ((m : ℕ) → shown_tags v (with_marks m es) ≡ map (λ (t : ShownTag). record t { target = commit_mark v t.target }) (tags_seen es))
-        → shown_tags v (cond b (Blob id (n + 1) bytes ∷ with_marks (n + 1) es) (Blob id mark bytes ∷ with_marks n es)) ≡ map (λ (t : ShownTag). record t { target = commit_mark v t.target }) (tags_seen es)
+    go : (b : Bool) → ((m : ℕ) → shown_tags v (with_aliases al (with_marks m es)) ≡ map (λ (t : ShownTag). record t { target = commit_mark v t.target }) (tags_seen es))
+        → shown_tags v (with_aliases al (cond b (Blob id (n + 1) bytes ∷ with_marks (n + 1) es) (Blob id mark bytes ∷ with_marks n es))) ≡ map (λ (t : ShownTag). record t { target = commit_mark v t.target }) (tags_seen es)
     go true r = r (n + 1)
     go false r = r n
-tags_alike v n (Commit id mark branch author committer encoding comment parents ops aliases ∷ es) = go (mark == 0) (λ m. tags_alike v m es)
+tags_alike v al n (Commit id mark branch author committer encoding comment parents ops aliases ∷ es) = go (mark == 0) (λ m. tags_alike v al m es)
   where
-    go : (b : Bool) → ((m : ℕ) → shown_tags v (with_marks m es) ≡ map (λ (t : ShownTag). record t { target = commit_mark v t.target }) (tags_seen es))
-        → shown_tags v (cond b (Commit id (n + 1) branch author committer encoding comment parents ops aliases ∷ with_marks (n + 1) es) (Commit id mark branch author committer encoding comment parents ops aliases ∷ with_marks n es))
+    go : (b : Bool) → ((m : ℕ) → shown_tags v (with_aliases al (with_marks m es)) ≡ map (λ (t : ShownTag). record t { target = commit_mark v t.target }) (tags_seen es))
+        → shown_tags v (with_aliases al (cond b (Commit id (n + 1) branch author committer encoding comment parents ops aliases ∷ with_marks (n + 1) es) (Commit id mark branch author committer encoding comment parents ops aliases ∷ with_marks n es)))
         ≡ map (λ (t : ShownTag). record t { target = commit_mark v t.target }) (tags_seen es)
     go true r = r (n + 1)
     go false r = r n
-tags_alike v n (Reset id branch target ∷ es) = tags_alike v n es
-tags_alike v n (Pass id line ∷ es) = tags_alike v n es
+tags_alike v al n (Reset id branch target ∷ es) = tags_alike v al n es
+tags_alike v al n (Pass id line ∷ es) = tags_alike v al n es
 
--- what is replayed of a history's events shows what the history shows with its marks
-pub shown_alike : (es : List PlainEvent) → ArePlaced 1 es → shown_of (seen_of es) ≡ snapshot (with_marks (greatest_mark es) es)
-shown_alike es a = sym (λ i. record { commits = commits i; tags = tags i; refs = tips i })
-  where
-    marks : (c : ℕ) → commit_mark (with_marks (greatest_mark es) es) c ≡ mark_of_number (seen_of es) c
-    marks c = mark_alike es 1 (greatest_mark es) es a c
+-- what is replayed of a history's events and aliases shows what the history shows with its marks
+module _ (es : List PlainEvent) (al : List (ℕ × ℕ)) (a : ArePlaced 1 es) where
+  abbrev top : ℕ
+  top = greatest_of (greatest_mark es) (alias_marks al)
 
-    commits : shown_commits (with_marks (greatest_mark es) es) (with_marks (greatest_mark es) es) ≡ (shown_of (seen_of es)).commits
-    commits = commits_alike (with_marks (greatest_mark es) es) es (tree_same (greatest_mark es) es) 1 (greatest_mark es) es a
-        ∙ (λ i. map (λ (c : Numbered). record c.commit { mark = mark_by (greatest_mark es) (unmarked_in es) c; parents = map (λ p. marks p i) c.commit.parents }) (commits_seen es es))
+  abbrev made : List PlainEvent
+  made = with_aliases al (with_marks top es)
 
-    tags : shown_tags (with_marks (greatest_mark es) es) (with_marks (greatest_mark es) es) ≡ (shown_of (seen_of es)).tags
-    tags = tags_alike (with_marks (greatest_mark es) es) (greatest_mark es) es ∙ (λ i. map (λ (t : ShownTag). record t { target = marks t.target i }) (tags_seen es))
+  marks_now : (c : ℕ) → commit_mark made c ≡ mark_of_number (seen_with es al) c
+  marks_now c = mark_aliased al (with_marks top es) c ∙ mark_alike es 1 top es a c
 
-    tips : map_tree (commit_mark (with_marks (greatest_mark es) es)) (refs (with_marks (greatest_mark es) es)) ≡ (shown_of (seen_of es)).refs
-    tips = λ i. map_tree (λ c. marks c i) (refs_same [] (greatest_mark es) es i)
+  commits_now : shown_commits made made ≡ (shown_of (seen_with es al)).commits
+  commits_now = commits_alike made es al (λ c. tree_aliased al (with_marks top es) c ∙ tree_same top es c) 1 top es a
+      ∙ (λ i. map (λ (c : Numbered). record c.commit { mark = mark_by top (unmarked_in es) c; parents = map (λ p. marks_now p i) c.commit.parents; aliases = marks_for c.number al }) (commits_seen es es))
+
+  tags_now : shown_tags made made ≡ (shown_of (seen_with es al)).tags
+  tags_now = tags_alike made al top es ∙ (λ i. map (λ (t : ShownTag). record t { target = marks_now t.target i }) (tags_seen es))
+
+  tips_now : map_tree (commit_mark made) (refs made) ≡ (shown_of (seen_with es al)).refs
+  tips_now = λ i. map_tree (λ c. marks_now c i) ((refs_aliased [] al (with_marks top es) ∙ refs_same [] top es) i)
+
+  pub shown_alike : shown_of (seen_with es al) ≡ snapshot made
+  shown_alike = sym (λ i. record { commits = commits_now i; tags = tags_now i; refs = tips_now i })

@@ -206,38 +206,40 @@ Facts word.Operation inline other = (other ≡ true) × (inline ≡ false)
 Facts _ inline other = Unit {0}
 
 -- a word is that of the first test that a line passes
-chosen : (a b c d e f g h i j k l m n o p q r s t : Bool) (w : Word)
-    → (cond a word.Empty (cond b word.Blob (cond c word.Commit (cond d word.Tag (cond e word.Reset (cond f word.Mark (cond g word.Oid (
-    cond h word.Author (cond i word.Committer (cond j word.Encoding (cond k word.Data (cond l word.From (cond m word.Merge (cond n word.Tagger (
-    cond o word.InlineOperation (cond p word.Operation (cond q word.FeatureDone (cond r word.Pass (cond s word.Done (cond t word.LeftOut word.Other)))))))))))))))))))) ≡ w → Facts w o p
-chosen true b c d e f g h i j k l m n o p q r s t w x = subst (λ v. Facts v o p) x tt
-chosen false true c d e f g h i j k l m n o p q r s t w x = subst (λ v. Facts v o p) x tt
-chosen false false true d e f g h i j k l m n o p q r s t w x = subst (λ v. Facts v o p) x tt
-chosen false false false true e f g h i j k l m n o p q r s t w x = subst (λ v. Facts v o p) x tt
-chosen false false false false true f g h i j k l m n o p q r s t w x = subst (λ v. Facts v o p) x tt
-chosen false false false false false true g h i j k l m n o p q r s t w x = subst (λ v. Facts v o p) x tt
-chosen false false false false false false true h i j k l m n o p q r s t w x = subst (λ v. Facts v o p) x tt
-chosen false false false false false false false true i j k l m n o p q r s t w x = subst (λ v. Facts v o p) x tt
-chosen false false false false false false false false true j k l m n o p q r s t w x = subst (λ v. Facts v o p) x tt
-chosen false false false false false false false false false true k l m n o p q r s t w x = subst (λ v. Facts v o p) x tt
-chosen false false false false false false false false false false true l m n o p q r s t w x = subst (λ v. Facts v o p) x tt
-chosen false false false false false false false false false false false true m n o p q r s t w x = subst (λ v. Facts v o p) x tt
-chosen false false false false false false false false false false false false true n o p q r s t w x = subst (λ v. Facts v o p) x tt
-chosen false false false false false false false false false false false false false true o p q r s t w x = subst (λ v. Facts v o p) x tt
-chosen false false false false false false false false false false false false false false true p q r s t w x = subst (λ v. Facts v true p) x refl
-chosen false false false false false false false false false false false false false false false true q r s t w x = subst (λ v. Facts v false true) x (refl, refl)
-chosen false false false false false false false false false false false false false false false false true r s t w x = subst (λ v. Facts v false false) x tt
-chosen false false false false false false false false false false false false false false false false false true s t w x = subst (λ v. Facts v false false) x tt
-chosen false false false false false false false false false false false false false false false false false false true t w x = subst (λ v. Facts v false false) x tt
-chosen false false false false false false false false false false false false false false false false false false false true w x = subst (λ v. Facts v false false) x tt
-chosen false false false false false false false false false false false false false false false false false false false false w x = subst (λ v. Facts v false false) x tt
+chosen : (a b c d e f g h i j k l m n y z o p q r s t : Bool) (w : Word)
+    → (cond a word.Empty (cond b word.Blob (cond c word.Commit (cond d word.Tag (cond e word.Reset (cond f word.Mark (cond g word.Oid
+    (cond h word.Author (cond i word.Committer (cond j word.Encoding (cond k word.Data (cond l word.From (cond m word.Merge (cond n word.Tagger
+    (cond y word.Alias (cond z word.To (cond o word.InlineOperation (cond p word.Operation (cond q word.FeatureDone (cond r word.Pass (cond s word.Done (cond t word.LeftOut word.Other)))))))))))))))))))))) ≡ w → Facts w o p
+chosen true b c d e f g h i j k l m n y z o p q r s t w x = subst (λ v. Facts v o p) x tt
+chosen false true c d e f g h i j k l m n y z o p q r s t w x = subst (λ v. Facts v o p) x tt
+chosen false false true d e f g h i j k l m n y z o p q r s t w x = subst (λ v. Facts v o p) x tt
+chosen false false false true e f g h i j k l m n y z o p q r s t w x = subst (λ v. Facts v o p) x tt
+chosen false false false false true f g h i j k l m n y z o p q r s t w x = subst (λ v. Facts v o p) x tt
+chosen false false false false false true g h i j k l m n y z o p q r s t w x = subst (λ v. Facts v o p) x tt
+chosen false false false false false false true h i j k l m n y z o p q r s t w x = subst (λ v. Facts v o p) x tt
+chosen false false false false false false false true i j k l m n y z o p q r s t w x = subst (λ v. Facts v o p) x tt
+chosen false false false false false false false false true j k l m n y z o p q r s t w x = subst (λ v. Facts v o p) x tt
+chosen false false false false false false false false false true k l m n y z o p q r s t w x = subst (λ v. Facts v o p) x tt
+chosen false false false false false false false false false false true l m n y z o p q r s t w x = subst (λ v. Facts v o p) x tt
+chosen false false false false false false false false false false false true m n y z o p q r s t w x = subst (λ v. Facts v o p) x tt
+chosen false false false false false false false false false false false false true n y z o p q r s t w x = subst (λ v. Facts v o p) x tt
+chosen false false false false false false false false false false false false false true y z o p q r s t w x = subst (λ v. Facts v o p) x tt
+chosen false false false false false false false false false false false false false false true z o p q r s t w x = subst (λ v. Facts v o p) x tt
+chosen false false false false false false false false false false false false false false false true o p q r s t w x = subst (λ v. Facts v o p) x tt
+chosen false false false false false false false false false false false false false false false false true p q r s t w x = subst (λ v. Facts v true p) x refl
+chosen false false false false false false false false false false false false false false false false false true q r s t w x = subst (λ v. Facts v false true) x (refl, refl)
+chosen false false false false false false false false false false false false false false false false false false true r s t w x = subst (λ v. Facts v false false) x tt
+chosen false false false false false false false false false false false false false false false false false false false true s t w x = subst (λ v. Facts v false false) x tt
+chosen false false false false false false false false false false false false false false false false false false false false true t w x = subst (λ v. Facts v false false) x tt
+chosen false false false false false false false false false false false false false false false false false false false false false true w x = subst (λ v. Facts v false false) x tt
+chosen false false false false false false false false false false false false false false false false false false false false false false w x = subst (λ v. Facts v false false) x tt
 
 facts : (line : Bytes) (w : Word) → word_of line ≡ w → Facts w (bytes_eq (first_word line) (codes "M") && is_inline line) (is_operation (first_word line) || bytes_eq line (codes "deleteall"))
 facts line w h =
     let first = first_word line in
     chosen (bytes_eq line []) (bytes_eq line (codes "blob")) (bytes_eq first (codes "commit")) (bytes_eq first (codes "tag")) (bytes_eq first (codes "reset")) (bytes_eq first (codes "mark"))
     (has_text (codes "original-oid") line) (bytes_eq first (codes "author")) (bytes_eq first (codes "committer")) (has_text (codes "encoding") line) (bytes_eq first (codes "data"))
-    (bytes_eq first (codes "from")) (bytes_eq first (codes "merge")) (bytes_eq first (codes "tagger")) (bytes_eq first (codes "M") && is_inline line)
+    (bytes_eq first (codes "from")) (bytes_eq first (codes "merge")) (bytes_eq first (codes "tagger")) (bytes_eq line (codes "alias")) (bytes_eq first (codes "to")) (bytes_eq first (codes "M") && is_inline line)
     (is_operation first || bytes_eq line (codes "deleteall")) (bytes_eq line (codes "feature done"))
     (has_text (codes "progress") line || has_text (codes "feature") line || has_text (codes "option") line || bytes_eq line (codes "checkpoint"))
     (bytes_eq line (codes "done")) (is_left_out_word first) w h

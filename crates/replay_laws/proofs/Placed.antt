@@ -1,7 +1,7 @@
 -- Events whose ids are given by place: what marks and ids find among them, and one more event.
 use Rattle.std.proofs.Common.{◌≡◌, ℕ, suc, ◌+◌, ◌<◌, ◌≤◌, Bool, true, false, cond, List, [], ◌∷◌, ◌++◌, length, reverse, refl, sym, ap, ◌∙◌, Option, Some, None, arith, eqb-true, eq-eqb, ne_eqb, max}
 use Rattle.std.specs.Prelude.{◌==◌, ◌||◌, option_map, option_and_then}
-use Rattle.std.specs.List.{fold}
+use Rattle.std.specs.List.{AllByRecursion, fold}
 use Rattle.std.proofs.lemmas.Bool.{cond-true, cond-false, or_parts}
 use Rattle.std.proofs.lemmas.List.{reverse-append}
 use Rattle.plain_model.specs.declared.event.PlainEvent.{PlainEvent}
@@ -9,9 +9,10 @@ use Rattle.plain_model.specs.declared.event.PlainEvent.TheVariants.{Blob, Commit
 use Rattle.plain_model.specs.Paths.{Bytes}
 use Rattle.plain_model.specs.Trees.{TreeOf, put}
 use Rattle.plain_model.specs.Histories.{Node, Past, nodes, past, tree_in, knows}
-use Rattle.plain_model.specs.Lookups.{mark_number, greatest_mark}
+use Rattle.plain_model.specs.Lookups.{greatest_mark, greatest_of, top_mark}
 use Rattle.plain_model.specs.Snapshots.{ShownTag, blob_bytes, shown, map_tree, shown_tree, refs, refs_after}
-use Rattle.plain_model.specs.Streams.{blob_marked, commit_marked}
+use Rattle.plain_model.specs.Streams.{blob_marked, commit_marked, is_among}
+use Rattle.stream_grammar.specs.Known.{alias_marks}
 use Rattle.replay_laws.specs.Replay.{Numbered, Replayed, bytes_marked, number_marked, commit_numbered, files_of}
 
 abbrev pub event_id : PlainEvent → ℕ
@@ -52,11 +53,12 @@ apart_ids k n id c is h = ne_eqb id c (λ e. omega arith)
 -- the commit that a mark finds has a place
 pub commit_place : (k : ℕ) (es : List PlainEvent) → ArePlaced k es → (m c : ℕ) → commit_marked es m ≡ Some c → Within k (length es) c
 commit_place k [] a m c h = absurd cc
-commit_place k (Commit id mark branch author committer encoding comment parents ops aliases ∷ es) a m c h = go (mark == m) h (λ x. commit_place (suc k) es a.1 m c x)
+commit_place k (Commit id mark branch author committer encoding comment parents ops aliases ∷ es) a m c h = go (mark == m) (is_among aliases m) h (λ x. commit_place (suc k) es a.1 m c x)
   where
-    go : (b : Bool) → cond b (Some id) (commit_marked es m) ≡ Some c → (commit_marked es m ≡ Some c → Within (suc k) (length es) c) → Within k (suc (length es)) c
-    go true y f = first_of_range k (length es) id c a.0 (let is : id ≡ c = cc in is)
-    go false y f = wider k (length es) c (f y)
+    go : (b u : Bool) → cond b (Some id) (cond u (Some id) (commit_marked es m)) ≡ Some c → (commit_marked es m ≡ Some c → Within (suc k) (length es) c) → Within k (suc (length es)) c
+    go true u y f = first_of_range k (length es) id c a.0 (let is : id ≡ c = cc in is)
+    go false true y f = first_of_range k (length es) id c a.0 (let is : id ≡ c = cc in is)
+    go false false y f = wider k (length es) c (f y)
 commit_place k (Blob id mark bytes ∷ es) a m c h = wider k (length es) c (commit_place (suc k) es a.1 m c h)
 commit_place k (Tag id name target tagger comment mark ∷ es) a m c h = wider k (length es) c (commit_place (suc k) es a.1 m c h)
 commit_place k (Reset id branch target ∷ es) a m c h = wider k (length es) c (commit_place (suc k) es a.1 m c h)
@@ -101,7 +103,7 @@ commits_seen whole [] = []
 commits_seen whole (Commit id mark branch author committer encoding comment parents ops aliases ∷ es) =
     record {
       number = id;
-      commit = record { mark = mark; branch = branch; author = author; committer = committer; encoding = encoding; comment = comment; parents = parents; tree = shown_tree whole id };
+      commit = record { mark = mark; branch = branch; author = author; committer = committer; encoding = encoding; comment = comment; parents = parents; tree = shown_tree whole id; aliases = [] };
     } ∷ commits_seen whole es
 commits_seen whole (Blob id mark bytes ∷ es) = commits_seen whole es
 commits_seen whole (Tag id name target tagger comment mark ∷ es) = commits_seen whole es
@@ -110,7 +112,7 @@ commits_seen whole (Pass id line ∷ es) = commits_seen whole es
 
 abbrev pub tags_seen : List PlainEvent → List ShownTag
 tags_seen [] = []
-tags_seen (Tag id name target tagger comment mark ∷ es) = record { name = name; target = target; tagger = tagger; comment = comment } ∷ tags_seen es
+tags_seen (Tag id name target tagger comment mark ∷ es) = record { name = name; target = target; tagger = tagger; comment = comment; mark = mark } ∷ tags_seen es
 tags_seen (Blob id mark bytes ∷ es) = tags_seen es
 tags_seen (Commit id mark branch author committer encoding comment parents ops aliases ∷ es) = tags_seen es
 tags_seen (Reset id branch target ∷ es) = tags_seen es
@@ -135,18 +137,36 @@ seen_of es = record {
   commits = commits_seen es es;
   tags = tags_seen es;
   tips = refs es;
+  aliases = [];
   unmarked = unmarked_in es;
   greatest = greatest_mark es;
 }
 
+-- the same with aliases
+abbrev pub with_further : List (ℕ × ℕ) → Replayed → Replayed
+with_further aliases r = record r { aliases = aliases; greatest = greatest_of r.greatest (alias_marks aliases) }
+
+abbrev pub seen_with : List PlainEvent → List (ℕ × ℕ) → Replayed
+seen_with es aliases = with_further aliases (seen_of es)
+
+-- a commit has its aliases beside it
+abbrev pub IsBare : PlainEvent → Type 0
+IsBare (Commit id mark branch author committer encoding comment parents ops aliases) = aliases ≡ []
+IsBare (Blob id mark bytes) = Unit {0}
+IsBare (Tag id name target tagger comment mark) = Unit {0}
+IsBare (Reset id branch target) = Unit {0}
+IsBare (Pass id line) = Unit {0}
+
 -- a mark finds the same commit
-pub number_alike : (w es : List PlainEvent) (m : ℕ) → number_marked (commits_seen w es) m ≡ commit_marked es m
-number_alike w [] m = refl
-number_alike w (Commit id mark branch author committer encoding comment parents ops aliases ∷ es) m = ap (λ (o : Option ℕ). cond (mark == m) (Some id) o) (number_alike w es m)
-number_alike w (Blob id mark bytes ∷ es) m = number_alike w es m
-number_alike w (Tag id name target tagger comment mark ∷ es) m = number_alike w es m
-number_alike w (Reset id branch target ∷ es) m = number_alike w es m
-number_alike w (Pass id line ∷ es) m = number_alike w es m
+pub number_alike : (w es : List PlainEvent) → AllByRecursion IsBare es → (m : ℕ) → number_marked (commits_seen w es) m ≡ commit_marked es m
+number_alike w [] b m = refl
+number_alike w (Commit id mark branch author committer encoding comment parents ops aliases ∷ es) b m =
+    ap (λ (o : Option ℕ). cond (mark == m) (Some id) o) (number_alike w es b.1 m)
+    ∙ sym (ap (λ (l : List ℕ). cond (mark == m) (Some id) (cond (is_among l m) (Some id) (commit_marked es m))) b.0)
+number_alike w (Blob id mark bytes ∷ es) b m = number_alike w es b.1 m
+number_alike w (Tag id name target tagger comment mark ∷ es) b m = number_alike w es b.1 m
+number_alike w (Reset id branch target ∷ es) b m = number_alike w es b.1 m
+number_alike w (Pass id line ∷ es) b m = number_alike w es b.1 m
 
 -- a number finds the files of its commit among some events
 files_among : (w es : List PlainEvent) (c : ℕ) → files_of (commits_seen w es) c ≡ cond (knows (nodes es) c) (shown_tree w c) None
@@ -156,7 +176,7 @@ files_among w (Commit id mark branch author committer encoding comment parents o
     one : Numbered
     one = record {
       number = id;
-      commit = record { mark = mark; branch = branch; author = author; committer = committer; encoding = encoding; comment = comment; parents = parents; tree = shown_tree w id };
+      commit = record { mark = mark; branch = branch; author = author; committer = committer; encoding = encoding; comment = comment; parents = parents; tree = shown_tree w id; aliases = [] };
     }
 
     go : (b : Bool) → (id == c) ≡ b → files_of (commits_seen w es) c ≡ cond (knows (nodes es) c) (shown_tree w c) None
@@ -224,7 +244,7 @@ commits_append w [] b = refl
 commits_append w (Commit id mark branch author committer encoding comment parents ops aliases ∷ a) b =
     ap (λ (l : List Numbered). record {
       number = id;
-      commit = record { mark = mark; branch = branch; author = author; committer = committer; encoding = encoding; comment = comment; parents = parents; tree = shown_tree w id };
+      commit = record { mark = mark; branch = branch; author = author; committer = committer; encoding = encoding; comment = comment; parents = parents; tree = shown_tree w id; aliases = [] };
     } ∷ l) (commits_append w a b)
 commits_append w (Blob id mark bytes ∷ a) b = commits_append w a b
 commits_append w (Tag id name target tagger comment mark ∷ a) b = commits_append w a b
@@ -238,7 +258,7 @@ blobs_append (_ ∷ a) b = blobs_append a b
 
 pub tags_append : (a b : List PlainEvent) → tags_seen (a ++ b) ≡ tags_seen a ++ tags_seen b
 tags_append [] b = refl
-tags_append (Tag id name target tagger comment mark ∷ a) b = ap (λ (l : List ShownTag). record { name = name; target = target; tagger = tagger; comment = comment } ∷ l) (tags_append a b)
+tags_append (Tag id name target tagger comment mark ∷ a) b = ap (λ (l : List ShownTag). record { name = name; target = target; tagger = tagger; comment = comment; mark = mark } ∷ l) (tags_append a b)
 tags_append (_ ∷ a) b = tags_append a b
 
 -- two lists after a third
@@ -250,10 +270,23 @@ pub unmarked_append : (a b : List PlainEvent) → unmarked_in (a ++ b) ≡ unmar
 unmarked_append [] b = refl
 unmarked_append (e ∷ a) b = ap (λ (l : List ℕ). own_unmarked e ++ l) (unmarked_append a b) ∙ joined_twice (own_unmarked e) (unmarked_in a) (unmarked_in b)
 
+-- the greatest of some marks and one more
+pub greatest_turned : (g m : ℕ) (marks : List ℕ) → greatest_of (max g m) marks ≡ max (greatest_of g marks) m
+greatest_turned g m [] = refl
+greatest_turned g m (x ∷ marks) = ap (λ n. greatest_of n marks) (max_turned g m x) ∙ greatest_turned (max g x) m marks
+  where
+    max_turned : (a b c : ℕ) → max (max a b) c ≡ max (max a c) b
+    max_turned a b c = omega arith
+
+-- one alias more
+pub greatest_alias : (g : ℕ) (aliases : List (ℕ × ℕ)) (x : ℕ × ℕ) → greatest_of g (alias_marks (aliases ++ x ∷ [])) ≡ max (greatest_of g (alias_marks aliases)) x.0
+greatest_alias g [] x = refl
+greatest_alias g (a ∷ aliases) x = greatest_alias (max g a.0) aliases x
+
 -- one more mark
-pub greatest_more : (n : ℕ) (a : List PlainEvent) (e : PlainEvent) → fold (λ m x. max m (mark_number x)) n (a ++ e ∷ []) ≡ max (fold (λ m x. max m (mark_number x)) n a) (mark_number e)
+pub greatest_more : (n : ℕ) (a : List PlainEvent) (e : PlainEvent) → fold (λ m x. max m (top_mark x)) n (a ++ e ∷ []) ≡ max (fold (λ m x. max m (top_mark x)) n a) (top_mark e)
 greatest_more n [] e = refl
-greatest_more n (x ∷ a) e = greatest_more (max n (mark_number x)) a e
+greatest_more n (x ∷ a) e = greatest_more (max n (top_mark x)) a e
 
 -- an id that none of the blobs after has
 pub bytes_still : (a b : List PlainEvent) (c : ℕ) → blob_bytes b c ≡ [] → blob_bytes (a ++ b) c ≡ blob_bytes a c

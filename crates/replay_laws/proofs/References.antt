@@ -1,6 +1,8 @@
 -- References name the same commits, and a commit begins with the same files.
 use Rattle.std.proofs.Common.{◌≡◌, ℕ, ◌+◌, ◌<◌, Bool, true, false, cond, List, [], ◌∷◌, length, refl, sym, ap, ◌∙◌, Option, Some, None, Result, Ok, Err, arith, option_to_list}
-use Rattle.std.specs.Prelude.{codes}
+use Rattle.std.specs.Prelude.{◌==◌, codes}
+use Rattle.std.specs.List.{AllByRecursion}
+use Rattle.std.specs.Map.{lookup}
 use Rattle.plain_model.specs.declared.fault.Why.{Why}
 use Rattle.plain_model.specs.declared.fault.Why.TheVariants.{BadMark, UnknownMark, UnknownRef, LeftOut}
 use Rattle.plain_model.specs.declared.event.PlainEvent.{PlainEvent}
@@ -10,35 +12,62 @@ use Rattle.plain_model.specs.Paths.{Bytes, is_empty}
 use Rattle.plain_model.specs.Trees.{TreeOf, at}
 use Rattle.plain_model.specs.Snapshots.{Shown, shown_tree, refs}
 use Rattle.plain_model.specs.Streams.{commit_marked}
-use Rattle.stream_grammar.specs.Known.{is_left_out_ref, ref_in}
-use Rattle.replay_laws.specs.Replay.{first_files, number_marked, commit_named}
+use Rattle.stream_grammar.specs.Known.{commit_with, is_left_out_ref, ref_in}
+use Rattle.replay_laws.specs.Replay.{first_files, further_marked, number_marked, number_with, commit_named}
 use Rattle.history_laws.proofs.TreeMapping.{changed_from}
-use Rattle.replay_laws.proofs.Placed.{seen_of, commits_seen, commit_place, files_alike, number_alike}
-use Rattle.replay_laws.proofs.SoFar.{AllBelow, IsSoFar, all_at, files_now}
+use Rattle.replay_laws.proofs.Placed.{seen_of, seen_with, commits_seen, commit_place, files_alike, number_alike}
+use Rattle.replay_laws.proofs.SoFar.{AllBelow, IsRead, IsSoFar, all_at, files_now}
 use Rattle.replay_laws.proofs.Operations.{bind_ok, or_defect_ok}
 
 -- ---- references
 
-module _ (events : List PlainEvent) (s : IsSoFar events) where
+module _ (events : List PlainEvent) (aliases : List (ℕ × ℕ)) (r : IsRead events aliases) where
+  abbrev s : IsSoFar events
+  s = r.so_far
+
+  further_alike : (further : List (ℕ × ℕ)) (mark : ℕ) → further_marked further mark ≡ lookup (λ a. a == mark) further
+  further_alike [] mark = refl
+  further_alike (a ∷ further) mark = ap (λ (o : Option ℕ). cond (a.0 == mark) (Some a.1) o) (further_alike further mark)
+
+  -- a mark names the same commit
+  mark_names_alike : (mark : ℕ) → number_with (seen_with events aliases) mark ≡ commit_with events aliases mark
+  mark_names_alike mark =
+      ap (λ (o : Option ℕ). elim o [ Some commit ↦ Some commit | None ↦ further_marked aliases mark ]) (number_alike events events s.bare mark)
+      ∙ ap (λ (o : Option ℕ). elim (commit_marked events mark) [ Some commit ↦ Some commit | None ↦ o ]) (further_alike aliases mark)
+
+  further_below : (further : List (ℕ × ℕ)) → AllByRecursion (λ (a : ℕ × ℕ). a.1 < length events + 1) further → (mark c : ℕ) → lookup (λ a. a == mark) further ≡ Some c → c < length events + 1
+  further_below [] b mark c h = absurd cc
+  further_below (a ∷ further) b mark c h = go (a.0 == mark) h (further_below further b.1 mark c)
+    where
+      go : (t : Bool) → cond t (Some a.1) (lookup (λ x. x == mark) further) ≡ Some c → (lookup (λ x. x == mark) further ≡ Some c → c < length events + 1) → c < length events + 1
+      go true x f = let is : a.1 ≡ c = cc in let low = b.0 in omega arith
+      go false x f = f x
+
+  mark_names_below : (mark c : ℕ) → commit_with events aliases mark ≡ Some c → c < length events + 1
+  mark_names_below mark c h = go (commit_marked events mark) refl h
+    where
+      go : (o : Option ℕ) → commit_marked events mark ≡ o → elim o [ Some commit ↦ Some commit | None ↦ lookup (λ a. a == mark) aliases ] ≡ Some c → c < length events + 1
+      go (Some x) e h = let place = commit_place 1 events s.placed mark c (e ∙ h) in omega arith
+      go None e h = further_below aliases r.named mark c h
+
   -- a reference names the same commit
   abbrev pub NamesAlike : Bytes → ℕ → Type 0
-  NamesAlike text commit = (commit_named (seen_of events) text ≡ Some commit) × (commit < length events + 1)
+  NamesAlike text commit = (commit_named (seen_with events aliases) text ≡ Some commit) × (commit < length events + 1)
 
-  marked_alike : (text : Bytes) (commit : ℕ) → (mark_in text >>= λ mark. or_defect_of UnknownMark (commit_marked events mark)) ≡ Ok commit
-      → (elim (mark_in text) [ Ok mark ↦ number_marked (commits_seen events events) mark | Err why ↦ None ] ≡ Some commit) × (commit < length events + 1)
+  marked_alike : (text : Bytes) (commit : ℕ) → (mark_in text >>= λ mark. or_defect_of UnknownMark (commit_with events aliases mark)) ≡ Ok commit
+      → (elim (mark_in text) [ Ok mark ↦ number_with (seen_with events aliases) mark | Err why ↦ None ] ≡ Some commit) × (commit < length events + 1)
   marked_alike text commit h =
       let a = bind_ok (mark_in text) _ commit h in
-      let found = or_defect_ok UnknownMark (commit_marked events a.0) commit a.2 in
-      let place = commit_place 1 events s.placed a.0 commit found in (
-        ap (λ (r : Result ℕ Why). elim r [ Ok mark ↦ number_marked (commits_seen events events) mark | Err why ↦ None ]) a.1 ∙ number_alike events events a.0 ∙ found,
-        omega arith,
+      let found = or_defect_ok UnknownMark (commit_with events aliases a.0) commit a.2 in (
+        ap (λ (r : Result ℕ Why). elim r [ Ok mark ↦ number_with (seen_with events aliases) mark | Err why ↦ None ]) a.1 ∙ mark_names_alike a.0 ∙ found,
+        mark_names_below a.0 commit found,
       )
 
-  pub named_alike : (text : Bytes) (commit : ℕ) → ref_in events text ≡ Ok commit → NamesAlike text commit
+  pub named_alike : (text : Bytes) (commit : ℕ) → ref_in events aliases text ≡ Ok commit → NamesAlike text commit
   named_alike text commit h = go (is_empty text) (is_left_out_ref text) (begins (codes ":") text) h
     where
-      go : (a b c : Bool) → cond a (Err BadMark) (cond b (Err LeftOut) (cond c (mark_in text >>= λ mark. or_defect_of UnknownMark (commit_marked events mark)) (or_defect_of UnknownRef (at (refs events) text)))) ≡ Ok commit
-          → (cond c (elim (mark_in text) [ Ok mark ↦ number_marked (commits_seen events events) mark | Err why ↦ None ]) (at (refs events) text) ≡ Some commit) × (commit < length events + 1)
+      go : (a b c : Bool) → cond a (Err BadMark) (cond b (Err LeftOut) (cond c (mark_in text >>= λ mark. or_defect_of UnknownMark (commit_with events aliases mark)) (or_defect_of UnknownRef (at (refs events) text)))) ≡ Ok commit
+          → (cond c (elim (mark_in text) [ Ok mark ↦ number_with (seen_with events aliases) mark | Err why ↦ None ]) (at (refs events) text) ≡ Some commit) × (commit < length events + 1)
       go true b c x = absurd cc
       go false true c x = absurd cc
       go false false true x = marked_alike text commit x

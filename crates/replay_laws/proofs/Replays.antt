@@ -16,15 +16,15 @@ use Rattle.stream_grammar.specs.declared.lines.Standing.{Standing}
 use Rattle.stream_grammar.specs.declared.lines.Word.{Word}
 use Rattle.stream_grammar.specs.declared.lines.Word.TheVariants as word
 use Rattle.stream_grammar.specs.Known.{Known, Open, closed, history_of}
-use Rattle.stream_grammar.specs.Known.Open.{Nothing, ABlob, ACommit, ATag, AReset}
+use Rattle.stream_grammar.specs.Known.Open.{Nothing, ABlob, ACommit, ATag, AReset, AnAlias}
 use Rattle.stream_grammar.specs.Lines.{State, stream, is_comment, word_of, must_go_on, after_word, next_by, next_of, judged, word_step, line_step, data_arrived, is_inline_expected, history_read, history_in}
 use Rattle.replay_laws.specs.Replay.{Reading, Replaying, replaying, ended, after_line, after_data, shown_of, replay_read, replay_in}
 use Rattle.replay_laws.specs.Replay.{word_step as replay_step, with_blob, with_inline}
-use Rattle.replay_laws.specs.Replay.Reading.{NoEvent, InBlob, InCommit, InTag, InReset}
+use Rattle.replay_laws.specs.Replay.Reading.{NoEvent, InBlob, InCommit, InTag, InReset, InAlias}
 use Rattle.replay_laws.proofs.InStep.{Place, place_after, reads_alike}
 use Rattle.replay_laws.proofs.InStep.Place.{AtLine, AtBlock, AtEnd}
-use Rattle.replay_laws.proofs.Placed.{seen_of}
-use Rattle.replay_laws.proofs.SoFar.{IsSoFar}
+use Rattle.replay_laws.proofs.Placed.{seen_with}
+use Rattle.replay_laws.proofs.SoFar.{IsRead}
 use Rattle.replay_laws.proofs.Operations.{bind_ok, bind_to, ok_same}
 use Rattle.replay_laws.proofs.Standings.{no_wait, data_expected, no_end, still_before}
 use Rattle.replay_laws.proofs.Twins.{reading_of, Waits, HasFiles, Goes, Became, settled, ends_alike, arrives}
@@ -37,7 +37,8 @@ data_goes : (old standing : Standing) (events : List PlainEvent) (current : Open
     → Goes AtLine old.expected events current files waiting → Goes AtBlock standing.expected events current files waiting
 data_goes old standing events Nothing files waiting h g = tt
 data_goes old standing events (ABlob mark) files waiting h g = tt
-data_goes old standing events (ATag name target tagger) files waiting h g = tt
+data_goes old standing events (ATag name target tagger mark) files waiting h g = tt
+data_goes old standing events (AnAlias mark) files waiting h g = tt
 data_goes old standing events (AReset branch None) files waiting h g = tt
 data_goes old standing events (AReset branch (Some c)) files waiting h g = g
 data_goes old standing events (ACommit c) files waiting h g = record { below = g.below; first = λ b. g.first (still_before old standing word.Data refl old.expected h b); has_files = has waiting g.has_files }
@@ -74,6 +75,8 @@ not_waiting old standing word.InlineOperation d h e = no_wait old standing word.
 not_waiting old standing word.Pass d h e = no_wait old standing word.Pass refl h e
 not_waiting old standing word.FeatureDone d h e = no_wait old standing word.FeatureDone refl h e
 not_waiting old standing word.Done d h e = no_wait old standing word.Done refl h e
+not_waiting old standing word.Alias d h e = no_wait old standing word.Alias refl h e
+not_waiting old standing word.To d h e = no_wait old standing word.To refl h e
 not_waiting old standing word.Other d h e = no_wait old standing word.Other refl h e
 
 -- the place after a line is that of its word
@@ -94,16 +97,16 @@ IsTwin p s t = (t.standing ≡ s.standing) × Became p s.standing s.known t
 
 -- the replay that goes with what is known
 abbrev replay_of : Standing → Known → Option (TreeOf Shown) → Option (Mode × Bytes) → Replaying
-replay_of standing k files waiting = record { standing = standing; replayed = seen_of k.events; reading = reading_of k.current files waiting }
+replay_of standing k files waiting = record { standing = standing; replayed = seen_with k.events k.aliases; reading = reading_of k.current files waiting }
 
-module _ (old : Standing) (k : Known) (files : Option (TreeOf Shown)) (waiting : Option (Mode × Bytes)) (s : IsSoFar k.events) (g : Goes AtLine old.expected k.events k.current files waiting) where
+module _ (old : Standing) (k : Known) (files : Option (TreeOf Shown)) (waiting : Option (Mode × Bytes)) (s : IsRead k.events k.aliases) (g : Goes AtLine old.expected k.events k.current files waiting) where
   goes_on : (standing : Standing) (line : Bytes) (w : Word) → word_of line ≡ w → after_word old w ≡ Ok standing → (known : Known) → judged w line k ≡ Ok known
       → Became (place_of w) standing known (after_line w line (replay_of old k files waiting))
   goes_on standing line w is h known j = elim (is_data w) [
     | inl d ↦ subst (λ v. Became (place_of v) standing known (after_line v line (replay_of old k files waiting))) (sym d) (of_data (subst (λ v. after_word old v ≡ Ok standing) d h) (subst (λ v. judged v line k ≡ Ok known) d j))
     | inr d ↦
         let n = settled AtLine old.expected k.events k.current files waiting (not_waiting old standing w d h) g in
-        subst (λ q. Became (place_of w) standing known (after_line w line (record { standing = old; replayed = seen_of k.events; reading = q }))) (sym n.0) (line_goes old standing k files s n.1 line w is d h known j)
+        subst (λ q. Became (place_of w) standing known (after_line w line (record { standing = old; replayed = seen_with k.events k.aliases; reading = q }))) (sym n.0) (line_goes old standing k files s n.1 line w is d h known j)
   ]
     where
       of_data : after_word old word.Data ≡ Ok standing → judged word.Data line k ≡ Ok known → Became AtBlock standing known (replay_of old k files waiting)
@@ -166,12 +169,13 @@ stands bytes t = go t.reading
         inline : (b : Bool) → (cond {A = Replaying} b (record { standing = t.standing; replayed = with_blob t.replayed 0 bytes; reading = InCommit (with_inline bytes c) }) (record { standing = t.standing; replayed = t.replayed; reading = InCommit (record c { comment = bytes }) })).standing ≡ t.standing
         inline true = refl
         inline false = refl
-    go (InTag name target tagger) = refl
+    go (InTag name target tagger mark) = refl
+    go (InAlias mark) = refl
     go (InReset branch target) = refl
 
 arrived : (s : State) (t : Replaying) (bytes : Bytes) → IsTwin AtBlock s t → IsTwin AtLine (data_arrived s bytes) (after_data bytes t)
 arrived s t bytes h = subst (λ q. IsTwin AtLine (data_arrived s bytes) (after_data bytes q)) (sym (is_replay AtBlock s t h))
-    (stands bytes (replay_of s.standing s.known h.1.0 h.1.1), arrives s.standing s.known.events h.1.4 bytes s.known.current h.1.0 h.1.1 h.1.5)
+    (stands bytes (replay_of s.standing s.known h.1.0 h.1.1), arrives s.standing s.known.events s.known.aliases h.1.4 bytes s.known.current h.1.0 h.1.1 h.1.5)
 
 -- ---- the end
 
@@ -184,13 +188,13 @@ shows p s t n h =
     let k = s.known in
     let none = settled p s.standing.expected k.events k.current h.1.0 h.1.1 n h.1.5 in
     let end = ends_alike p s.standing.expected k h.1.0 h.1.4 none.1 in
-    ap shown_of ((λ i. ended (h.1.2 i) ((h.1.3 ∙ none.0) i)) ∙ end.0) ∙ shown_alike (closed k) end.1.placed
+    ap shown_of ((λ i. ended (h.1.2 i) ((h.1.3 ∙ none.0) i)) ∙ end.0) ∙ shown_alike (closed k) k.aliases end.1.so_far.placed
 
 replay_shows : (bytes : Bytes) (o : Outcome State Why) → outcome stream all bytes ≡ o → (history : List PlainEvent) → history_read o ≡ Some history → replay_in bytes ≡ Some (snapshot history)
 replay_shows bytes (Refuses n why) x history h = absurd cc
 replay_shows bytes (Misses n) x history h = absurd cc
 replay_shows bytes (Reads s) x history h =
-    let r = reads_alike stream replaying IsTwin ShowsAlike (refl, (None, None, refl, refl, record { placed = tt; below = tt; tips = tt }, tt)) steps arrived
+    let r = reads_alike stream replaying IsTwin ShowsAlike (refl, (None, None, refl, refl, record { so_far = record { placed = tt; below = tt; tips = tt; bare = tt }; named = tt }, tt)) steps arrived
     (λ u t g. ap must_go_on (sym g.0)) (λ u t g e. shows AtLine u t (no_end u.standing e) g) (λ u t g. shows AtEnd u t (λ e. e) g) bytes s x in
     ap replay_read r.1 ∙ ap (λ (q : Snapshot). Some q) r.2 ∙ ap (λ (o : Option (List PlainEvent)). elim o [ None ↦ None | Some es ↦ Some (snapshot es) ]) h
 

@@ -20,12 +20,12 @@ use Rattle.plain_model.specs.Paths.{Bytes}
 use Rattle.plain_model.specs.Trees.{TreeOf, Change, Refusal, at, put, where_path, meaning, change, change_all, ◌>>=◌}
 use Rattle.plain_model.specs.Trees.Change.{Put, Remove}
 use Rattle.plain_model.specs.Histories.{Node, Past, nodes, past}
-use Rattle.plain_model.specs.Lookups.{mark_number, greatest_mark}
+use Rattle.plain_model.specs.Lookups.{top_mark, greatest_mark}
 use Rattle.plain_model.specs.Snapshots.{Shown, blob_bytes, shown, shown_tree, refs, refs_after}
 use Rattle.plain_model.specs.Snapshots.ShownContent.{ShownBytes, ShownObject}
 use Rattle.replay_laws.specs.Replay.{Numbered, if_kept, changed_files}
 use Rattle.history_laws.proofs.TreeMapping.{map_change, if_ok_of, changed_from, begun_of, changes_seen, seen, seen_here, seen_other, seen_alike}
-use Rattle.replay_laws.proofs.Placed.{ArePlaced, event_id, placed_more, marked_blobs, commits_seen, tags_seen, unmarked_in, seen_of, nodes_append, refs_append, commits_append, blobs_append, tags_append, unmarked_append, greatest_more, bytes_still}
+use Rattle.replay_laws.proofs.Placed.{ArePlaced, IsBare, event_id, placed_more, marked_blobs, commits_seen, tags_seen, unmarked_in, seen_of, nodes_append, refs_append, commits_append, blobs_append, tags_append, unmarked_append, greatest_more, bytes_still}
 
 -- ---- what the commits refer to
 
@@ -153,10 +153,16 @@ pub record IsSoFar (events : List PlainEvent) : Type 0 where
   pub placed : ArePlaced 1 events
   pub below : AllByRecursion (NodeBelow (length events + 1)) (nodes events)
   pub tips : TipsBelow (length events + 1) (refs events)
+  pub bare : AllByRecursion IsBare events
 
--- an event refers to ids below a number
+-- what is so far, with aliases of its commits
+pub record IsRead (events : List PlainEvent) (aliases : List (ℕ × ℕ)) : Type 0 where
+  pub so_far : IsSoFar events
+  pub named : AllByRecursion (λ (a : ℕ × ℕ). a.1 < length events + 1) aliases
+
+-- an event refers to ids below a number, and a commit has no aliases yet
 abbrev pub RefersBelow : ℕ → PlainEvent → Type 0
-RefersBelow n (Commit id mark branch author committer encoding comment parents ops aliases) = AllBelow n parents × AllBelow n (blobs_of ops)
+RefersBelow n (Commit id mark branch author committer encoding comment parents ops aliases) = AllBelow n parents × AllBelow n (blobs_of ops) × (aliases ≡ [])
 RefersBelow n (Reset id branch (Some c)) = c < n
 RefersBelow n (Reset id branch None) = Unit {0}
 RefersBelow n (Blob id mark bytes) = Unit {0}
@@ -184,7 +190,7 @@ commits_same : (w v es : List PlainEvent) → AllByRecursion (λ c. shown_tree w
 commits_same w v [] a = refl
 commits_same w v (Commit id mark branch author committer encoding comment parents ops aliases ∷ es) a = λ i. record {
   number = id;
-  commit = record { mark = mark; branch = branch; author = author; committer = committer; encoding = encoding; comment = comment; parents = parents; tree = a.0 i };
+  commit = record { mark = mark; branch = branch; author = author; committer = committer; encoding = encoding; comment = comment; parents = parents; tree = a.0 i; aliases = [] };
 } ∷ commits_same w v es a.1 i
 commits_same w v (Blob id mark bytes ∷ es) a = commits_same w v es a
 commits_same w v (Tag id name target tagger comment mark ∷ es) a = commits_same w v es a
@@ -258,8 +264,9 @@ module _ (events : List PlainEvent) (s : IsSoFar events) (e : PlainEvent) (own :
     commits = commits_seen events events ++ commits_seen more (e ∷ []);
     tags = tags_seen events ++ tags_seen (e ∷ []);
     tips = refs_after (refs events) (e ∷ []);
+    aliases = [];
     unmarked = unmarked_in events ++ unmarked_in (e ∷ []);
-    greatest = max (greatest_mark events) (mark_number e);
+    greatest = max (greatest_mark events) (top_mark e);
   }
   seen_more = λ i. record {
     count = length_more i;
@@ -267,6 +274,7 @@ module _ (events : List PlainEvent) (s : IsSoFar events) (e : PlainEvent) (own :
     commits = (commits_append more events (e ∷ []) ∙ ap (λ (l : List Numbered). l ++ commits_seen more (e ∷ [])) commits_kept) i;
     tags = tags_append events (e ∷ []) i;
     tips = refs_append [] events (e ∷ []) i;
+    aliases = [];
     unmarked = unmarked_append events (e ∷ []) i;
     greatest = greatest_more 0 events e i;
   }
@@ -284,12 +292,27 @@ module _ (events : List PlainEvent) (s : IsSoFar events) (e : PlainEvent) (own :
         (nodes_more (length events + 1) (length more + 1) (omega (arith, length_more)) e own r));
     tips = subst (TipsBelow (length more + 1)) (sym (refs_append [] events (e ∷ [])))
         (tips_more (length events + 1) (length more + 1) (omega (arith, length_more)) e own r (refs events) s.tips);
+    bare = all_join IsBare events (e ∷ []) s.bare (own_bare e r, tt);
+  }
+    where
+      own_bare : (e : PlainEvent) → RefersBelow (length events + 1) e → IsBare e
+      own_bare (Commit id mark branch author committer encoding comment parents ops aliases) r = r.2
+      own_bare (Blob id mark bytes) r = tt
+      own_bare (Tag id name target tagger comment mark) r = tt
+      own_bare (Reset id branch target) r = tt
+      own_bare (Pass id line) r = tt
+
+  -- so are aliases of its commits
+  pub read_more : (aliases : List (ℕ × ℕ)) → AllByRecursion (λ (a : ℕ × ℕ). a.1 < length events + 1) aliases → RefersBelow (length events + 1) e → IsRead more aliases
+  read_more aliases named r = record {
+    so_far = so_far_more r;
+    named = all_imply (λ (a : ℕ × ℕ). a.1 < length events + 1) (λ (a : ℕ × ℕ). a.1 < length more + 1) (λ a h. omega (arith, length_more)) aliases named;
   }
 
 module _ (events : List PlainEvent) (s : IsSoFar events) (id mark : ℕ) (branch : Bytes) (author committer : Signed) (encoding : Option Bytes) (comment : Bytes) (parents : List ℕ) (ops : List FileOp)
     (own : id ≡ length events + 1) (known : AllBelow (length events + 1) (blobs_of ops)) where
   abbrev the_commit : PlainEvent
-  the_commit = Commit id mark branch author committer encoding comment parents ops aliases
+  the_commit = Commit id mark branch author committer encoding comment parents ops []
 
   abbrev with_it : List PlainEvent
   with_it = events ++ the_commit ∷ []

@@ -7,7 +7,6 @@ use Rattle.stream_grammar.specs.declared.lines.Expected.{Expected}
 use Rattle.stream_grammar.specs.declared.lines.Expected.TheVariants as expected
 use Rattle.stream_grammar.specs.declared.lines.Follow.{Follow}
 use Rattle.stream_grammar.specs.declared.lines.Follow.TheVariants.{Goes, Missing, Finished}
-use Rattle.stream_grammar.specs.declared.lines.Follow.TheVariants as follow
 use Rattle.stream_grammar.specs.declared.lines.Standing.{Standing}
 use Rattle.stream_grammar.specs.declared.lines.Word.{Word}
 use Rattle.stream_grammar.specs.declared.lines.Word.TheVariants as word
@@ -50,6 +49,7 @@ begins_event word.Blob = true
 begins_event word.Commit = true
 begins_event word.Tag = true
 begins_event word.Reset = true
+begins_event word.Alias = true
 begins_event _ = false
 
 -- what follows is after the beginning of operations
@@ -57,7 +57,6 @@ abbrev is_after : Follow → Bool
 is_after (Goes d) = not (is_before d)
 is_after Missing = true
 is_after Finished = true
-is_after follow.LeftOut = true
 
 after_merge : (w : Word) → is_after (follows expected.CommitMerge w) ≡ true
 after_merge word.Merge = refl
@@ -81,6 +80,7 @@ module _ (s standing : Standing) where
   begun_after word.Commit b h = absurd cc
   begun_after word.Tag b h = absurd cc
   begun_after word.Reset b h = absurd cc
+  begun_after word.Alias b h = absurd cc
   begun_after word.Pass b h = ap (λ (x : Standing). is_before x.expected) (sym (standing_of _ (begun_by s word.Pass) standing h refl))
   begun_after word.FeatureDone b h = ap (λ (x : Standing). is_before x.expected) (sym (standing_of _ (begun_by s word.FeatureDone) standing h refl))
   begun_after word.Done b h = ap (λ (x : Standing). is_before x.expected) (sym (standing_of _ (begun_by s word.Done) standing h refl))
@@ -95,7 +95,6 @@ module _ (s standing : Standing) where
   gone_after w (Goes d) k b h = ap (λ (x : Standing). is_before x.expected) (sym (standing_of (record s { expected = d }) (gone_on s w (Goes d)) standing h refl)) ∙ not_false (is_before d) k
   gone_after w Missing k b h = absurd cc
   gone_after w Finished k b h = begun_after w b h
-  gone_after w follow.LeftOut k b h = absurd cc
 
   no_more : (w : Word) (f : Follow) → is_after f ≡ true → begins_event w ≡ false → gone_on s w f ≡ Ok standing → is_before standing.expected ≡ true → ⊥
   no_more w f k b h e = let no = gone_after w f k b h in absurd cc

@@ -19,25 +19,25 @@ use Rattle.plain_model.specs.Trees.{TreeOf, at, meaning}
 use Rattle.plain_model.specs.Trees.Change.{Put, Remove, CopyTo, MoveTo, Clear}
 use Rattle.plain_model.specs.Snapshots.{Shown, blob_bytes, shown, shown_tree, refs}
 use Rattle.plain_model.specs.Snapshots.ShownContent.{ShownBytes, ShownObject}
-use Rattle.plain_model.specs.Streams.{is_marked}
+use Rattle.plain_model.specs.Lookups.{greatest_mark}
 use Rattle.stream_grammar.specs.declared.lines.Expected.TheVariants as expected
 use Rattle.stream_grammar.specs.declared.lines.Standing.{Standing}
 use Rattle.stream_grammar.specs.declared.lines.Word.{Word}
 use Rattle.stream_grammar.specs.declared.lines.Word.TheVariants as word
-use Rattle.stream_grammar.specs.Known.{Known, OpenCommit, Open, closed, next_id, ensure, ref_in, op_after, with_parent}
-use Rattle.stream_grammar.specs.Known.Open.{Nothing, ABlob, ACommit, ATag, AReset}
-use Rattle.stream_grammar.specs.Lines.{text_of, word_of, after_word, judged, begun_with, commit_on, with_mark, with_commit, with_from, with_tagger, with_operation, is_left_out_feature, passed, changed}
+use Rattle.stream_grammar.specs.Known.{Known, OpenCommit, Open, closed, is_known_mark, next_id, ensure, ref_in, op_after, with_parent}
+use Rattle.stream_grammar.specs.Known.Open.{Nothing, ABlob, ACommit, ATag, AReset, AnAlias}
+use Rattle.stream_grammar.specs.Lines.{aliased, text_of, word_of, after_word, judged, begun_with, commit_on, with_mark, with_commit, with_from, with_tagger, with_operation, is_left_out_feature, passed, changed}
 use Rattle.replay_laws.specs.Replay.{Replayed, CommitSoFar, Reading, Replaying, files_of, first_files, commit_named, with_change, changed_files, entry, with_op, with_merge, in_commit, if_read, if_named, after_line, after_operation}
-use Rattle.replay_laws.specs.Replay.{begun as begun_replay, passed as passed_replay, commit_on as commit_from, with_mark as mark_read, with_from as from_read, with_tagger as tagger_read, changed as changed_replay}
-use Rattle.replay_laws.specs.Replay.Reading.{NoEvent, InBlob, InCommit, InTag, InReset}
+use Rattle.replay_laws.specs.Replay.{begun as begun_replay, passed as passed_replay, commit_on as commit_from, with_mark as mark_read, with_from as from_read, with_tagger as tagger_read, changed as changed_replay, aliased as aliased_replay}
+use Rattle.replay_laws.specs.Replay.Reading.{NoEvent, InBlob, InCommit, InTag, InReset, InAlias}
 use Rattle.replay_laws.proofs.InStep.{Place}
 use Rattle.replay_laws.proofs.InStep.Place.{AtLine, AtBlock, AtEnd}
 use Rattle.history_laws.proofs.TreeMapping.{map_change, changed_from}
-use Rattle.replay_laws.proofs.Placed.{seen_of, marked_blobs, commits_seen, blob_place, files_alike}
-use Rattle.replay_laws.proofs.SoFar.{AllBelow, IsSoFar, blobs_of, all_join, files_now, files_more, so_far_more}
+use Rattle.replay_laws.proofs.Placed.{seen_with, greatest_alias, marked_blobs, commits_seen, blob_place, files_alike}
+use Rattle.replay_laws.proofs.SoFar.{AllBelow, IsRead, blobs_of, all_join, files_now, files_more, read_more}
 use Rattle.replay_laws.proofs.Operations.{bind_ok, ok_same, GoesWith, waits, op_alike, IsOperation, operation_line, inline_line}
 use Rattle.replay_laws.proofs.Standings.{is_before, still_before, from_before, merge_expected, operation_expected, inline_expected}
-use Rattle.replay_laws.proofs.Twins.{commit_so_far, reading_of, HasFiles, CommitGoes, Goes, Became, EndsAlike, ends_alike, pass_more, blobs_more}
+use Rattle.replay_laws.proofs.Twins.{commit_so_far, reading_of, HasFiles, CommitGoes, Goes, Became, EndsAlike, ends_alike, pass_with, blobs_more}
 use Rattle.replay_laws.proofs.References.{named_alike, no_ops, begins_alike, tip_below}
 
 -- ---- a line where nothing waits
@@ -48,33 +48,33 @@ place_of word.Data = AtBlock
 place_of word.Done = AtEnd
 place_of _ = AtLine
 
-module _ (old standing : Standing) (k : Known) (files : Option (TreeOf Shown)) (s : IsSoFar k.events) (g : Goes AtLine old.expected k.events k.current files None) (line : Bytes) where
+module _ (old standing : Standing) (k : Known) (files : Option (TreeOf Shown)) (s : IsRead k.events k.aliases) (g : Goes AtLine old.expected k.events k.current files None) (line : Bytes) where
   abbrev state : Replaying
-  state = record { standing = old; replayed = seen_of k.events; reading = reading_of k.current files None }
+  state = record { standing = old; replayed = seen_with k.events k.aliases; reading = reading_of k.current files None }
 
   -- the event that is being read ends
   ends : EndsAlike k (begun_replay state (λ r. NoEvent)).replayed
   ends = ends_alike AtLine old.expected k files s g
 
   -- an event begins
-  begins_event : (event : Open) (reading : Replayed → Reading) (new : Option (TreeOf Shown)) → reading (seen_of (closed k)) ≡ reading_of event new None
+  begins_event : (event : Open) (reading : Replayed → Reading) (new : Option (TreeOf Shown)) → reading (seen_with (closed k) k.aliases) ≡ reading_of event new None
       → Goes AtLine standing.expected (closed k) event new None → Became AtLine standing (begun_with k event) (begun_replay state reading)
   begins_event event reading new r h = (new, None, ends.0, ap reading ends.0 ∙ r, ends.1, h)
 
   commit_begins : (branch : Bytes) → Became AtLine standing (begun_with k (commit_on k branch)) (begun_replay state (λ r. InCommit (commit_from r branch)))
   commit_begins branch =
       let parents = option_to_list (at (refs (closed k)) branch) in
-      begins_event (commit_on k branch) (λ r. InCommit (commit_from r branch)) (first_files (seen_of (closed k)) parents) refl
-      (record { below = tip_below (closed k) ends.1 branch; first = λ b. refl; has_files = (begins_alike (closed k) parents, tt) })
+      begins_event (commit_on k branch) (λ r. InCommit (commit_from r branch)) (first_files (seen_with (closed k) k.aliases) parents) refl
+      (record { below = tip_below (closed k) ends.1.so_far branch; first = λ b. refl; has_files = (begins_alike (closed k) parents, tt) })
 
   -- an event of one line
   passes : Became AtLine standing (passed k line) (passed_replay state)
   passes = (
     None,
     None,
-    ap (λ (r : Replayed). record r { count = r.count + 1 }) ends.0 ∙ sym (pass_more (closed k) ends.1 line),
+    ap (λ (r : Replayed). record r { count = r.count + 1 }) ends.0 ∙ sym (pass_with (closed k) k.aliases ends.1.so_far line),
     refl,
-    so_far_more (closed k) ends.1 (plain.Pass (next_id (closed k)) line) refl tt,
+    read_more (closed k) ends.1.so_far (plain.Pass (next_id (closed k)) line) refl k.aliases ends.1.named tt,
     tt,
   )
 
@@ -86,7 +86,8 @@ module _ (old standing : Standing) (k : Known) (files : Option (TreeOf Shown)) (
       go Nothing h = tt
       go (ABlob mark) h = tt
       go (ACommit c) h = record { below = h.below; first = λ b. h.first (still b); has_files = h.has_files }
-      go (ATag name target tagger) h = tt
+      go (ATag name target tagger own) h = tt
+      go (AnAlias m) h = tt
       go (AReset branch None) h = tt
       go (AReset branch (Some c)) h = h
 
@@ -107,7 +108,8 @@ module _ (old standing : Standing) (k : Known) (files : Option (TreeOf Shown)) (
       reads Nothing = refl
       reads (ABlob mark) = refl
       reads (ACommit c) = ap (λ x. InCommit x) (alike c)
-      reads (ATag name target tagger) = refl
+      reads (ATag name target tagger own) = refl
+      reads (AnAlias m) = refl
       reads (AReset branch target) = refl
 
       go : (o : Open) → Goes AtLine old.expected k.events o files None → Goes AtLine standing.expected k.events (with_commit f o) files None
@@ -117,7 +119,8 @@ module _ (old standing : Standing) (k : Known) (files : Option (TreeOf Shown)) (
           subst (λ (ps : List ℕ). CommitGoes AtLine standing.expected k.events (f c).ops ps files None) (sym (same c).0)
           (subst (λ (ops : List FileOp). CommitGoes AtLine standing.expected k.events ops c.parents files None) (sym (same c).1)
           (record { below = h.below; first = λ b. h.first (still b); has_files = h.has_files }))
-      go (ATag name target tagger) h = tt
+      go (ATag name target tagger own) h = tt
+      go (AnAlias m) h = tt
       go (AReset branch None) h = tt
       go (AReset branch (Some c)) h = h
 
@@ -128,14 +131,16 @@ module _ (old standing : Standing) (k : Known) (files : Option (TreeOf Shown)) (
       reads Nothing = refl
       reads (ABlob m) = refl
       reads (ACommit c) = refl
-      reads (ATag name target tagger) = refl
+      reads (ATag name target tagger own) = refl
+      reads (AnAlias m) = refl
       reads (AReset branch target) = refl
 
       go : (o : Open) → Goes AtLine old.expected k.events o files None → Goes AtLine standing.expected k.events (with_mark mark o) files None
       go Nothing h = tt
       go (ABlob m) h = tt
       go (ACommit c) h = record { below = h.below; first = λ b. h.first (still b); has_files = h.has_files }
-      go (ATag name target tagger) h = tt
+      go (ATag name target tagger own) h = tt
+      go (AnAlias m) h = tt
       go (AReset branch None) h = tt
       go (AReset branch (Some c)) h = h
 
@@ -146,23 +151,25 @@ module _ (old standing : Standing) (k : Known) (files : Option (TreeOf Shown)) (
       reads Nothing = refl
       reads (ABlob m) = refl
       reads (ACommit c) = refl
-      reads (ATag name target tagger) = refl
+      reads (ATag name target tagger own) = refl
+      reads (AnAlias m) = refl
       reads (AReset branch target) = refl
 
       go : (o : Open) → Goes AtLine old.expected k.events o files None → Goes AtLine standing.expected k.events (with_tagger who o) files None
       go Nothing h = tt
       go (ABlob m) h = tt
       go (ACommit c) h = record { below = h.below; first = λ b. h.first (still b); has_files = h.has_files }
-      go (ATag name target tagger) h = tt
+      go (ATag name target tagger own) h = tt
+      go (AnAlias m) h = tt
       go (AReset branch None) h = tt
       go (AReset branch (Some c)) h = h
 
   -- the commit that `from` names, before operations
-  comes_from : (commit : ℕ) → commit < length k.events + 1 → is_before old.expected ≡ true → Became AtLine standing (changed k (with_from commit)) (changed_replay state (from_read (seen_of k.events) commit))
+  comes_from : (commit : ℕ) → commit < length k.events + 1 → is_before old.expected ≡ true → Became AtLine standing (changed k (with_from commit)) (changed_replay state (from_read (seen_with k.events k.aliases) commit))
   comes_from commit below before = go k.current g
     where
       go : (o : Open) → Goes AtLine old.expected k.events o files None
-          → Became AtLine standing (record k { current = with_from commit o }) (record { standing = old; replayed = seen_of k.events; reading = from_read (seen_of k.events) commit (reading_of o files None) })
+          → Became AtLine standing (record k { current = with_from commit o }) (record { standing = old; replayed = seen_with k.events k.aliases; reading = from_read (seen_with k.events k.aliases) commit (reading_of o files None) })
       go Nothing h = (None, None, refl, refl, s, tt)
       go (ABlob m) h = (None, None, refl, refl, s, tt)
       go (ACommit c) h =
@@ -181,7 +188,8 @@ module _ (old standing : Standing) (k : Known) (files : Option (TreeOf Shown)) (
               );
             },
           )
-      go (ATag name target tagger) h = (None, None, refl, refl, s, tt)
+      go (ATag name target tagger own) h = (None, None, refl, refl, s, tt)
+      go (AnAlias m) h = (None, None, refl, refl, s, tt)
       go (AReset branch target) h = (None, None, refl, refl, s, below)
 
   -- no files after a commit that has some
@@ -191,7 +199,7 @@ module _ (old standing : Standing) (k : Known) (files : Option (TreeOf Shown)) (
 
   -- a further parent
   merges : (commit : ℕ) → commit < length k.events + 1 → is_before standing.expected ≡ false
-      → Became AtLine standing (changed k (with_commit (with_parent commit))) (changed_replay state (in_commit (λ c. with_merge (seen_of k.events) commit c.parents c)))
+      → Became AtLine standing (changed k (with_commit (with_parent commit))) (changed_replay state (in_commit (λ c. with_merge (seen_with k.events k.aliases) commit c.parents c)))
   merges commit below after = go k.current g
     where
       late : (P : Type 0) → is_before standing.expected ≡ true → P
@@ -199,7 +207,7 @@ module _ (old standing : Standing) (k : Known) (files : Option (TreeOf Shown)) (
 
       merge : (c : OpenCommit) (ps : List ℕ) → CommitGoes AtLine old.expected k.events c.ops ps files None
           → Became AtLine standing (record k { current = ACommit (with_parent commit (record c { parents = ps })) })
-          (record { standing = old; replayed = seen_of k.events; reading = InCommit (with_merge (seen_of k.events) commit ps (commit_so_far (record c { parents = ps }) files None)) })
+          (record { standing = old; replayed = seen_with k.events k.aliases; reading = InCommit (with_merge (seen_with k.events k.aliases) commit ps (commit_so_far (record c { parents = ps }) files None)) })
       merge c [] h = (
         option_map (λ files. []) (files_of (commits_seen k.events k.events) commit),
         None,
@@ -218,7 +226,7 @@ module _ (old standing : Standing) (k : Known) (files : Option (TreeOf Shown)) (
               → Became AtLine standing (record k { current = ACommit (cond b (record c { parents = q ∷ ps }) (record c { parents = (q ∷ ps) ++ commit ∷ [] })) })
               (record {
                 standing = old;
-                replayed = seen_of k.events;
+                replayed = seen_with k.events k.aliases;
                 reading = InCommit (cond b (commit_so_far (record c { parents = q ∷ ps }) files None) (record (commit_so_far (record c { parents = q ∷ ps }) files None) { parents = (q ∷ ps) ++ commit ∷ [] }));
               })
           more true = (files, None, refl, refl, s, record { below = h.below; first = λ b. late _ b; has_files = h.has_files })
@@ -233,13 +241,35 @@ module _ (old standing : Standing) (k : Known) (files : Option (TreeOf Shown)) (
 
       go : (o : Open) → Goes AtLine old.expected k.events o files None
           → Became AtLine standing (record k { current = with_commit (with_parent commit) o })
-          (record { standing = old; replayed = seen_of k.events; reading = in_commit (λ c. with_merge (seen_of k.events) commit c.parents c) (reading_of o files None) })
+          (record { standing = old; replayed = seen_with k.events k.aliases; reading = in_commit (λ c. with_merge (seen_with k.events k.aliases) commit c.parents c) (reading_of o files None) })
       go Nothing h = (None, None, refl, refl, s, tt)
       go (ABlob m) h = (None, None, refl, refl, s, tt)
       go (ACommit c) h = merge c c.parents h
-      go (ATag name target tagger) h = (None, None, refl, refl, s, tt)
+      go (ATag name target tagger own) h = (None, None, refl, refl, s, tt)
+      go (AnAlias m) h = (None, None, refl, refl, s, tt)
       go (AReset branch None) h = (None, None, refl, refl, s, tt)
       go (AReset branch (Some c)) h = (None, None, refl, refl, s, h)
+
+  -- the commit that an alias names
+  names : (commit : ℕ) → commit < length k.events + 1 → (is_before standing.expected ≡ true → is_before old.expected ≡ true) → Became AtLine standing (aliased commit k) (aliased_replay state commit)
+  names commit below still = go k.current g
+    where
+      go : (o : Open) → Goes AtLine old.expected k.events o files None
+          → Became AtLine standing (aliased commit (record k { current = o })) (aliased_replay (record { standing = old; replayed = seen_with k.events k.aliases; reading = reading_of o files None }) commit)
+      go Nothing h = (None, None, refl, refl, s, tt)
+      go (ABlob m) h = (None, None, refl, refl, s, tt)
+      go (ACommit c) h = (files, None, refl, refl, s, record { below = h.below; first = λ b. h.first (still b); has_files = h.has_files })
+      go (ATag name target tagger own) h = (None, None, refl, refl, s, tt)
+      go (AReset branch None) h = (None, None, refl, refl, s, tt)
+      go (AReset branch (Some c)) h = (None, None, refl, refl, s, h)
+      go (AnAlias mark) h = (
+        None,
+        None,
+        ap (λ n. record (seen_with k.events k.aliases) { aliases = k.aliases ++ (mark, commit) ∷ []; greatest = n }) (sym (greatest_alias (greatest_mark k.events) k.aliases (mark, commit))),
+        refl,
+        record { so_far = s.so_far; named = all_join (λ (a : ℕ × ℕ). a.1 < length k.events + 1) k.aliases ((mark, commit) ∷ []) s.named (below, tt) },
+        tt,
+      )
 
   -- ---- an operation
 
@@ -261,7 +291,7 @@ module _ (old standing : Standing) (k : Known) (files : Option (TreeOf Shown)) (
     operates : (raw : RawOp) (op : FileOp) → GoesWith k.events raw op → (waits raw ≡ true → standing.expected ≡ expected.InlineData) → Operated c raw op
     operates (rawop.Modify mode (Marked mark) path) op a w =
         let b = a.0 in
-        let place = blob_place 1 k.events s.placed mark b a.1 in
+        let place = blob_place 1 k.events s.so_far.placed mark b a.1 in
         subst (Operated c (rawop.Modify mode (Marked mark) path)) (sym a.2) (
           changed_files (Put (entry mode (ShownBytes (blob_bytes k.events b))) path) files,
           None,
@@ -291,11 +321,11 @@ module _ (old standing : Standing) (k : Known) (files : Option (TreeOf Shown)) (
       late P b = let no : true ≡ false = sym b ∙ after in absurd cc
 
       commit : (c : OpenCommit) → CommitGoes AtLine old.expected k.events c.ops c.parents files None → (op : FileOp) → op_after k.events c line ≡ Ok op
-          → Became AtLine standing (record k { current = ACommit (record c { ops = c.ops ++ op ∷ [] }) }) (after_operation line (record { standing = old; replayed = seen_of k.events; reading = InCommit (commit_so_far c files None) }))
+          → Became AtLine standing (record k { current = ACommit (record c { ops = c.ops ++ op ∷ [] }) }) (after_operation line (record { standing = old; replayed = seen_with k.events k.aliases; reading = InCommit (commit_so_far c files None) }))
       commit c h op x =
           let read = op_alike k.events c line op is.0 x in
           let done = operates c h.has_files read.0 op read.2 (λ w. waiting (sym is.1 ∙ read.3 w)) in
-          let t : Replaying = record { standing = old; replayed = seen_of k.events; reading = InCommit (commit_so_far c files None) } in
+          let t : Replaying = record { standing = old; replayed = seen_with k.events k.aliases; reading = InCommit (commit_so_far c files None) } in
           subst (Became AtLine standing (record k { current = ACommit (record c { ops = c.ops ++ op ∷ [] }) }))
           (sym (ap (λ (r : Result RawOp Why). if_read t r (λ raw. changed_replay t (in_commit (with_op (marked_blobs k.events) raw)))) read.1))
           (done.0, done.1, refl, ap (λ x. InCommit x) done.2, s, record { below = h.below; first = λ b. late _ b; has_files = done.3 })
@@ -310,14 +340,15 @@ module _ (old standing : Standing) (k : Known) (files : Option (TreeOf Shown)) (
           read (Err why) = b
 
       go : (o : Open) → Goes AtLine old.expected k.events o files None → with_operation (record k { current = o }) line ≡ Ok known
-          → Became AtLine standing known (after_operation line (record { standing = old; replayed = seen_of k.events; reading = reading_of o files None }))
+          → Became AtLine standing known (after_operation line (record { standing = old; replayed = seen_with k.events k.aliases; reading = reading_of o files None }))
       go Nothing h x = nothing Nothing _ (λ f. refl) (None, None, refl, refl, s, tt) x
       go (ABlob mark) h x = nothing (ABlob mark) _ (λ f. refl) (None, None, refl, refl, s, tt) x
       go (ACommit c) h x =
           let a = bind_ok (op_after k.events c line) _ known x in
-          subst (λ q. Became AtLine standing q (after_operation line (record { standing = old; replayed = seen_of k.events; reading = InCommit (commit_so_far c files None) }))) (ok_same _ known a.2)
+          subst (λ q. Became AtLine standing q (after_operation line (record { standing = old; replayed = seen_with k.events k.aliases; reading = InCommit (commit_so_far c files None) }))) (ok_same _ known a.2)
           (commit c h a.0 a.1)
-      go (ATag name target tagger) h x = nothing (ATag name target tagger) _ (λ f. refl) (None, None, refl, refl, s, tt) x
+      go (ATag name target tagger own) h x = nothing (ATag name target tagger own) _ (λ f. refl) (None, None, refl, refl, s, tt) x
+      go (AnAlias mark) h x = nothing (AnAlias mark) _ (λ f. refl) (None, None, refl, refl, s, tt) x
       go (AReset branch None) h x = nothing (AReset branch None) _ (λ f. refl) (None, None, refl, refl, s, tt) x
       go (AReset branch (Some c)) h x = nothing (AReset branch (Some c)) _ (λ f. refl) (None, None, refl, refl, s, h) x
 
@@ -327,8 +358,8 @@ module _ (old standing : Standing) (k : Known) (files : Option (TreeOf Shown)) (
   if_reads : {A : Type 0} (known : Known) (r : Result A Why) (f : A → Replaying) (x : A) → r ≡ Ok x → Became AtLine standing known (f x) → Became AtLine standing known (if_read state r f)
   if_reads known r f x e b = subst (Became AtLine standing known) (sym (ap (λ q. if_read state q f) e)) b
 
-  if_names : (known : Known) (text : Bytes) (f : ℕ → Replaying) (commit : ℕ) → commit_named (seen_of k.events) text ≡ Some commit → Became AtLine standing known (f commit)
-      → Became AtLine standing known (if_named state (commit_named (seen_of k.events) text) f)
+  if_names : (known : Known) (text : Bytes) (f : ℕ → Replaying) (commit : ℕ) → commit_named (seen_with k.events k.aliases) text ≡ Some commit → Became AtLine standing known (f commit)
+      → Became AtLine standing known (if_named state (commit_named (seen_with k.events k.aliases) text) f)
   if_names known text f commit e b = subst (Became AtLine standing known) (sym (ap (λ q. if_named state q f) e)) b
 
   -- what is known is this
@@ -344,15 +375,15 @@ module _ (old standing : Standing) (k : Known) (files : Option (TreeOf Shown)) (
   line_goes word.Commit i d h known j =
       let a = bind_ok (name_in (text_of line)) _ known j in
       if_reads known _ _ a.0 a.1 (known_is known _ AtLine a.2 (commit_begins a.0))
-  line_goes word.Tag i d h known j mark =
+  line_goes word.Tag i d h known j =
       let a = bind_ok (name_in (text_of line)) _ known j in
-      if_reads known _ _ a.0 a.1 (known_is known _ AtLine a.2 (begins_event (ATag a.0 0 None) (λ r. InTag a.0 0 None) None refl tt))
+      if_reads known _ _ a.0 a.1 (known_is known _ AtLine a.2 (begins_event (ATag a.0 0 None None) (λ r. InTag a.0 0 None None) None refl tt))
   line_goes word.Reset i d h known j =
       let a = bind_ok (name_in (text_of line)) _ known j in
       if_reads known _ _ a.0 a.1 (known_is known _ AtLine a.2 (begins_event (AReset a.0 None) (λ r. InReset a.0 None) None refl tt))
   line_goes word.Mark i d h known j =
       let a = bind_ok (mark_in (text_of line)) _ known j in
-      let b = bind_ok (ensure (not (is_marked k.events a.0)) RepeatedMark) _ known a.2 in
+      let b = bind_ok (ensure (not (is_known_mark k a.0)) RepeatedMark) _ known a.2 in
       if_reads known _ _ a.0 a.1 (known_is known _ AtLine b.2 (marks a.0 (still_before old standing word.Mark refl old.expected h)))
   line_goes word.Author i d h known j =
       let a = bind_ok (person_in (text_of line)) _ known j in
@@ -368,15 +399,20 @@ module _ (old standing : Standing) (k : Known) (files : Option (TreeOf Shown)) (
       let a = bind_ok (person_in (text_of line)) _ known j in
       if_reads known _ _ a.0 a.1 (known_is known _ AtLine a.2 (tags a.0 (still_before old standing word.Tagger refl old.expected h)))
   line_goes word.From i d h known j =
-      let a = bind_ok (ref_in k.events (text_of line)) _ known j in
-      let named = named_alike k.events s (text_of line) a.0 a.1 in
+      let a = bind_ok (ref_in k.events k.aliases (text_of line)) _ known j in
+      let named = named_alike k.events k.aliases s (text_of line) a.0 a.1 in
       if_names known (text_of line) _ a.0 named.0 (known_is known _ AtLine a.2 (comes_from a.0 named.1 (from_before old standing old.expected h)))
   line_goes word.Merge i d h known j =
-      let a = bind_ok (ref_in k.events (text_of line)) _ known j in
-      let named = named_alike k.events s (text_of line) a.0 a.1 in
+      let a = bind_ok (ref_in k.events k.aliases (text_of line)) _ known j in
+      let named = named_alike k.events k.aliases s (text_of line) a.0 a.1 in
       if_names known (text_of line) _ a.0 named.0 (known_is known _ AtLine a.2 (merges a.0 named.1 (ap is_before (merge_expected old standing old.expected h))))
   line_goes word.Operation i d h known j = operations false (operation_line line i) (λ e. absurd cc) (ap is_before (operation_expected old standing old.expected h)) known j
   line_goes word.InlineOperation i d h known j = operations true (inline_line line i) (λ e. inline_expected old standing old.expected h) (ap is_before (inline_expected old standing old.expected h)) known j
+  line_goes word.Alias i d h known j = known_is known _ AtLine j (begins_event (AnAlias 0) (λ r. InAlias 0) None refl tt)
+  line_goes word.To i d h known j =
+      let a = bind_ok (ref_in k.events k.aliases (text_of line)) _ known j in
+      let named = named_alike k.events k.aliases s (text_of line) a.0 a.1 in
+      if_names known (text_of line) _ a.0 named.0 (known_is known _ AtLine a.2 (names a.0 named.1 (still_before old standing word.To refl old.expected h)))
   line_goes word.Pass i d h known j =
       let a = bind_ok (ensure (not (is_left_out_feature line)) LeftOut) _ known j in
       known_is known _ AtLine a.2 passes

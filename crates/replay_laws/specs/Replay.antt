@@ -44,12 +44,14 @@ pub record Replayed : Type 0 where
   pub tags : List ShownTag
   -- each branch with the number of the commit on which it stands
   pub tips : TreeOf ℕ
+  -- each further mark of a commit with the number of the commit, in the order in which they came
+  pub aliases : List (ℕ × ℕ)
   -- the numbers of the blobs and commits without a mark, in order
   pub unmarked : List ℕ
   pub greatest : ℕ
 
 abbrev pub nothing_replayed : Replayed
-nothing_replayed = record { count = 0; blobs = []; commits = []; tags = []; tips = []; unmarked = []; greatest = 0 }
+nothing_replayed = record { count = 0; blobs = []; commits = []; tags = []; tips = []; aliases = []; unmarked = []; greatest = 0 }
 
 -- what a mark or a number finds; of several the first
 abbrev pub bytes_marked : List (ℕ × Bytes) → ℕ → Option Bytes
@@ -59,6 +61,10 @@ bytes_marked (b ∷ blobs) mark = if b.0 == mark then Some b.1 else bytes_marked
 abbrev pub number_marked : List Numbered → ℕ → Option ℕ
 number_marked [] mark = None
 number_marked (c ∷ commits) mark = if c.commit.mark == mark then Some c.number else number_marked commits mark
+
+abbrev pub further_marked : List (ℕ × ℕ) → ℕ → Option ℕ
+further_marked [] mark = None
+further_marked (a ∷ aliases) mark = if a.0 == mark then Some a.1 else further_marked aliases mark
 
 abbrev pub commit_numbered : List Numbered → ℕ → Option Numbered
 commit_numbered [] n = None
@@ -83,13 +89,15 @@ pub record CommitSoFar : Type 0 where
   pub files : Option (TreeOf Shown)
   pub waiting : Option (Mode × Bytes)
 
--- no event; or a blob with its mark, a commit, a tag with its name, commit and tagger, or a reset of a branch
+-- no event; or a blob with its mark, a commit, a tag with its name, commit, tagger and mark, a reset of a branch, or a
+-- further mark of a commit
 pub data Reading : Type 0 where
   NoEvent : Reading
   InBlob : ℕ → Reading
   InCommit : CommitSoFar → Reading
-  InTag : Bytes → ℕ → Option Signed → Reading
+  InTag : Bytes → ℕ → Option Signed → Option ℕ → Reading
   InReset : Bytes → Option ℕ → Reading
+  InAlias : ℕ → Reading
 
 pub record Replaying : Type 0 where
   pub standing : Standing
@@ -125,6 +133,7 @@ ended_commit c committer = record {
   comment = c.comment;
   parents = c.parents;
   tree = c.files;
+  aliases = [];
 }
 
 -- a commit is its branch's tip from then on
@@ -139,7 +148,11 @@ with_commit r c (Some committer) = record r {
 }
 
 abbrev pub with_tag : Replayed → ShownTag → Replayed
-with_tag r tag = record r { count = r.count + 1; tags = r.tags ++ tag ∷ [] }
+with_tag r tag = record r { count = r.count + 1; tags = r.tags ++ tag ∷ []; greatest = max r.greatest (unwrap_or tag.mark 0) }
+
+-- a commit has one mark more
+abbrev pub with_alias : Replayed → ℕ → ℕ → Replayed
+with_alias r mark commit = record r { aliases = r.aliases ++ (mark, commit) ∷ []; greatest = max r.greatest mark }
 
 -- a reset without a commit removes the branch
 abbrev pub with_reset : Replayed → Bytes → Option ℕ → Replayed
@@ -151,8 +164,9 @@ abbrev pub ended : Replayed → Reading → Replayed
 ended r NoEvent = r
 ended r (InBlob mark) = r
 ended r (InCommit c) = with_commit r c c.committer
-ended r (InTag name target tagger) = r
+ended r (InTag name target tagger mark) = r
 ended r (InReset branch target) = with_reset r branch target
+ended r (InAlias mark) = r
 
 -- ---- changes of files
 
@@ -193,10 +207,17 @@ with_inline bytes c = elim c.waiting [
 
 -- ---- parents
 
--- the number of the commit that a reference names: by its mark, or as the tip of a branch
+-- the number of the commit that has the mark, as its own or as a further one
+abbrev pub number_with : Replayed → ℕ → Option ℕ
+number_with r mark = elim (number_marked r.commits mark) [
+  | Some commit ↦ Some commit
+  | None ↦ further_marked r.aliases mark
+]
+
+-- the number of the commit that a reference names: by one of its marks, or as the tip of a branch
 abbrev pub commit_named : Replayed → Bytes → Option ℕ
 commit_named r text =
-    if begins (codes ":") text then elim (mark_in text) [ Ok mark ↦ number_marked r.commits mark | Err why ↦ None ]
+    if begins (codes ":") text then elim (mark_in text) [ Ok mark ↦ number_with r mark | Err why ↦ None ]
     else at r.tips text
 
 -- what a commit begins with: the files of its first parent, or no files
@@ -223,7 +244,7 @@ commit_on r branch =
 -- the commit that `from` names: a commit's one parent, what a tag is of, or where a branch is put
 abbrev pub with_from : Replayed → ℕ → Reading → Reading
 with_from r commit (InCommit c) = InCommit (record c { parents = commit ∷ []; files = files_of r.commits commit })
-with_from r commit (InTag name target tagger) = InTag name commit tagger
+with_from r commit (InTag name target tagger mark) = InTag name commit tagger mark
 with_from r commit (InReset branch target) = InReset branch (Some commit)
 with_from r commit reading = reading
 
@@ -238,6 +259,8 @@ with_merge r commit (p ∷ ps) c = if list_any (λ q. q == commit) (p ∷ ps) th
 abbrev pub with_mark : ℕ → Reading → Reading
 with_mark mark (InBlob m) = InBlob mark
 with_mark mark (InCommit c) = InCommit (record c { mark = mark })
+with_mark mark (InTag name target tagger m) = InTag name target tagger (Some mark)
+with_mark mark (InAlias m) = InAlias mark
 with_mark mark reading = reading
 
 -- a change of the commit that is being read
@@ -246,7 +269,7 @@ in_commit f (InCommit c) = InCommit (f c)
 in_commit f reading = reading
 
 abbrev pub with_tagger : Signed → Reading → Reading
-with_tagger who (InTag name target tagger) = InTag name target (Some who)
+with_tagger who (InTag name target tagger mark) = InTag name target (Some who) mark
 with_tagger who reading = reading
 
 -- the next event begins
@@ -271,6 +294,17 @@ abbrev pub if_named : Replaying → Option ℕ → (ℕ → Replaying) → Repla
 if_named t (Some commit) f = f commit
 if_named t None f = t
 
+-- the further mark that is being read is the commit's
+abbrev pub aliased : Replaying → ℕ → Replaying
+aliased t commit = elim t.reading [
+  | InAlias mark ↦ record t { replayed = with_alias t.replayed mark commit; reading = NoEvent }
+  | NoEvent ↦ t
+  | InBlob mark ↦ t
+  | InCommit c ↦ t
+  | InTag name target tagger mark ↦ t
+  | InReset branch target ↦ t
+]
+
 abbrev pub after_operation : Bytes → Replaying → Replaying
 after_operation line t = if_read t (op_in line) (λ op. changed t (in_commit (with_op t.replayed.blobs op)))
 
@@ -278,7 +312,7 @@ after_operation line t = if_read t (op_in line) (λ op. changed t (in_commit (wi
 abbrev pub after_line : Word → Bytes → Replaying → Replaying
 after_line word.Blob line t = begun t (λ r. InBlob 0)
 after_line word.Commit line t = if_read t (name_in (text_of line)) (λ branch. begun t (λ r. InCommit (commit_on r branch)))
-after_line word.Tag line t = if_read t (name_in (text_of line)) (λ name. begun t (λ r. InTag name 0 None))
+after_line word.Tag line t = if_read t (name_in (text_of line)) (λ name. begun t (λ r. InTag name 0 None None))
 after_line word.Reset line t = if_read t (name_in (text_of line)) (λ branch. begun t (λ r. InReset branch None))
 after_line word.Mark line t = if_read t (mark_in (text_of line)) (λ mark. changed t (with_mark mark))
 after_line word.Author line t = if_read t (person_in (text_of line)) (λ who. changed t (in_commit (λ c. record c { author = Some who })))
@@ -291,7 +325,14 @@ after_line word.Operation line t = after_operation line t
 after_line word.InlineOperation line t = after_operation line t
 after_line word.Pass line t = passed t
 after_line word.FeatureDone line t = passed t
-after_line _ line t = t
+after_line word.Alias line t = begun t (λ r. InAlias 0)
+after_line word.To line t = if_named t (commit_named t.replayed (text_of line)) (aliased t)
+after_line word.Empty line t = t
+after_line word.Oid line t = t
+after_line word.Data line t = t
+after_line word.Done line t = t
+after_line word.LeftOut line t = t
+after_line word.Other line t = t
 
 -- the bytes after a line: a blob's bytes, a tag's comment, the bytes of an operation, or a commit's comment
 abbrev pub after_data : Bytes → Replaying → Replaying
@@ -301,9 +342,10 @@ after_data bytes t = elim t.reading [
   | InCommit c ↦
       if is_inline_expected t.standing.expected then record t { replayed = with_blob t.replayed 0 bytes; reading = InCommit (with_inline bytes c) }
       else record t { reading = InCommit (record c { comment = bytes }) }
-  | InTag name target tagger ↦
-      record t { replayed = with_tag t.replayed (record { name = name; target = target; tagger = tagger; comment = bytes }); reading = NoEvent }
+  | InTag name target tagger mark ↦
+      record t { replayed = with_tag t.replayed (record { name = name; target = target; tagger = tagger; comment = bytes; mark = mark }); reading = NoEvent }
   | InReset branch target ↦ t
+  | InAlias mark ↦ t
 ]
 
 -- ---- the replay as an automaton
@@ -337,8 +379,13 @@ final_mark r c = if c.commit.mark == 0 then mark_among r.greatest r.unmarked c.n
 abbrev pub mark_of_number : Replayed → ℕ → ℕ
 mark_of_number r n = elim (commit_numbered r.commits n) [ None ↦ 0 | Some c ↦ final_mark r c ]
 
+-- the further marks of the commit with a number
+abbrev pub marks_for : ℕ → List (ℕ × ℕ) → List ℕ
+marks_for number [] = []
+marks_for number (a ∷ aliases) = if a.1 == number then a.0 ∷ marks_for number aliases else marks_for number aliases
+
 abbrev pub shown_commit : Replayed → Numbered → ShownCommit
-shown_commit r c = record c.commit { mark = final_mark r c; parents = map (mark_of_number r) c.commit.parents }
+shown_commit r c = record c.commit { mark = final_mark r c; parents = map (mark_of_number r) c.commit.parents; aliases = marks_for c.number r.aliases }
 
 abbrev pub shown_tag : Replayed → ShownTag → ShownTag
 shown_tag r tag = record tag { target = mark_of_number r tag.target }

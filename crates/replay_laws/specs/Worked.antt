@@ -39,6 +39,7 @@ by_ann mark branch parents files = record {
   comment = [];
   parents = parents;
   tree = Some files;
+  aliases = [];
 }
 
 abbrev pub branch_a : Bytes

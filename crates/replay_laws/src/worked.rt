@@ -151,6 +151,7 @@ pub fn files_of_commits()
             comment = codes "hi";
             parents = [];
             tree = Some [];
+            aliases = [];
           } ∷ [];
           tags = [];
           refs = (branch_b, 1) ∷ [];
@@ -169,7 +170,7 @@ pub fn marks_at_the_end()
           refs = (branch_b, 2) ∷ [];
         }) }
 
-    // Tags and parents have the mark, too. A tag and a line that is passed through have none.
+    // Tags and parents have the mark, too. A tag and a line that is passed through get none.
     ensures referred { BothShow
         (lines (codes "progress p" ∷ commit_on branch_b ++ codes "# a comment" ∷ codes "tag v1"
         ∷ codes "from b" ∷ codes "tagger Bob <b@b> 2 +0000" ∷ codes "data 0"
@@ -177,7 +178,33 @@ pub fn marks_at_the_end()
         (record {
           commits = by_ann 5 branch_b [] [] ∷ by_ann 4 branch_b (5 ∷ []) []
               ∷ by_ann 6 branch_b (4 ∷ []) [] ∷ [];
-          tags = record { name = codes "v1"; target = 5; tagger = Some bob; comment = [] } ∷ [];
+          tags = record {
+            name = codes "v1";
+            target = 5;
+            tagger = Some bob;
+            comment = [];
+            mark = None;
+          } ∷ [];
           refs = (branch_b, 6) ∷ [];
+        }) }
+
+    // An alias is a further mark of its commit, which later lines can name. A tag keeps its mark, which names nothing. What
+    // has no mark gets one above all of them.
+    ensures further_marks { BothShow
+        (lines (marked_commit branch_a (codes "mark :2") ++ [] ∷ codes "alias" ∷ codes "mark :9"
+        ∷ codes "to :2" ∷ [] ∷ codes "tag v1" ∷ codes "mark :11" ∷ codes "from :9" ∷ codes "data 0" ∷ []
+        ∷ commit_on branch_b ++ codes "from :9" ∷ codes "alias" ∷ codes "mark :3" ∷ codes "to a"
+        ∷ []))
+        (record {
+          commits = record (by_ann 2 branch_a [] []) { aliases = 9 ∷ 3 ∷ [] }
+              ∷ by_ann 12 branch_b (2 ∷ []) [] ∷ [];
+          tags = record {
+            name = codes "v1";
+            target = 2;
+            tagger = None;
+            comment = [];
+            mark = Some 11;
+          } ∷ [];
+          refs = (branch_a, 2) ∷ (branch_b, 12) ∷ [];
         }) }
 {}

@@ -1,5 +1,5 @@
 -- What an id names is found again by its mark, and a commit has the tree that it had.
-use Rattle.std.proofs.Common.{◌≡◌, inl, inr, ℕ, suc, ◌<◌, Bool, true, false, cond, List, [], ◌∷◌, ◌++◌, Option, Some, None, Result, Ok, Err, refl, sym, ap, subst, ◌∙◌, arith, reverse, ◌⊎◌, eq-eqb, ne_eqb, append_assoc, eqb-true}
+use Rattle.std.proofs.Common.{◌≡◌, inl, inr, ℕ, suc, ◌<◌, Bool, true, false, cond, List, [], ◌∷◌, ◌++◌, Option, Some, None, Result, Ok, Err, refl, sym, ap, subst, ◌∙◌, arith, reverse, ◌⊎◌, eq-eqb, ne_eqb, append_assoc, eqb-true, option_to_list}
 use Rattle.std.specs.Prelude.{◌==◌, ◌||◌}
 use Rattle.std.proofs.lemmas.Bool.{cond-true, or_from, or_parts, cond-false}
 use Rattle.std.proofs.lemmas.Option.{none-some}
@@ -13,7 +13,7 @@ use Rattle.plain_model.specs.Paths.{Bytes}
 use Rattle.plain_model.specs.Trees.{Tree, Refusal, apply, apply_all, ◌>>=◌}
 use Rattle.plain_model.specs.Histories.{Node, Past, nodes, past, tree, tree_in, begun, folded, if_ok, knows}
 use Rattle.plain_model.specs.Soundness.{IsFormedEvent, IsSoundEvent, has_id}
-use Rattle.plain_model.specs.Streams.{is_marked, blob_marked, commit_marked}
+use Rattle.plain_model.specs.Streams.{is_among, is_marked, blob_marked, commit_marked}
 use Rattle.plain_model.specs.Snapshots.{commit_mark}
 use Rattle.plain_model.specs.Text.{blob_mark_in}
 use Rattle.plain_model.specs.Marks.{IsMark}
@@ -86,11 +86,13 @@ blob_mark_new whole (Pass id line ∷ a) b c h = blob_mark_new whole a b c h
 -- a mark that finds something still finds it
 commit_still : (a b : List PlainEvent) (m c : ℕ) → commit_marked a m ≡ Some c → commit_marked (a ++ b) m ≡ Some c
 commit_still [] b m c h = absurd (none-some c h)
-commit_still (Commit id mark branch author committer encoding comment parents ops aliases ∷ a) b m c h = go (mark == m) h (commit_still a b m c)
+commit_still (Commit id mark branch author committer encoding comment parents ops aliases ∷ a) b m c h = go (mark == m) (is_among aliases m) h (commit_still a b m c)
   where
-    go : (t : Bool) → cond t (Some id) (commit_marked a m) ≡ Some c → (commit_marked a m ≡ Some c → commit_marked (a ++ b) m ≡ Some c) → cond t (Some id) (commit_marked (a ++ b) m) ≡ Some c
-    go true x f = x
-    go false x f = f x
+    go : (t u : Bool) → cond t (Some id) (cond u (Some id) (commit_marked a m)) ≡ Some c → (commit_marked a m ≡ Some c → commit_marked (a ++ b) m ≡ Some c)
+        → cond t (Some id) (cond u (Some id) (commit_marked (a ++ b) m)) ≡ Some c
+    go true u x f = x
+    go false true x f = x
+    go false false x f = f x
 commit_still (Blob id mark bytes ∷ a) b m c h = commit_still a b m c h
 commit_still (Tag id name target tagger comment mark ∷ a) b m c h = commit_still a b m c h
 commit_still (Reset id branch target ∷ a) b m c h = commit_still a b m c h
@@ -109,13 +111,15 @@ blob_still (Reset id branch target ∷ a) b m c h = blob_still a b m c h
 blob_still (Pass id line ∷ a) b m c h = blob_still a b m c h
 
 -- a mark that wasn't there finds what is after
-commit_new : (a b : List PlainEvent) (m : ℕ) → is_marked a m ≡ false → commit_marked (a ++ b) m ≡ commit_marked b m
+pub commit_new : (a b : List PlainEvent) (m : ℕ) → is_marked a m ≡ false → commit_marked (a ++ b) m ≡ commit_marked b m
 commit_new [] b m h = refl
 commit_new (Commit id mark branch author committer encoding comment parents ops aliases ∷ a) b m h =
-    let parts = or_parts (mark == m) (is_marked a m) h in
-    cond-false (mark == m) (Some id) (commit_marked (a ++ b) m) parts.0 ∙ commit_new a b m parts.1
+    let parts = or_parts (mark == m) (is_among aliases m || is_marked a m) h in
+    let others = or_parts (is_among aliases m) (is_marked a m) parts.1 in
+    cond-false (mark == m) (Some id) (cond (is_among aliases m) (Some id) (commit_marked (a ++ b) m)) parts.0
+    ∙ cond-false (is_among aliases m) (Some id) (commit_marked (a ++ b) m) others.0 ∙ commit_new a b m others.1
 commit_new (Blob id mark bytes ∷ a) b m h = commit_new a b m (or_parts (mark == m) (is_marked a m) h).1
-commit_new (Tag id name target tagger comment mark ∷ a) b m h = commit_new a b m h
+commit_new (Tag id name target tagger comment mark ∷ a) b m h = commit_new a b m (or_parts (is_among (option_to_list mark) m) (is_marked a m) h).1
 commit_new (Reset id branch target ∷ a) b m h = commit_new a b m h
 commit_new (Pass id line ∷ a) b m h = commit_new a b m h
 
@@ -124,8 +128,9 @@ blob_new [] b m h = refl
 blob_new (Blob id mark bytes ∷ a) b m h =
     let parts = or_parts (mark == m) (is_marked a m) h in
     cond-false (mark == m) (Some id) (blob_marked (a ++ b) m) parts.0 ∙ blob_new a b m parts.1
-blob_new (Commit id mark branch author committer encoding comment parents ops aliases ∷ a) b m h = blob_new a b m (or_parts (mark == m) (is_marked a m) h).1
-blob_new (Tag id name target tagger comment mark ∷ a) b m h = blob_new a b m h
+blob_new (Commit id mark branch author committer encoding comment parents ops aliases ∷ a) b m h =
+    blob_new a b m (or_parts (is_among aliases m) (is_marked a m) (or_parts (mark == m) (is_among aliases m || is_marked a m) h).1).1
+blob_new (Tag id name target tagger comment mark ∷ a) b m h = blob_new a b m (or_parts (is_among (option_to_list mark) m) (is_marked a m) h).1
 blob_new (Reset id branch target ∷ a) b m h = blob_new a b m h
 blob_new (Pass id line ∷ a) b m h = blob_new a b m h
 
@@ -191,7 +196,7 @@ module _ (done more : List PlainEvent) (id mark : ℕ) (bytes : Bytes) (fresh : 
       (λ b h. subst (FindsBlob with_blob (done ++ the_blob ∷ [])) (eqb-true id b (or_false_true (id == b) h)) own_blob_found)
 
 -- a commit, with a mark that is new
-module _ (done more : List PlainEvent) (id mark : ℕ) (branch : Bytes) (author committer : Signed) (encoding : Option Bytes) (comment : Bytes) (parents : List ℕ) (ops : List FileOp)
+module _ (done more : List PlainEvent) (id mark : ℕ) (branch : Bytes) (author committer : Signed) (encoding : Option Bytes) (comment : Bytes) (parents : List ℕ) (ops : List FileOp) (aliases : List ℕ)
     (fresh : has_id done (any.Commit id) ≡ false) (new : is_marked done mark ≡ false) (is_mark : IsMark mark) where
   abbrev the_commit : PlainEvent
   the_commit = Commit id mark branch author committer encoding comment parents ops aliases
@@ -205,7 +210,7 @@ module _ (done more : List PlainEvent) (id mark : ℕ) (branch : Bytes) (author 
   own_commit_found : FindsCommit with_the_commit (done ++ the_commit ∷ []) id
   own_commit_found = (
     subst IsMark (sym commit_has_mark) is_mark,
-    ap (commit_marked (done ++ the_commit ∷ [])) commit_has_mark ∙ commit_new done (the_commit ∷ []) mark new ∙ cond-true (mark == mark) (Some id) None (eq-eqb mark mark refl),
+    ap (commit_marked (done ++ the_commit ∷ [])) commit_has_mark ∙ commit_new done (the_commit ∷ []) mark new ∙ cond-true (mark == mark) (Some id) (cond (is_among aliases mark) (Some id) None) (eq-eqb mark mark refl),
   )
 
   found_with_commit : AreFound with_the_commit done → AreFound with_the_commit (done ++ the_commit ∷ [])
@@ -217,7 +222,7 @@ module _ (done more : List PlainEvent) (id mark : ℕ) (branch : Bytes) (author 
 found_with : (done more : List PlainEvent) (e : PlainEvent) → AreFound (done ++ e ∷ more) done → IsSoundEvent done e → IsFormedEvent e → AreFound (done ++ e ∷ more) (done ++ e ∷ [])
 found_with done more (Blob id mark bytes) s sound formed = found_with_blob done more id mark bytes sound.0 sound.1 formed s
 found_with done more (Commit id mark branch author committer encoding comment parents ops aliases) s sound formed =
-    found_with_commit done more id mark branch author committer encoding comment parents ops sound.0 sound.1 formed.0 s
+    found_with_commit done more id mark branch author committer encoding comment parents ops aliases sound.0 sound.1 formed.0 s
 found_with done more (Tag id name target tagger comment mark) s sound formed = found_more (done ++ Tag id name target tagger comment mark ∷ more) done (Tag id name target tagger comment mark) s (λ c h. absurd cc) (λ b h. absurd cc)
 found_with done more (Reset id branch target) s sound formed = found_more (done ++ Reset id branch target ∷ more) done (Reset id branch target) s (λ c h. absurd cc) (λ b h. absurd cc)
 found_with done more (Pass id line) s sound formed = found_more (done ++ Pass id line ∷ more) done (Pass id line) s (λ c h. absurd cc) (λ b h. absurd cc)
@@ -276,10 +281,10 @@ unknown (Pass id line ∷ events) c h = unknown events c h
 
 -- the commit's own tree, whatever follows
 pub own_tree : (done more : List PlainEvent) (id mark : ℕ) (branch : Bytes) (author committer : Signed) (encoding : Option Bytes) (comment : Bytes) (parents : List ℕ) (ops : List FileOp) → has_id more (any.Commit id) ≡ false
-    → tree (done ++ Commit id mark branch author committer encoding comment parents ops aliases ∷ more) id ≡ folded ops (begun (tree done) parents)
+    → tree (done ++ Commit id mark branch author committer encoding comment parents ops [] ∷ more) id ≡ folded ops (begun (tree done) parents)
 own_tree done more id mark branch author committer encoding comment parents ops h =
     let own : Node = record { id = id; parents = parents; ops = ops } in
-    ap (λ (l : List Node). tree_in (reverse l) id) (nodes_parts done (Commit id mark branch author committer encoding comment parents ops aliases ∷ more))
+    ap (λ (l : List Node). tree_in (reverse l) id) (nodes_parts done (Commit id mark branch author committer encoding comment parents ops [] ∷ more))
     ∙ ap (λ (p : Past). tree_in p id) (reverse-append (nodes done) (own ∷ nodes more) ∙ ap (λ (p : Past). p ++ past done) (reverse-append (own ∷ []) (nodes more)) ∙ append_assoc (past more) (own ∷ []) (past done))
     ∙ tree_skips (past more) (own ∷ past done) id (unknown more id h)
     ∙ cond-true (id == id) (folded ops (begun (tree_in (past done)) parents)) (tree_in (past done) id) (eq-eqb id id refl)

@@ -7,3 +7,5 @@ pub mod WrittenEvents
 pub mod WrittenCommits
 pub mod Again
 pub mod Rows
+mod Bare
+mod BareTexts

@@ -53,27 +53,27 @@ kept_feature text true b c n h f = absurd cc
 kept_feature text false false c n h f = refl
 kept_feature text false true c n h f = let parts = and_parts c n h in ap not (f parts.0 parts.1)
 
-module _ (d : Expected) (between : is_between d ≡ true) (wants : Bool) (events done : List PlainEvent) (current : Open) (are : closed (record { events = events; current = current }) ≡ done) where
+module _ (d : Expected) (between : is_between d ≡ true) (wants : Bool) (events done : List PlainEvent) (aliases : List (ℕ × ℕ)) (current : Open) (are : closed (record { events = events; current = current; aliases = aliases }) ≡ done) where
   abbrev after_pass : Bytes → Point
-  after_pass text = point expected.Event (bytes_eq text (codes "feature done") || wants) (done ++ plain.Pass (next_id done) text ∷ []) Nothing
+  after_pass text = point expected.Event (bytes_eq text (codes "feature done") || wants) (done ++ plain.Pass (next_id done) text ∷ []) aliases Nothing
 
-  passed_is : (text : Bytes) → ◌≡◌ {A = Result Known Why} (Ok (passed (record { events = events; current = current }) text)) (Ok (record { events = done ++ plain.Pass (next_id done) text ∷ []; current = Nothing }))
-  passed_is text = ap (λ (l : List PlainEvent). Ok (record { events = l ++ plain.Pass (next_id l) text ∷ []; current = Nothing })) are
+  passed_is : (text : Bytes) → ◌≡◌ {A = Result Known Why} (Ok (passed (record { events = events; current = current; aliases = aliases }) text)) (Ok (record { events = done ++ plain.Pass (next_id done) text ∷ []; current = Nothing; aliases = aliases }))
+  passed_is text = ap (λ (l : List PlainEvent). Ok (record { events = l ++ plain.Pass (next_id l) text ∷ []; current = Nothing; aliases = aliases })) are
 
   -- such a line, which promises no last one
-  line_passes : (text : Bytes) → has_no_lf text ≡ true → is_comment text ≡ false → word_of text ≡ word.Pass → is_left_out_feature text ≡ false → bytes_eq text (codes "feature done") ≡ false → Leads (point d wants events current) text word.Pass More (after_pass text)
+  line_passes : (text : Bytes) → has_no_lf text ≡ true → is_comment text ≡ false → word_of text ≡ word.Pass → is_left_out_feature text ≡ false → bytes_eq text (codes "feature done") ≡ false → Leads (point d wants events aliases current) text word.Pass More (after_pass text)
   line_passes text p c w kept other = record {
     plain = p;
     no_comment = c;
     word_is = w;
     stands = ap (gone_on (record { expected = d; wants_done = wants }) word.Pass) (finishes d word.Pass between refl) ∙ ap (λ t. Ok (record { expected = expected.Event; wants_done = t || wants })) (sym other);
     follows = refl;
-    fits = ok_then (ensure (not (is_left_out_feature text)) LeftOut) (λ kept. Ok (passed (record { events = events; current = current }) text)) tt (Ok (passed (record { events = events; current = current }) text)) (ap (λ t. ensure (not t) LeftOut) kept) refl
+    fits = ok_then (ensure (not (is_left_out_feature text)) LeftOut) (λ kept. Ok (passed (record { events = events; current = current; aliases = aliases }) text)) tt (Ok (passed (record { events = events; current = current; aliases = aliases }) text)) (ap (λ t. ensure (not t) LeftOut) kept) refl
         ∙ passed_is text;
   }
 
   -- the promise of a last line
-  promise_passes : Leads (point d wants events current) (codes "feature done") word.FeatureDone More (after_pass (codes "feature done"))
+  promise_passes : Leads (point d wants events aliases current) (codes "feature done") word.FeatureDone More (after_pass (codes "feature done"))
   promise_passes = record {
     plain = refl;
     no_comment = refl;
@@ -85,7 +85,7 @@ module _ (d : Expected) (between : is_between d ≡ true) (wants : Bool) (events
 
   -- a line that leads on, of either word
   abbrev pub PassLeads : Bytes → Type 0
-  PassLeads text = (w : Word) × Leads (point d wants events current) text w More (after_pass text)
+  PassLeads text = (w : Word) × Leads (point d wants events aliases current) text w More (after_pass text)
 
   feature_passes : (rest : Bytes) → has_no_lf rest ≡ true → is_left_out_feature (codes "feature " ++ rest) ≡ false → PassLeads (codes "feature " ++ rest)
   feature_passes rest p kept = go (bytes_eq rest (codes "done")) refl

@@ -35,9 +35,9 @@ pub record Point : Type 0 where
   pub standing : Standing
   pub known : Known
 
-abbrev pub point : Expected → Bool → List PlainEvent → Open → Point
-point expected wants events current =
-    record { standing = record { expected = expected; wants_done = wants }; known = record { events = events; current = current } }
+abbrev pub point : Expected → Bool → List PlainEvent → List (ℕ × ℕ) → Open → Point
+point expected wants events aliases current =
+    record { standing = record { expected = expected; wants_done = wants }; known = record { events = events; current = current; aliases = aliases } }
 
 -- the same after these lines and blocks
 abbrev pub state_at : List Bytes → Point → State

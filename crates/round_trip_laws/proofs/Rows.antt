@@ -34,19 +34,19 @@ is_as_read = record {
       (
         (refl, refl),
         (
-          (refl, refl, refl, (refl, omega arith, omega arith), (refl, omega arith, omega arith), tt, tt, refl, omega arith, (refl, (refl, tt))),
+          (refl, refl, refl, (refl, omega arith, omega arith), (refl, omega arith, omega arith), tt, tt, refl, omega arith, (refl, (refl, tt)), tt, refl),
           (
             (refl, refl, refl),
             (
-              (refl, refl, refl, (refl, omega arith, omega arith), (refl, omega arith, omega arith), refl, (refl, tt), refl, omega arith, (tt, (tt, tt))),
+              (refl, refl, refl, (refl, omega arith, omega arith), (refl, omega arith, omega arith), refl, (refl, tt), refl, omega arith, (tt, (tt, tt)), (refl, (refl, tt)), refl),
               (
-                (refl, refl, refl, (refl, omega arith, omega arith), (refl, omega arith, omega arith), tt, (refl, (refl, tt)), refl, omega arith, (tt, (tt, (tt, tt)))),
+                (refl, refl, refl, (refl, omega arith, omega arith), (refl, omega arith, omega arith), tt, (refl, (refl, tt)), refl, omega arith, (tt, (tt, (tt, tt))), tt, refl),
                 (
                   (refl, refl, tt),
                   (
-                    (refl, refl, refl, (refl, omega arith, omega arith)),
+                    (refl, refl, refl, (refl, omega arith, omega arith), refl),
                     (
-                      (refl, refl, refl, tt),
+                      (refl, refl, refl, tt, tt),
                       tt,
                     ),
                   ),
@@ -62,17 +62,17 @@ is_as_read = record {
       (
         (omega arith, omega arith),
         (
-          ((omega arith, omega arith), ((tt, refl), ((tt, refl), tt))),
+          ((omega arith, omega arith), ((tt, refl), ((tt, refl), tt)), tt),
           (
             tt,
             (
-              ((omega arith, omega arith), ((refl, refl), ((refl, refl), tt))),
+              ((omega arith, omega arith), ((refl, refl), ((refl, refl), tt)), ((omega arith, omega arith), ((omega arith, omega arith), tt))),
               (
-                ((omega arith, omega arith), (tt, ((refl, refl), (refl, tt)))),
+                ((omega arith, omega arith), (tt, ((refl, refl), (refl, tt))), tt),
                 (
                   tt,
                   (
-                    tt,
+                    (omega arith, omega arith),
                     (
                       tt,
                       tt,

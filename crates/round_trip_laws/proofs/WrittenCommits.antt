@@ -15,7 +15,6 @@ use Rattle.plain_model.specs.Text.{line, marked, data_block, person, parents_tex
 use Rattle.plain_model.specs.Marks.{IsMark}
 use Rattle.plain_model.specs.Trees.{Tree, TreeOf, at, has}
 use Rattle.plain_model.specs.Parts.{has_no_lf}
-use Rattle.plain_model.specs.Streams.{is_marked}
 use Rattle.plain_model.specs.Names.{is_name}
 use Rattle.field_laws.proofs.Lines.{eqb_turned}
 use Rattle.stream_grammar.specs.declared.lines.Expected.{Expected}
@@ -24,7 +23,7 @@ use Rattle.stream_grammar.specs.declared.lines.Word.TheVariants as word
 use Rattle.stream_grammar.specs.Known.{Open, OpenCommit, next_id, with_parent}
 use Rattle.stream_grammar.specs.Known.Open.{ACommit}
 use Rattle.round_trip_laws.proofs.Points.{Point, point, Gives, line_goes, data_goes}
-use Rattle.round_trip_laws.proofs.WrittenLines.{may_end, commit_leads, commit_mark_leads, author_leads, committer_leads, encoding_leads, commit_from_leads, merge_leads, empty_leads}
+use Rattle.round_trip_laws.proofs.WrittenLines.{is_known, may_end, commit_leads, commit_mark_leads, author_leads, committer_leads, encoding_leads, commit_from_leads, merge_leads, empty_leads}
 use Rattle.round_trip_laws.proofs.WrittenOps.{op_leads}
 use Rattle.round_trip_laws.proofs.WrittenEvents.{IsAfter, GivesAfter, promise_more}
 use Rattle.round_trip_laws.proofs.FoundAgain.{AreFound, folded_parts}
@@ -54,7 +53,7 @@ nothing_seen (p ∷ ps) = (refl, nothing_seen ps)
 
 -- ---- the lines of a commit
 
-module _ (whole done : List PlainEvent) (found : AreFound whole done) (wants : Bool) (branch : Bytes) (mark : ℕ) (author committer : Signed) (encoding : Option Bytes) (comment : Bytes) (history : List PlainEvent) where
+module _ (whole done : List PlainEvent) (aliases : List (ℕ × ℕ)) (found : AreFound whole done) (wants : Bool) (branch : Bytes) (mark : ℕ) (author committer : Signed) (encoding : Option Bytes) (comment : Bytes) (history : List PlainEvent) where
   -- the commit with its comment
   abbrev pub so_far : List ℕ → List FileOp → OpenCommit
   so_far parents ops = record {
@@ -69,7 +68,7 @@ module _ (whole done : List PlainEvent) (found : AreFound whole done) (wants : B
   }
 
   abbrev pub at_commit : Expected → List ℕ → List FileOp → Point
-  at_commit d parents ops = point d wants done (ACommit (so_far parents ops))
+  at_commit d parents ops = point d wants done aliases (ACommit (so_far parents ops))
 
   -- ---- operations
 
@@ -90,7 +89,7 @@ module _ (whole done : List PlainEvent) (found : AreFound whole done) (wants : B
       (subst (λ (l : List FileOp). GivesAfterOps parents l rest) (sym (append_assoc front (op ∷ []) ops)) k) in
       subst (λ (text : Bytes). Gives (at_commit d parents front) text history) (sym (append_assoc (op_text whole op) (ops_text ops) rest))
       (line_goes (at_commit d parents front) (at_commit expected.CommitOperation parents (front ++ op ∷ [])) (raw_op_text (raw_op whole op)) (ops_text ops ++ rest) word.Operation history
-      (op_leads whole done found (so_far parents front) d may wants op ops refers.0 formed.0 t)
+      (op_leads whole done found (so_far parents front) aliases d may wants op ops refers.0 formed.0 t)
       (next expected.CommitOperation refl))
 
   -- ---- parents
@@ -115,9 +114,9 @@ module _ (whole done : List PlainEvent) (found : AreFound whole done) (wants : B
       let next = merges_go first (seen ++ p ∷ []) ps rest are.1 parts.1 (new_more (first ∷ seen) p ps (not-true (list_any (λ m. m == p) ps) parts.0) new.1)
       (subst (λ (l : List ℕ). Gives (at_commit expected.CommitMerge l []) rest history) (sym (append_assoc (first ∷ seen) (p ∷ []) ps)) k) in
       subst (λ (text : Bytes). Gives (at_commit expected.CommitMerge (first ∷ seen) []) text history) (sym (append_assoc (line (merge_line p)) (merges_text ps) rest))
-      (line_goes (at_commit expected.CommitMerge (first ∷ seen) []) (point expected.CommitMerge wants done (ACommit (with_parent p (so_far (first ∷ seen) [])))) (merge_line p) (merges_text ps ++ rest) word.Merge history
-      (merge_leads wants done (commit_mark whole p) p f.0 f.1 (so_far (first ∷ seen) []))
-      (subst (λ (c : OpenCommit). Gives (point expected.CommitMerge wants done (ACommit c)) (merges_text ps ++ rest) history) (sym (parent_more first seen p new.0)) next))
+      (line_goes (at_commit expected.CommitMerge (first ∷ seen) []) (point expected.CommitMerge wants done aliases (ACommit (with_parent p (so_far (first ∷ seen) [])))) (merge_line p) (merges_text ps ++ rest) word.Merge history
+      (merge_leads wants done aliases (commit_mark whole p) p f.0 f.1 (so_far (first ∷ seen) []))
+      (subst (λ (c : OpenCommit). Gives (point expected.CommitMerge wants done aliases (ACommit c)) (merges_text ps ++ rest) history) (sym (parent_more first seen p new.0)) next))
 
   -- all parents, in place of the branch's tip
   parents_go : (tip parents : List ℕ) (rest : Bytes) → AllByRecursion (IsCommitOf done) parents → are_distinct parents ≡ true → (parents ≡ [] → tip ≡ [])
@@ -129,13 +128,13 @@ module _ (whole done : List PlainEvent) (found : AreFound whole done) (wants : B
       let from_line = codes "from " ++ marked (commit_mark whole p) in
       subst (λ (text : Bytes). Gives (at_commit expected.CommitFrom tip []) text history) (sym (append_assoc (line from_line) (merges_text ps) rest))
       (line_goes (at_commit expected.CommitFrom tip []) (at_commit expected.CommitMerge (p ∷ []) []) from_line (merges_text ps ++ rest) word.From history
-      (commit_from_leads wants done (commit_mark whole p) p f.0 f.1 (so_far tip []))
+      (commit_from_leads wants done aliases (commit_mark whole p) p f.0 f.1 (so_far tip []))
       (merges_go p [] ps rest are.1 parts.1 (new_more [] p ps (not-true (list_any (λ m. m == p) ps) parts.0) (nothing_seen ps)) (k expected.CommitMerge refl)))
 
   -- ---- encoding and comment
 
   abbrev before_encoding : Option Bytes → List ℕ → Point
-  before_encoding e tip = point expected.CommitEncoding wants done (ACommit (record {
+  before_encoding e tip = point expected.CommitEncoding wants done aliases (ACommit (record {
     branch = branch;
     mark = mark;
     author = Some author;
@@ -147,23 +146,23 @@ module _ (whole done : List PlainEvent) (found : AreFound whole done) (wants : B
   }))
 
 -- the encoding, if there is one, and the comment
-comment_goes : (whole done : List PlainEvent) (found : AreFound whole done) (wants : Bool) (branch : Bytes) (mark : ℕ) (author committer : Signed) (encoding : Option Bytes) (comment : Bytes) (history : List PlainEvent)
+comment_goes : (whole done : List PlainEvent) (aliases : List (ℕ × ℕ)) (found : AreFound whole done) (wants : Bool) (branch : Bytes) (mark : ℕ) (author committer : Signed) (encoding : Option Bytes) (comment : Bytes) (history : List PlainEvent)
     (tip : List ℕ) (rest : Bytes) → IfSome encoding (λ e. IsTrue (has_no_lf e))
-    → Gives (at_commit whole done found wants branch mark author committer encoding comment history expected.CommitFrom tip []) rest history
-    → Gives (before_encoding whole done found wants branch mark author committer encoding comment history None tip) (encoding_text whole encoding ++ (data_block comment ++ rest)) history
-comment_goes whole done found wants branch mark author committer None comment history tip rest plain g =
-    data_goes (before_encoding whole done found wants branch mark author committer None comment history None tip) (record { expected = expected.CommitFrom; wants_done = wants }) comment refl rest history g
-comment_goes whole done found wants branch mark author committer (Some e) comment history tip rest plain g =
+    → Gives (at_commit whole done aliases found wants branch mark author committer encoding comment history expected.CommitFrom tip []) rest history
+    → Gives (before_encoding whole done aliases found wants branch mark author committer encoding comment history None tip) (encoding_text whole encoding ++ (data_block comment ++ rest)) history
+comment_goes whole done aliases found wants branch mark author committer None comment history tip rest plain g =
+    data_goes (before_encoding whole done aliases found wants branch mark author committer None comment history None tip) (record { expected = expected.CommitFrom; wants_done = wants }) comment refl rest history g
+comment_goes whole done aliases found wants branch mark author committer (Some e) comment history tip rest plain g =
     let c : OpenCommit = record { branch = branch; mark = mark; author = Some author; committer = Some committer; encoding = None; comment = []; parents = tip; ops = [] } in
-    let q : Point = point expected.CommitData wants done (ACommit (record { branch = branch; mark = mark; author = Some author; committer = Some committer; encoding = Some e; comment = []; parents = tip; ops = [] })) in
-    line_goes (before_encoding whole done found wants branch mark author committer (Some e) comment history None tip) q (codes "encoding " ++ e) (data_block comment ++ rest) word.Encoding history
-    (encoding_leads wants done c e plain)
+    let q : Point = point expected.CommitData wants done aliases (ACommit (record { branch = branch; mark = mark; author = Some author; committer = Some committer; encoding = Some e; comment = []; parents = tip; ops = [] })) in
+    line_goes (before_encoding whole done aliases found wants branch mark author committer (Some e) comment history None tip) q (codes "encoding " ++ e) (data_block comment ++ rest) word.Encoding history
+    (encoding_leads wants done aliases c e plain)
     (data_goes q (record { expected = expected.CommitFrom; wants_done = wants }) comment refl rest history g)
 
 -- ---- whole commits
 
-commit_grouped : (a b c d e f g h rest : Bytes) → [] ++ a ++ b ++ c ++ d ++ e ++ f ++ g ++ h ++ 10 ∷ [] ++ rest ≡ a ++ (b ++ (c ++ (d ++ (e ++ (f ++ (g ++ (h ++ 10 ∷ rest)))))))
-commit_grouped a b c d e f g h rest = simp append_assoc
+commit_grouped : (a b c d e f g h rest : Bytes) → [] ++ a ++ b ++ c ++ d ++ e ++ f ++ g ++ h ++ 10 ∷ [] ++ [] ++ rest ≡ a ++ (b ++ (c ++ (d ++ (e ++ (f ++ (g ++ (h ++ 10 ∷ rest)))))))
+commit_grouped a b c d e f g h rest = simp (append_assoc, append-nil)
 
 -- a branch without a tip has no parent for a commit
 no_tip : (tips : TreeOf ℕ) (branch : Bytes) → has tips branch ≡ false → option_to_list (at tips branch) ≡ []
@@ -174,10 +173,10 @@ no_tip tips branch h = go (at tips branch) h
     go (Some c) h = absurd cc
 
 -- what is asked of a commit
-pub record CommitFits (whole done : List PlainEvent) (id mark : ℕ) (branch : Bytes) (author committer : Signed) (encoding : Option Bytes) (comment : Bytes) (parents : List ℕ) (ops : List FileOp) : Type 0 where
+pub record CommitFits (whole done : List PlainEvent) (aliases : List (ℕ × ℕ)) (id mark : ℕ) (branch : Bytes) (author committer : Signed) (encoding : Option Bytes) (comment : Bytes) (parents : List ℕ) (ops : List FileOp) : Type 0 where
   pub place : id ≡ next_id done
   pub is_mark : IsMark mark
-  pub new : is_marked done mark ≡ false
+  pub new : is_known done aliases mark ≡ false
   pub named : IsTrue (is_name branch)
   pub written_by : IsFormedSigned author
   pub committed_by : IsFormedSigned committer
@@ -194,21 +193,21 @@ no_reset : (whole : List PlainEvent) (tips : TreeOf ℕ) (branch : Bytes) (paren
 no_reset whole tips branch [] h = cond-false (has tips branch) (line (codes "reset " ++ branch)) [] (h refl)
 no_reset whole tips branch (p ∷ ps) h = refl
 
-module _ (d : Expected) (wants : Bool) (events : List PlainEvent) (current : Open) (whole done : List PlainEvent) (h : IsAfter d wants events current done) (found : AreFound whole done)
+module _ (d : Expected) (wants : Bool) (events : List PlainEvent) (current : Open) (whole done : List PlainEvent) (aliases : List (ℕ × ℕ)) (h : IsAfter d wants events current done aliases) (found : AreFound whole done)
     (id mark : ℕ) (branch : Bytes) (author committer : Signed) (encoding : Option Bytes) (comment : Bytes) (parents : List ℕ) (ops : List FileOp)
-    (fits : CommitFits whole done id mark branch author committer encoding comment parents ops) (rest : Bytes) (history : List PlainEvent)
-    (k : GivesAfter (done ++ Commit id mark branch author committer encoding comment parents ops aliases ∷ []) rest history) where
+    (fits : CommitFits whole done aliases id mark branch author committer encoding comment parents ops) (rest : Bytes) (history : List PlainEvent)
+    (k : GivesAfter (done ++ Commit id mark branch author committer encoding comment parents ops [] ∷ []) aliases rest history) where
   abbrev own : PlainEvent
-  own = Commit id mark branch author committer encoding comment parents ops aliases
+  own = Commit id mark branch author committer encoding comment parents ops []
 
   -- the empty line after it
-  end_goes : GivesAfterOps whole done found wants branch mark author committer encoding comment history parents ops (10 ∷ rest)
+  end_goes : GivesAfterOps whole done aliases found wants branch mark author committer encoding comment history parents ops (10 ∷ rest)
   end_goes place may =
-      line_goes (at_commit whole done found wants branch mark author committer encoding comment history place parents ops) (at_commit whole done found wants branch mark author committer encoding comment history expected.Event parents ops) [] rest word.Empty history
-      (empty_leads place may wants done (ACommit (so_far whole done found wants branch mark author committer encoding comment history parents ops)))
-      (k expected.Event wants done (ACommit (so_far whole done found wants branch mark author committer encoding comment history parents ops)) (record {
+      line_goes (at_commit whole done aliases found wants branch mark author committer encoding comment history place parents ops) (at_commit whole done aliases found wants branch mark author committer encoding comment history expected.Event parents ops) [] rest word.Empty history
+      (empty_leads place may wants done aliases (ACommit (so_far whole done aliases found wants branch mark author committer encoding comment history parents ops)))
+      (k expected.Event wants done (ACommit (so_far whole done aliases found wants branch mark author committer encoding comment history parents ops)) (record {
         between = refl;
-        are = ap (λ n. done ++ Commit n mark branch author committer encoding comment parents ops aliases ∷ []) (sym fits.place);
+        are = ap (λ n. done ++ Commit n mark branch author committer encoding comment parents ops [] ∷ []) (sym fits.place);
         promised = h.promised ∙ promise_more done own;
       }))
 
@@ -216,11 +215,11 @@ module _ (d : Expected) (wants : Bool) (events : List PlainEvent) (current : Ope
   tip = option_to_list (at (refs done) branch)
 
   -- after the line of the committer
-  rest_goes : Gives (before_encoding whole done found wants branch mark author committer encoding comment history None tip) (encoding_text whole encoding ++ (data_block comment ++ (parents_text whole parents ++ (flat_map (op_text whole) ops ++ 10 ∷ rest)))) history
+  rest_goes : Gives (before_encoding whole done aliases found wants branch mark author committer encoding comment history None tip) (encoding_text whole encoding ++ (data_block comment ++ (parents_text whole parents ++ (flat_map (op_text whole) ops ++ 10 ∷ rest)))) history
   rest_goes =
-      comment_goes whole done found wants branch mark author committer encoding comment history tip (parents_text whole parents ++ (flat_map (op_text whole) ops ++ 10 ∷ rest)) fits.encoded
-      (parents_go whole done found wants branch mark author committer encoding comment history tip parents (flat_map (op_text whole) ops ++ 10 ∷ rest) fits.children fits.apart (λ e. no_tip (refs done) branch (fits.rooted e))
-      (ops_go whole done found wants branch mark author committer encoding comment history parents [] ops (10 ∷ rest) fits.refers fits.formed (subst IsSome (ap (folded ops) (sym (nothing_folded (begun (tree done) parents)))) fits.carried_out) end_goes))
+      comment_goes whole done aliases found wants branch mark author committer encoding comment history tip (parents_text whole parents ++ (flat_map (op_text whole) ops ++ 10 ∷ rest)) fits.encoded
+      (parents_go whole done aliases found wants branch mark author committer encoding comment history tip parents (flat_map (op_text whole) ops ++ 10 ∷ rest) fits.children fits.apart (λ e. no_tip (refs done) branch (fits.rooted e))
+      (ops_go whole done aliases found wants branch mark author committer encoding comment history parents [] ops (10 ∷ rest) fits.refers fits.formed (subst IsSome (ap (folded ops) (sym (nothing_folded (begun (tree done) parents)))) fits.carried_out) end_goes))
     where
       nothing_folded : (o : Option Tree) → folded [] o ≡ o
       nothing_folded None = refl
@@ -232,21 +231,21 @@ module _ (d : Expected) (wants : Bool) (events : List PlainEvent) (current : Ope
   abbrev after_committer : Bytes
   after_committer = encoding_text whole encoding ++ (data_block comment ++ (parents_text whole parents ++ (flat_map (op_text whole) ops ++ 10 ∷ rest)))
 
-  pub commit_goes : Gives (point d wants events current) (event_text whole (refs done) own ++ rest) history
+  pub commit_goes : Gives (point d wants events aliases current) (event_text whole (refs done) own ++ rest) history
   commit_goes =
       let head_line = codes "commit " ++ branch in
       let mark_line = codes "mark " ++ marked mark in
       let author_line = codes "author " ++ person author in
       let committer_line = codes "committer " ++ person committer in
-      subst (λ (text : Bytes). Gives (point d wants events current) text history)
-      (sym (ap (λ (r : Bytes). r ++ line head_line ++ line mark_line ++ line author_line ++ line committer_line ++ encoding_text whole encoding ++ data_block comment ++ parents_text whole parents ++ flat_map (op_text whole) ops ++ 10 ∷ [] ++ rest) (no_reset whole (refs done) branch parents fits.rooted)
+      subst (λ (text : Bytes). Gives (point d wants events aliases current) text history)
+      (sym (ap (λ (r : Bytes). r ++ line head_line ++ line mark_line ++ line author_line ++ line committer_line ++ encoding_text whole encoding ++ data_block comment ++ parents_text whole parents ++ flat_map (op_text whole) ops ++ 10 ∷ [] ++ [] ++ rest) (no_reset whole (refs done) branch parents fits.rooted)
       ∙ commit_grouped (line head_line) (line mark_line) (line author_line) (line committer_line) (encoding_text whole encoding) (data_block comment) (parents_text whole parents) (flat_map (op_text whole) ops) rest))
-      (line_goes (point d wants events current) (point expected.CommitMark wants done (ACommit (begun_commit 0 None None))) head_line (line mark_line ++ (line author_line ++ (line committer_line ++ after_committer))) word.Commit history
-      (commit_leads d h.between wants events done current h.are branch fits.named)
-      (line_goes (point expected.CommitMark wants done (ACommit (begun_commit 0 None None))) (point expected.CommitOid wants done (ACommit (begun_commit mark None None))) mark_line (line author_line ++ (line committer_line ++ after_committer)) word.Mark history
-      (commit_mark_leads wants done mark fits.is_mark fits.new (begun_commit 0 None None))
-      (line_goes (point expected.CommitOid wants done (ACommit (begun_commit mark None None))) (point expected.CommitCommitter wants done (ACommit (begun_commit mark (Some author) None))) author_line (line committer_line ++ after_committer) word.Author history
-      (author_leads wants done author fits.written_by (begun_commit mark None None))
-      (line_goes (point expected.CommitCommitter wants done (ACommit (begun_commit mark (Some author) None))) (point expected.CommitEncoding wants done (ACommit (begun_commit mark (Some author) (Some committer)))) committer_line after_committer word.Committer history
-      (committer_leads wants done committer fits.committed_by (begun_commit mark (Some author) None))
+      (line_goes (point d wants events aliases current) (point expected.CommitMark wants done aliases (ACommit (begun_commit 0 None None))) head_line (line mark_line ++ (line author_line ++ (line committer_line ++ after_committer))) word.Commit history
+      (commit_leads d h.between wants events done aliases current h.are branch fits.named)
+      (line_goes (point expected.CommitMark wants done aliases (ACommit (begun_commit 0 None None))) (point expected.CommitOid wants done aliases (ACommit (begun_commit mark None None))) mark_line (line author_line ++ (line committer_line ++ after_committer)) word.Mark history
+      (commit_mark_leads wants done aliases mark fits.is_mark fits.new (begun_commit 0 None None))
+      (line_goes (point expected.CommitOid wants done aliases (ACommit (begun_commit mark None None))) (point expected.CommitCommitter wants done aliases (ACommit (begun_commit mark (Some author) None))) author_line (line committer_line ++ after_committer) word.Author history
+      (author_leads wants done aliases author fits.written_by (begun_commit mark None None))
+      (line_goes (point expected.CommitCommitter wants done aliases (ACommit (begun_commit mark (Some author) None))) (point expected.CommitEncoding wants done aliases (ACommit (begun_commit mark (Some author) (Some committer)))) committer_line after_committer word.Committer history
+      (committer_leads wants done aliases committer fits.committed_by (begun_commit mark (Some author) None))
       rest_goes))))

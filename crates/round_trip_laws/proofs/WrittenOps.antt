@@ -291,9 +291,9 @@ module _ (whole done : List PlainEvent) (found : AreFound whole done) (c : OpenC
   abbrev pub with_op : FileOp → OpenCommit
   with_op op = record c { ops = c.ops ++ op ∷ [] }
 
-  pub op_leads : (d : Expected) → may_end d ≡ true → (wants : Bool) (op : FileOp) (ops : List FileOp) → RefersBack done op → IsFormedOp op → IsSome (folded (op ∷ ops) (tree_now done c))
-      → Leads (point d wants done (ACommit c)) (raw_op_text (raw_op whole op)) word.Operation More (point expected.CommitOperation wants done (ACommit (with_op op)))
-  op_leads d may wants op ops refers formed tree =
+  pub op_leads : (aliases : List (ℕ × ℕ)) (d : Expected) → may_end d ≡ true → (wants : Bool) (op : FileOp) (ops : List FileOp) → RefersBack done op → IsFormedOp op → IsSome (folded (op ∷ ops) (tree_now done c))
+      → Leads (point d wants done aliases (ACommit c)) (raw_op_text (raw_op whole op)) word.Operation More (point expected.CommitOperation wants done aliases (ACommit (with_op op)))
+  op_leads aliases d may wants op ops refers formed tree =
       let l = op_line op ops refers formed tree in
       record {
         plain = l.plain;
@@ -301,5 +301,5 @@ module _ (whole done : List PlainEvent) (found : AreFound whole done) (c : OpenC
         word_is = l.word_is;
         stands = ap (gone_on (record { expected = d; wants_done = wants }) word.Operation) (goes_operation d may);
         follows = refl;
-        fits = ok_then (op_after done c (raw_op_text (raw_op whole op))) (λ o. Ok (record { events = done; current = ACommit (with_op o) })) op (Ok (record { events = done; current = ACommit (with_op op) })) l.again refl;
+        fits = ok_then (op_after done c (raw_op_text (raw_op whole op))) (λ o. Ok (record { events = done; current = ACommit (with_op o); aliases = aliases })) op (Ok (record { events = done; current = ACommit (with_op op); aliases = aliases })) l.again refl;
       }

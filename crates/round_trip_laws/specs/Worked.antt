@@ -18,7 +18,7 @@ bob = record {
 abbrev pub an_object : Bytes
 an_object = codes "0123456789abcdef0123456789abcdef01234567"
 
--- Two branches and their merge. A path begins with a quote, one has an LF, and one a space.
+-- Two branches and their merge, two aliases of one commit, and a tag with a mark. A path begins with a quote, one has an LF, and one a space.
 abbrev pub two_branches : List PlainEvent
 two_branches =
     Pass 1 (codes "feature done")
@@ -27,11 +27,11 @@ two_branches =
     (Modify Plain (OfBlob 2) (codes "a b") ∷ Modify Link (OfBlob 2) (codes "\"x") ∷ []) []
     ∷ Reset 4 (codes "refs/heads/b") (Some 3)
     ∷ Commit 5 3 (codes "refs/heads/b") bob ann (Some (codes "latin1")) [] (3 ∷ [])
-    (Rename (codes "a b") (codes "c") ∷ Copy (codes "\"x") (codes "d\ne") ∷ []) []
+    (Rename (codes "a b") (codes "c") ∷ Copy (codes "\"x") (codes "d\ne") ∷ []) (10 ∷ 9 ∷ [])
     ∷ Commit 6 4 (codes "refs/heads/a") ann bob None (codes "both\n") (3 ∷ 5 ∷ [])
     (DeleteAll ∷ Modify Gitlink (Object an_object) (codes "lib") ∷ Delete (codes "c") ∷ []) []
     ∷ Reset 7 (codes "refs/heads/b") None
-    ∷ Tag 8 (codes "v1") 6 (Some bob) (codes "one") None
+    ∷ Tag 8 (codes "v1") 6 (Some bob) (codes "one") (Some 7)
     ∷ Tag 9 (codes "v2") 3 None [] None
     ∷ []
 
@@ -65,6 +65,12 @@ two_branches_lines =
     ∷ codes "R \"a b\" c"
     ∷ codes "C \"\\\"x\" \"d\\ne\""
     ∷ []
+    ∷ codes "alias"
+    ∷ codes "mark :10"
+    ∷ codes "to :3"
+    ∷ codes "alias"
+    ∷ codes "mark :9"
+    ∷ codes "to :3"
     ∷ codes "commit refs/heads/a"
     ∷ codes "mark :4"
     ∷ codes "author Ann <a@b> 1 +0000"
@@ -80,6 +86,7 @@ two_branches_lines =
     ∷ []
     ∷ codes "reset refs/heads/b"
     ∷ codes "tag v1"
+    ∷ codes "mark :7"
     ∷ codes "from :4"
     ∷ codes "tagger <b@c> 20 -0130"
     ∷ codes "data 3"
@@ -90,11 +97,3 @@ two_branches_lines =
     ∷ []
     ∷ codes "done"
     ∷ []
-
--- a second root on a branch, without a reset before it
-abbrev pub two_roots : List PlainEvent
-two_roots = of_ann 1 1 [] [] ∷ of_ann 2 2 [] [] ∷ []
-
--- ids that aren't places
-abbrev pub other_ids : List PlainEvent
-other_ids = Blob 7 1 [] ∷ of_ann 3 2 [] (Modify Plain (OfBlob 7) (codes "f") ∷ []) ∷ []

@@ -5,4 +5,4 @@ mod laws;
 mod worked;
 
 pub use laws::what_is_written_is_read_again;
-pub use worked::{other_histories_are_read_as_others, two_branches_are_written_and_read};
+pub use worked::two_branches_are_written_and_read;

@@ -1,7 +1,7 @@
 -- What a sound history keeps when resets stand before its roots: each referent is there, and all but the ids of tags,
 -- resets and lines is as soundness wants it.
 use Rattle.std.proofs.Common.{◌≡◌, ℕ, Bool, true, false, List, [], ◌∷◌, ◌++◌, refl, sym, ap, subst, ◌∙◌, Some, None, append_assoc}
-use Rattle.std.specs.Prelude.{◌||◌, IsTrue, IfSome, if◌then◌else◌}
+use Rattle.std.specs.Prelude.{◌||◌, IsFalse, IsTrue, IfSome, if◌then◌else◌}
 use Rattle.std.specs.List.{AllByRecursion}
 use Rattle.plain_model.specs.declared.id.AnyId.TheVariants as any
 use Rattle.plain_model.specs.declared.operation.Mode.TheVariants.{Plain, Executable, Link, Gitlink}
@@ -114,7 +114,8 @@ formed_with_resets = all_with_resets IsFormedEvent (λ branch. tt)
 abbrev pub IsFitEvent : List PlainEvent → PlainEvent → Type 0
 IsFitEvent earlier (Blob id mark bytes) = IsSoundEvent earlier (Blob id mark bytes)
 IsFitEvent earlier (Commit id mark branch author committer encoding comment parents ops aliases) = IsSoundEvent earlier (Commit id mark branch author committer encoding comment parents ops aliases)
-IsFitEvent earlier (Tag id name target tagger comment mark) = IsTrue (is_name name) × IsCommitOf earlier target × IfSome tagger IsFormedSigned
+IsFitEvent earlier (Tag id name target tagger comment mark) =
+    IsTrue (is_name name) × IsCommitOf earlier target × IfSome tagger IsFormedSigned × IfSome mark (λ m. IsFalse (is_marked earlier m))
 IsFitEvent earlier (Reset id branch target) = IsTrue (is_name branch) × IfSome target (IsCommitOf earlier)
 IsFitEvent earlier (Pass id line) = IsTrue (is_passed_line line)
 
@@ -170,11 +171,16 @@ module _ (old new : List PlainEvent) (a : AreAlike old new) where
   ops_alike [] h = tt
   ops_alike (op ∷ ops) h = (op_alike op h.0, ops_alike ops h.1)
 
+  unmarked_alike : (marks : List ℕ) → AllByRecursion (λ m. IsFalse (is_marked old m)) marks → AllByRecursion (λ m. IsFalse (is_marked new m)) marks
+  unmarked_alike [] h = tt
+  unmarked_alike (m ∷ marks) h = (sym (a.marks m) ∙ h.0, unmarked_alike marks h.1)
+
   event_fit : (e : PlainEvent) → IsSoundEvent old e → IsFitEvent new e
   event_fit (Blob id mark bytes) h = (sym (a.blobs id) ∙ h.0, sym (a.marks mark) ∙ h.1)
   event_fit (Commit id mark branch author committer encoding comment parents ops aliases) h =
-      (sym (a.commits id) ∙ h.0, sym (a.marks mark) ∙ h.1, h.2, h.3, h.4, h.5, parents_alike parents h.6, h.7, h.8, ops_alike ops h.9)
-  event_fit (Tag id name target tagger comment mark) h = (h.1, sym (a.commits target) ∙ h.2, h.3)
+      (sym (a.commits id) ∙ h.0, sym (a.marks mark) ∙ h.1, h.2, h.3, h.4, h.5, parents_alike parents h.6, h.7, h.8, ops_alike ops h.9, unmarked_alike aliases h.10, h.11)
+  event_fit (Tag id name target tagger comment None) h = (h.1, sym (a.commits target) ∙ h.2, h.3, tt)
+  event_fit (Tag id name target tagger comment (Some mark)) h = (h.1, sym (a.commits target) ∙ h.2, h.3, sym (a.marks mark) ∙ h.4)
   event_fit (Reset id branch None) h = (h.1, tt)
   event_fit (Reset id branch (Some c)) h = (h.1, sym (a.commits c) ∙ h.2)
   event_fit (Pass id line) h = h.1

@@ -29,22 +29,22 @@ three_trees false false false x y z h = absurd cc
 pub is_sound : IsSound root_on_a_tip
 is_sound = record {
   formed = (
-    (refl, refl, refl, (refl, omega arith, omega arith), (refl, omega arith, omega arith), tt, tt, refl, omega arith, tt),
+    (refl, refl, refl, (refl, omega arith, omega arith), (refl, omega arith, omega arith), tt, tt, refl, omega arith, tt, tt, refl),
     (
-      (refl, refl, refl, (refl, omega arith, omega arith), (refl, omega arith, omega arith), tt, (refl, tt), refl, omega arith, tt),
+      (refl, refl, refl, (refl, omega arith, omega arith), (refl, omega arith, omega arith), tt, (refl, tt), refl, omega arith, tt, tt, refl),
       (
-        (refl, refl, refl, (refl, omega arith, omega arith), (refl, omega arith, omega arith), tt, tt, refl, omega arith, tt),
+        (refl, refl, refl, (refl, omega arith, omega arith), (refl, omega arith, omega arith), tt, tt, refl, omega arith, tt, tt, refl),
         tt,
       ),
     ),
   );
   trees = λ c h. three_trees (4 == c) (2 == c) (1 == c) _ _ _ h;
   spelled = (
-    ((omega arith, omega arith), tt),
+    ((omega arith, omega arith), tt, tt),
     (
-      ((omega arith, omega arith), tt),
+      ((omega arith, omega arith), tt, tt),
       (
-        ((omega arith, omega arith), tt),
+        ((omega arith, omega arith), tt, tt),
         tt,
       ),
     ),

@@ -1,6 +1,7 @@
 -- A history under places as ids is sound, and each id's place is its new id.
 use Rattle.std.proofs.Common.{◌≡◌, ℕ, suc, ◌+◌, Bool, true, false, not, List, [], ◌∷◌, ◌++◌, length, map, refl, sym, ap, subst, ◌∙◌, inl, inr, ◌⊎◌, Option, Some, None, arith, append_assoc, length-append, eqb-true, eq-eqb, ne_eqb}
-use Rattle.std.specs.Prelude.{◌==◌, ◌||◌, ◌&&◌, option_map, unwrap_or}
+use Rattle.std.specs.Prelude.{◌==◌, ◌||◌, ◌&&◌, option_map, unwrap_or, IsFalse}
+use Rattle.plain_model.specs.Streams.{is_marked}
 use Rattle.std.specs.List.{AllByRecursion, list_any}
 use Rattle.std.proofs.lemmas.Bool.{cases_Bool, cond-true, cond-false, false_from_ne_true, or_cases, or_parts}
 use Rattle.plain_model.specs.declared.id.AnyId.{AnyId}
@@ -163,6 +164,10 @@ module _ (blob commit : ℕ → ℕ) where
     ops_refer [] h = tt
     ops_refer (op ∷ ops) h = (op_refers op h.0, ops_refer ops h.1)
 
+    none_marked : (marks : List ℕ) → AllByRecursion (λ m. IsFalse (is_marked old m)) marks → AllByRecursion (λ m. IsFalse (is_marked (under 1 old) m)) marks
+    none_marked [] h = tt
+    none_marked (m ∷ marks) h = (marks_under blob commit 1 m old ∙ h.0, none_marked marks h.1)
+
     event_sound : (k : ℕ) → k ≡ 1 + length old → (e : PlainEvent) → IsFitEvent old e → IsSoundEvent (under 1 old) (renamed blob commit k e)
     event_sound k is (Blob id mark bytes) h = (fresh k (any.Blob k) is refl, marks_under blob commit 1 mark old ∙ h.1)
     event_sound k is (Commit id mark branch author committer encoding comment parents ops aliases) h = (
@@ -176,8 +181,11 @@ module _ (blob commit : ℕ → ℕ) where
       distinct_still parents h.6 ∙ h.7,
       (let few = h.8 in let many = as_many parents in omega arith),
       ops_refer ops h.9,
+      none_marked aliases h.10,
+      h.11,
     )
-    event_sound k is (Tag id name target tagger comment mark) h = (fresh k (any.Tag k) is refl, h.0, commit_under blob commit 1 target old agree h.1, h.2)
+    event_sound k is (Tag id name target tagger comment None) h = (fresh k (any.Tag k) is refl, h.0, commit_under blob commit 1 target old agree h.1, h.2, tt)
+    event_sound k is (Tag id name target tagger comment (Some mark)) h = (fresh k (any.Tag k) is refl, h.0, commit_under blob commit 1 target old agree h.1, h.2, marks_under blob commit 1 mark old ∙ h.3)
     event_sound k is (Reset id branch None) h = (fresh k (any.Reset k) is refl, h.0, tt)
     event_sound k is (Reset id branch (Some c)) h = (fresh k (any.Reset k) is refl, h.0, commit_under blob commit 1 c old agree h.1)
     event_sound k is (Pass id line) h = (fresh k (any.Pass k) is refl, h)
@@ -235,7 +243,7 @@ module _ (blob commit : ℕ → ℕ) where
   pub formed_under : (k : ℕ) (events : List PlainEvent) → AllByRecursion IsFormedEvent events → AllByRecursion IsFormedEvent (under k events)
   formed_under k [] h = tt
   formed_under k (Blob id mark bytes ∷ events) h = (h.0, formed_under (suc k) events h.1)
-  formed_under k (Commit id mark branch author committer encoding comment parents ops aliases ∷ events) h = ((h.0.0, ops_formed ops h.0.1), formed_under (suc k) events h.1)
+  formed_under k (Commit id mark branch author committer encoding comment parents ops aliases ∷ events) h = ((h.0.0, ops_formed ops h.0.1, h.0.2), formed_under (suc k) events h.1)
   formed_under k (Tag id name target tagger comment mark ∷ events) h = (h.0, formed_under (suc k) events h.1)
   formed_under k (Reset id branch target ∷ events) h = (h.0, formed_under (suc k) events h.1)
   formed_under k (Pass id line ∷ events) h = (h.0, formed_under (suc k) events h.1)

@@ -1,5 +1,5 @@
 -- What each line keeps of the event that is being read.
-use Rattle.std.proofs.Common.{◌≡◌, ℕ, ◌+◌, ◌<◌, ◌≤◌, Bool, true, false, cond, not, List, [], ◌∷◌, ◌++◌, length, Option, Some, None, Ok, refl, sym, ap, subst, ◌∙◌, inl, arith, eq-eqb, ne_eqb}
+use Rattle.std.proofs.Common.{◌≡◌, ℕ, ◌+◌, ◌≤◌, Bool, true, false, cond, not, List, [], ◌∷◌, ◌++◌, length, Option, Some, None, Ok, refl, sym, ap, subst, ◌∙◌, inl, inr, arith, eq-eqb, ne_eqb}
 use Rattle.std.specs.Prelude.{◌==◌, IfSome, is_some, nat_lt, option_to_list}
 use Rattle.std.specs.List.{AllByRecursion, list_any}
 use Rattle.std.proofs.lemmas.Bool.{and_parts, and_from, or_from, or_parts, not-true}
@@ -12,6 +12,7 @@ use Rattle.plain_model.specs.declared.operation.FileOp.TheVariants.{DeleteAll}
 use Rattle.plain_model.specs.declared.person.Signed.{Signed}
 use Rattle.plain_model.specs.declared.event.PlainEvent.{PlainEvent}
 use Rattle.plain_model.specs.Histories.{begun, folded, tree}
+use Rattle.plain_model.specs.Marks.{IsMark}
 use Rattle.plain_model.specs.Names.{is_name}
 use Rattle.plain_model.specs.Parts.{has_no_lf}
 use Rattle.plain_model.specs.Paths.{Bytes}
@@ -19,31 +20,30 @@ use Rattle.plain_model.specs.Snapshots.{refs}
 use Rattle.plain_model.specs.Soundness.{IsCommitOf, IsFormedOp, IsFormedSigned, RefersBack, are_distinct}
 use Rattle.plain_model.specs.Trees.{Tree, at}
 use Rattle.stream_grammar.specs.Known.{Known, OpenCommit, Open, is_empty_list, op_after, with_parent, tree_now}
-use Rattle.stream_grammar.specs.Known.Open.{Nothing, ABlob, ACommit, ATag, AReset}
+use Rattle.stream_grammar.specs.Known.Open.{Nothing, ABlob, ACommit, ATag, AReset, AnAlias}
 use Rattle.stream_grammar.specs.Limits.{limit_if, last_limit, tree_limit, op_limit, open_parents, event_count, op_count}
 use Rattle.stream_grammar.specs.Lines.{with_mark, with_commit, with_from, with_tagger, with_operation}
 use Rattle.field_laws.proofs.FieldSteps.{bind_ok, same_Ok}
-use Rattle.soundness_laws.proofs.Kept.{IsOpenWell, HasTarget, HasNoOps}
+use Rattle.soundness_laws.proofs.Kept.{IsOpenWell, HasMark, HasTarget, HasNoOps}
 use Rattle.soundness_laws.proofs.OpsRead.{IsOp, tree_after}
-use Rattle.soundness_laws.proofs.SoFar.{MarkFits, IsCommitSoFar, HaveTrees, all_imply}
+use Rattle.soundness_laws.proofs.SoFar.{IsMarkYet, IsCommitSoFar, HaveTrees, all_imply}
 
 -- what holds of two lists holds of both together
-all_join : {A : Type 0} (P : A → Type 0) (xs ys : List A) → AllByRecursion P xs → AllByRecursion P ys → AllByRecursion P (xs ++ ys)
+pub all_join : {A : Type 0} (P : A → Type 0) (xs ys : List A) → AllByRecursion P xs → AllByRecursion P ys → AllByRecursion P (xs ++ ys)
 all_join P [] ys a b = b
 all_join P (x ∷ xs) ys a b = (a.0, all_join P xs ys a.1 b)
 
 -- ---- a new commit
 
-module _ (bound : ℕ) (some_bytes : 0 < bound) (events : List PlainEvent) (trees : HaveTrees events) where
+module _ (events : List PlainEvent) (trees : HaveTrees events) where
   pub commit_begun : (branch : Bytes) (tip : Option ℕ) → is_name branch ≡ true → at (refs events) branch ≡ tip → IfSome tip (IsCommitOf events)
-      → IsCommitSoFar bound events events (record { branch = branch; mark = 0; author = None; committer = None; encoding = None; comment = []; parents = option_to_list tip; ops = [] })
+      → IsCommitSoFar events events (record { branch = branch; mark = 0; author = None; committer = None; encoding = None; comment = []; parents = option_to_list tip; ops = [] })
   commit_begun branch None named is there = record {
     named = named;
     marked = inl refl;
     authored = tt;
     committed = tt;
     encoded = tt;
-    commented = some_bytes;
     linked = tt;
     apart = refl;
     few = omega arith;
@@ -58,7 +58,6 @@ module _ (bound : ℕ) (some_bytes : 0 < bound) (events : List PlainEvent) (tree
     authored = tt;
     committed = tt;
     encoded = tt;
-    commented = some_bytes;
     linked = (there, tt);
     apart = refl;
     few = omega arith;
@@ -74,23 +73,23 @@ module _ (bound : ℕ) (some_bytes : 0 < bound) (events : List PlainEvent) (tree
 
 -- ---- fields
 
-module _ (bound : ℕ) (events seen : List PlainEvent) where
+module _ (events seen : List PlainEvent) where
   -- a change of the commit that keeps what is kept
-  pub commit_changed : (change : OpenCommit → OpenCommit) → ((c : OpenCommit) → IsCommitSoFar bound events seen c → IsCommitSoFar bound events seen (change c)) → (o : Open) → IsOpenWell bound events seen o → IsOpenWell bound events seen (with_commit change o)
+  pub commit_changed : (change : OpenCommit → OpenCommit) → ((c : OpenCommit) → IsCommitSoFar events seen c → IsCommitSoFar events seen (change c)) → (o : Open) → IsOpenWell events seen o → IsOpenWell events seen (with_commit change o)
   commit_changed change kept (ACommit c) h = kept c h
   commit_changed change kept Nothing h = h
   commit_changed change kept (ABlob mark) h = h
-  commit_changed change kept (ATag name target tagger) h = h
+  commit_changed change kept (ATag name target tagger mark) h = h
   commit_changed change kept (AReset branch target) h = h
+  commit_changed change kept (AnAlias mark) h = h
 
-  marked_commit : (m : ℕ) (c : OpenCommit) → MarkFits events m → IsCommitSoFar bound events seen c → IsCommitSoFar bound events seen (record c { mark = m })
+  marked_commit : (m : ℕ) (c : OpenCommit) → IsMarkYet m → IsCommitSoFar events seen c → IsCommitSoFar events seen (record c { mark = m })
   marked_commit m c fits w = record {
     named = w.named;
     marked = fits;
     authored = w.authored;
     committed = w.committed;
     encoded = w.encoded;
-    commented = w.commented;
     linked = w.linked;
     apart = w.apart;
     few = w.few;
@@ -100,21 +99,21 @@ module _ (bound : ℕ) (events seen : List PlainEvent) where
     rooted = w.rooted;
   }
 
-  pub mark_kept : (m : ℕ) (o : Open) → MarkFits events m → IsOpenWell bound events seen o → IsOpenWell bound events seen (with_mark m o)
-  mark_kept m (ABlob mark) fits h = fits
-  mark_kept m (ACommit c) fits h = marked_commit m c fits h
+  pub mark_kept : (m : ℕ) (o : Open) → IsMark m → IsOpenWell events seen o → IsOpenWell events seen (with_mark m o)
+  mark_kept m (ABlob mark) fits h = inr fits
+  mark_kept m (ACommit c) fits h = marked_commit m c (inr fits) h
+  mark_kept m (ATag name target tagger mark) fits h = (h.0, h.1, fits)
+  mark_kept m (AnAlias mark) fits h = h
   mark_kept m Nothing fits h = h
-  mark_kept m (ATag name target tagger) fits h = h
   mark_kept m (AReset branch target) fits h = h
 
-  pub authored_commit : (who : Signed) → IsFormedSigned who → (c : OpenCommit) → IsCommitSoFar bound events seen c → IsCommitSoFar bound events seen (record c { author = Some who })
+  pub authored_commit : (who : Signed) → IsFormedSigned who → (c : OpenCommit) → IsCommitSoFar events seen c → IsCommitSoFar events seen (record c { author = Some who })
   authored_commit who formed c w = record {
     named = w.named;
     marked = w.marked;
     authored = formed;
     committed = w.committed;
     encoded = w.encoded;
-    commented = w.commented;
     linked = w.linked;
     apart = w.apart;
     few = w.few;
@@ -124,14 +123,13 @@ module _ (bound : ℕ) (events seen : List PlainEvent) where
     rooted = w.rooted;
   }
 
-  pub committed_commit : (who : Signed) → IsFormedSigned who → (c : OpenCommit) → IsCommitSoFar bound events seen c → IsCommitSoFar bound events seen (record c { committer = Some who })
+  pub committed_commit : (who : Signed) → IsFormedSigned who → (c : OpenCommit) → IsCommitSoFar events seen c → IsCommitSoFar events seen (record c { committer = Some who })
   committed_commit who formed c w = record {
     named = w.named;
     marked = w.marked;
     authored = w.authored;
     committed = formed;
     encoded = w.encoded;
-    commented = w.commented;
     linked = w.linked;
     apart = w.apart;
     few = w.few;
@@ -141,14 +139,13 @@ module _ (bound : ℕ) (events seen : List PlainEvent) where
     rooted = w.rooted;
   }
 
-  pub encoded_commit : (text : Bytes) → IfSome (Some text) (λ e. has_no_lf e ≡ true) → (c : OpenCommit) → IsCommitSoFar bound events seen c → IsCommitSoFar bound events seen (record c { encoding = Some text })
+  pub encoded_commit : (text : Bytes) → IfSome (Some text) (λ e. has_no_lf e ≡ true) → (c : OpenCommit) → IsCommitSoFar events seen c → IsCommitSoFar events seen (record c { encoding = Some text })
   encoded_commit text plain c w = record {
     named = w.named;
     marked = w.marked;
     authored = w.authored;
     committed = w.committed;
     encoded = plain;
-    commented = w.commented;
     linked = w.linked;
     apart = w.apart;
     few = w.few;
@@ -158,12 +155,13 @@ module _ (bound : ℕ) (events seen : List PlainEvent) where
     rooted = w.rooted;
   }
 
-  pub tagger_kept : (who : Signed) → IsFormedSigned who → (o : Open) → IsOpenWell bound events seen o → IsOpenWell bound events seen (with_tagger who o)
-  tagger_kept who formed (ATag name target tagger) h = (h.0, formed)
+  pub tagger_kept : (who : Signed) → IsFormedSigned who → (o : Open) → IsOpenWell events seen o → IsOpenWell events seen (with_tagger who o)
+  tagger_kept who formed (ATag name target tagger mark) h = (h.0, formed, h.2)
   tagger_kept who formed Nothing h = h
   tagger_kept who formed (ABlob mark) h = h
   tagger_kept who formed (ACommit c) h = h
   tagger_kept who formed (AReset branch target) h = h
+  tagger_kept who formed (AnAlias mark) h = h
 
 -- ---- parents
 
@@ -182,16 +180,15 @@ distinct_more (m ∷ ns) n d h =
     none_more [] h e = or_from (n == m) false e refl
     none_more (k ∷ ns) h e = let parts = or_parts (k == m) (list_any (λ l. l == m) ns) h in or_from (k == m) (list_any (λ l. l == m) (ns ++ n ∷ [])) parts.0 (none_more ns parts.1 e)
 
-module _ (bound : ℕ) (events : List PlainEvent) (trees : HaveTrees events) where
+module _ (events : List PlainEvent) (trees : HaveTrees events) where
   -- the only parent of a commit without operations
-  from_commit : (p : ℕ) (c : OpenCommit) → IsCommitOf events p → c.ops ≡ [] → IsCommitSoFar bound events events c → IsCommitSoFar bound events events (record c { parents = p ∷ [] })
+  from_commit : (p : ℕ) (c : OpenCommit) → IsCommitOf events p → c.ops ≡ [] → IsCommitSoFar events events c → IsCommitSoFar events events (record c { parents = p ∷ [] })
   from_commit p c there none w = record {
     named = w.named;
     marked = w.marked;
     authored = w.authored;
     committed = w.committed;
     encoded = w.encoded;
-    commented = w.commented;
     linked = (there, tt);
     apart = refl;
     few = omega arith;
@@ -205,29 +202,30 @@ module _ (bound : ℕ) (events : List PlainEvent) (trees : HaveTrees events) whe
       go None h = absurd cc
       go (Some t) h = refl
 
-  pub from_kept : (p : ℕ) (o : Open) → IsCommitOf events p → HasNoOps o → IsOpenWell bound events events o → IsOpenWell bound events events (with_from p o)
+  pub from_kept : (p : ℕ) (o : Open) → IsCommitOf events p → HasNoOps o → IsOpenWell events events o → IsOpenWell events events (with_from p o)
   from_kept p (ACommit c) there none h = from_commit p c there none h
-  from_kept p (ATag name target tagger) there none h = h
+  from_kept p (ATag name target tagger mark) there none h = h
   from_kept p (AReset branch target) there none h = (h.0, there)
+  from_kept p (AnAlias mark) there none h = h
   from_kept p Nothing there none h = h
   from_kept p (ABlob mark) there none h = h
 
   pub from_target : (p : ℕ) (o : Open) → IsCommitOf events p → HasTarget events (with_from p o)
   from_target p (ACommit c) there = tt
-  from_target p (ATag name target tagger) there = there
+  from_target p (ATag name target tagger mark) there = there
   from_target p (AReset branch target) there = tt
+  from_target p (AnAlias mark) there = tt
   from_target p Nothing there = tt
   from_target p (ABlob mark) there = tt
 
   -- the first parent of a commit whose files all go
-  first_parent : (p : ℕ) (c : OpenCommit) → IsCommitOf events p → IsCommitSoFar bound events events c → IsCommitSoFar bound events events (record c { parents = p ∷ []; ops = DeleteAll ∷ [] })
+  first_parent : (p : ℕ) (c : OpenCommit) → IsCommitOf events p → IsCommitSoFar events events c → IsCommitSoFar events events (record c { parents = p ∷ []; ops = DeleteAll ∷ [] })
   first_parent p c there w = record {
     named = w.named;
     marked = w.marked;
     authored = w.authored;
     committed = w.committed;
     encoded = w.encoded;
-    commented = w.commented;
     linked = (there, tt);
     apart = refl;
     few = omega arith;
@@ -243,14 +241,13 @@ module _ (bound : ℕ) (events : List PlainEvent) (trees : HaveTrees events) whe
 
   -- a further one
   further_parent : (p : ℕ) (c : OpenCommit) → IsCommitOf events p → is_empty_list c.parents ≡ false → list_any (λ q. q == p) c.parents ≡ false → length (c.parents ++ p ∷ []) ≤ MAX_PARENTS
-      → IsCommitSoFar bound events events c → IsCommitSoFar bound events events (record c { parents = c.parents ++ p ∷ [] })
+      → IsCommitSoFar events events c → IsCommitSoFar events events (record c { parents = c.parents ++ p ∷ [] })
   further_parent p c there more new few w = record {
     named = w.named;
     marked = w.marked;
     authored = w.authored;
     committed = w.committed;
     encoded = w.encoded;
-    commented = w.commented;
     linked = all_join (IsCommitOf events) c.parents (p ∷ []) w.linked (there, tt);
     apart = distinct_more c.parents p w.apart new;
     few = few;
@@ -268,59 +265,74 @@ module _ (bound : ℕ) (events : List PlainEvent) (trees : HaveTrees events) whe
       not_empty [] e = absurd cc
       not_empty (q ∷ qs) e = absurd cc
 
-  parent_kept : (p : ℕ) (c : OpenCommit) → IsCommitOf events p → length (with_parent p c).parents ≤ MAX_PARENTS → IsCommitSoFar bound events events c → IsCommitSoFar bound events events (with_parent p c)
+  parent_kept : (p : ℕ) (c : OpenCommit) → IsCommitOf events p → length (with_parent p c).parents ≤ MAX_PARENTS → IsCommitSoFar events events c → IsCommitSoFar events events (with_parent p c)
   parent_kept p c there few w = go (is_empty_list c.parents) (list_any (λ q. q == p) c.parents) refl refl few
     where
       go : (a b : Bool) → is_empty_list c.parents ≡ a → list_any (λ q. q == p) c.parents ≡ b
           → length (cond a (record c { parents = p ∷ []; ops = DeleteAll ∷ [] }) (cond b c (record c { parents = c.parents ++ p ∷ [] }))).parents ≤ MAX_PARENTS
-          → IsCommitSoFar bound events events (cond a (record c { parents = p ∷ []; ops = DeleteAll ∷ [] }) (cond b c (record c { parents = c.parents ++ p ∷ [] })))
+          → IsCommitSoFar events events (cond a (record c { parents = p ∷ []; ops = DeleteAll ∷ [] }) (cond b c (record c { parents = c.parents ++ p ∷ [] })))
       go true b none is few = first_parent p c there w
       go false true more is few = w
       go false false more is few = further_parent p c there more is few w
 
-  pub merge_kept : (p : ℕ) (o : Open) → IsCommitOf events p → open_parents (with_commit (with_parent p) o) ≤ MAX_PARENTS → IsOpenWell bound events events o → IsOpenWell bound events events (with_commit (with_parent p) o)
+  pub merge_kept : (p : ℕ) (o : Open) → IsCommitOf events p → open_parents (with_commit (with_parent p) o) ≤ MAX_PARENTS → IsOpenWell events events o → IsOpenWell events events (with_commit (with_parent p) o)
   merge_kept p (ACommit c) there few h = parent_kept p c there few h
   merge_kept p Nothing there few h = h
   merge_kept p (ABlob mark) there few h = h
-  merge_kept p (ATag name target tagger) there few h = h
+  merge_kept p (ATag name target tagger mark) there few h = h
   merge_kept p (AReset branch target) there few h = h
+  merge_kept p (AnAlias mark) there few h = h
 
 -- ---- what lines need, after a change
 
 pub commit_target : (events : List PlainEvent) (change : OpenCommit → OpenCommit) (o : Open) → HasTarget events o → HasTarget events (with_commit change o)
 commit_target events change (ACommit c) h = tt
-commit_target events change (ATag name target tagger) h = h
+commit_target events change (ATag name target tagger mark) h = h
 commit_target events change Nothing h = tt
 commit_target events change (ABlob mark) h = tt
 commit_target events change (AReset branch target) h = tt
+commit_target events change (AnAlias mark) h = tt
 
 pub commit_no_ops : (change : OpenCommit → OpenCommit) → ((c : OpenCommit) → (change c).ops ≡ c.ops) → (o : Open) → HasNoOps o → HasNoOps (with_commit change o)
 commit_no_ops change same (ACommit c) h = same c ∙ h
-commit_no_ops change same (ATag name target tagger) h = tt
+commit_no_ops change same (ATag name target tagger mark) h = tt
 commit_no_ops change same Nothing h = tt
 commit_no_ops change same (ABlob mark) h = tt
 commit_no_ops change same (AReset branch target) h = tt
+commit_no_ops change same (AnAlias mark) h = tt
 
 pub mark_target : (events : List PlainEvent) (m : ℕ) (o : Open) → HasTarget events o → HasTarget events (with_mark m o)
 mark_target events m (ACommit c) h = tt
-mark_target events m (ATag name target tagger) h = h
+mark_target events m (ATag name target tagger mark) h = h
 mark_target events m Nothing h = tt
 mark_target events m (ABlob mark) h = tt
 mark_target events m (AReset branch target) h = tt
+mark_target events m (AnAlias mark) h = tt
 
 pub mark_no_ops : (m : ℕ) (o : Open) → HasNoOps o → HasNoOps (with_mark m o)
 mark_no_ops m (ACommit c) h = h
-mark_no_ops m (ATag name target tagger) h = tt
+mark_no_ops m (ATag name target tagger mark) h = tt
 mark_no_ops m Nothing h = tt
 mark_no_ops m (ABlob mark) h = tt
 mark_no_ops m (AReset branch target) h = tt
+mark_no_ops m (AnAlias mark) h = tt
 
 pub tagger_target : (events : List PlainEvent) (who : Signed) (o : Open) → HasTarget events o → HasTarget events (with_tagger who o)
 tagger_target events who (ACommit c) h = tt
-tagger_target events who (ATag name target tagger) h = h
+tagger_target events who (ATag name target tagger mark) h = h
 tagger_target events who Nothing h = tt
 tagger_target events who (ABlob mark) h = tt
 tagger_target events who (AReset branch target) h = tt
+tagger_target events who (AnAlias mark) h = tt
+
+-- an alias has its mark then
+pub mark_marks : (m : ℕ) (o : Open) → IsMark m → HasMark (with_mark m o)
+mark_marks m (AnAlias mark) fits = fits
+mark_marks m (ACommit c) fits = tt
+mark_marks m (ATag name target tagger mark) fits = tt
+mark_marks m Nothing fits = tt
+mark_marks m (ABlob mark) fits = tt
+mark_marks m (AReset branch target) fits = tt
 
 -- ---- limits
 
@@ -340,17 +352,16 @@ tree_limit_kept more k e = (limit_kept MAX_OPERATIONS (op_count k) Operations (t
 
 -- ---- operations
 
-module _ (bound : ℕ) (events seen : List PlainEvent) (refers : (op : FileOp) → RefersBack events op → RefersBack seen op) where
+module _ (events seen : List PlainEvent) (refers : (op : FileOp) → RefersBack events op → RefersBack seen op) where
   -- one operation more, and the tree is still there
   op_kept : (c : OpenCommit) (op : FileOp) → IsOp seen (tree_now events c) op → last_limit (c.ops ++ op ∷ []) (begun (tree events) c.parents) ≡ None
-      → IsCommitSoFar bound events events c → IsCommitSoFar bound events seen (record c { ops = c.ops ++ op ∷ [] })
+      → IsCommitSoFar events events c → IsCommitSoFar events seen (record c { ops = c.ops ++ op ∷ [] })
   op_kept c op fits limit w = record {
     named = w.named;
     marked = w.marked;
     authored = w.authored;
     committed = w.committed;
     encoded = w.encoded;
-    commented = w.commented;
     linked = w.linked;
     apart = w.apart;
     few = w.few;
@@ -360,21 +371,16 @@ module _ (bound : ℕ) (events seen : List PlainEvent) (refers : (op : FileOp) �
     rooted = w.rooted;
   }
 
-  -- the line of an operation
-  pub operation_kept : (more : ℕ) (line : Bytes) (o : Open) (k : Known) → ((c : OpenCommit) (op : FileOp) → op_after events c line ≡ Ok op → IsOp seen (tree_now events c) op)
-      → with_operation (record { events = events; current = o }) line ≡ Ok k → op_limit more k ≡ None → IsOpenWell bound events events o → HasTarget events o
-      → (k.events ≡ events) × IsOpenWell bound events seen k.current × HasTarget events k.current
-  operation_kept more line (ACommit c) k fits e limit h target =
-      let x = bind_ok (op_after events c line) (λ op. Ok (record { events = events; current = ACommit (record c { ops = c.ops ++ op ∷ [] }) })) k e in
-      let made : Known = record { events = events; current = ACommit (record c { ops = c.ops ++ x.0 ∷ [] }) } in
-      let is : made ≡ k = same_Ok made k x.2 in
-      subst (λ (q : Known). (q.events ≡ events) × IsOpenWell bound events seen q.current × HasTarget events q.current) is
-      (refl, op_kept c x.0 (fits c x.0 x.1) (subst (λ (q : Known). tree_limit q ≡ None) (sym is) (tree_limit_kept more k limit)) h, tt)
-  operation_kept more line Nothing k fits e limit h target =
-      subst (λ (q : Known). (q.events ≡ events) × IsOpenWell bound events seen q.current × HasTarget events q.current) (same_Ok (record { events = events; current = Nothing }) k e) (refl, h, target)
-  operation_kept more line (ABlob mark) k fits e limit h target =
-      subst (λ (q : Known). (q.events ≡ events) × IsOpenWell bound events seen q.current × HasTarget events q.current) (same_Ok (record { events = events; current = ABlob mark }) k e) (refl, h, target)
-  operation_kept more line (ATag name tagged tagger) k fits e limit h target =
-      subst (λ (q : Known). (q.events ≡ events) × IsOpenWell bound events seen q.current × HasTarget events q.current) (same_Ok (record { events = events; current = ATag name tagged tagger }) k e) (refl, h, target)
-  operation_kept more line (AReset branch tip) k fits e limit h target =
-      subst (λ (q : Known). (q.events ≡ events) × IsOpenWell bound events seen q.current × HasTarget events q.current) (same_Ok (record { events = events; current = AReset branch tip }) k e) (refl, h, target)
+  -- the line of an operation changes the event that is being read
+  pub operation_kept : (more : ℕ) (line : Bytes) (o : Open) (aliases : List (ℕ × ℕ)) (k : Known) → ((c : OpenCommit) (op : FileOp) → op_after events c line ≡ Ok op → IsOp seen (tree_now events c) op)
+      → with_operation (record { events = events; current = o; aliases = aliases }) line ≡ Ok k → op_limit more k ≡ None → IsOpenWell events events o → HasTarget events o
+      → (new : Open) × (record { events = events; current = new; aliases = aliases } ≡ k) × IsOpenWell events seen new × HasTarget events new
+  operation_kept more line (ACommit c) aliases k fits e limit h target =
+      let x = bind_ok (op_after events c line) (λ op. Ok (record { events = events; current = ACommit (record c { ops = c.ops ++ op ∷ [] }); aliases = aliases })) k e in
+      let is : record { events = events; current = ACommit (record c { ops = c.ops ++ x.0 ∷ [] }); aliases = aliases } ≡ k = same_Ok _ k x.2 in
+      (ACommit (record c { ops = c.ops ++ x.0 ∷ [] }), is, op_kept c x.0 (fits c x.0 x.1) (subst (λ (q : Known). tree_limit q ≡ None) (sym is) (tree_limit_kept more k limit)) h, tt)
+  operation_kept more line Nothing aliases k fits e limit h target = (Nothing, same_Ok _ k e, h, target)
+  operation_kept more line (ABlob mark) aliases k fits e limit h target = (ABlob mark, same_Ok _ k e, h, target)
+  operation_kept more line (ATag name tagged tagger mark) aliases k fits e limit h target = (ATag name tagged tagger mark, same_Ok _ k e, h, target)
+  operation_kept more line (AReset branch tip) aliases k fits e limit h target = (AReset branch tip, same_Ok _ k e, h, target)
+  operation_kept more line (AnAlias mark) aliases k fits e limit h target = (AnAlias mark, same_Ok _ k e, h, target)

@@ -1,21 +1,20 @@
--- What a stream gives within its limits has no more events and operations than these say. The blob of bytes after an
+-- What a stream gives within its limits has no more events, operations and aliases than these say. The blob of bytes after an
 -- operation is counted at the operation's line, and is there later.
-use Rattle.std.proofs.Common.{◌≡◌, ℕ, suc, ◌+◌, ◌<◌, ◌≤◌, Bool, true, false, cond, not, List, [], ◌∷◌, length, Option, Some, None, Result, Ok, refl, sym, ap, subst, arith, nat_lt, length-append}
+use Rattle.std.proofs.Common.{◌≡◌, ℕ, suc, ◌+◌, ◌≤◌, Bool, true, false, cond, not, List, [], ◌∷◌, ◌++◌, length, Option, Some, None, Result, Ok, refl, sym, ap, subst, ◌∙◌, arith, nat_lt, length-append}
+use Rattle.std.proofs.lemmas.List.{length-map}
 use Rattle.std.proofs.lemmas.Bool.Decides.{nat_tests}
 use Rattle.plain_model.specs.declared.fault.Which.{Which}
-use Rattle.plain_model.specs.declared.fault.Which.TheVariants.{Events, Operations, Parents}
+use Rattle.plain_model.specs.declared.fault.Which.TheVariants.{Aliases, Events, Operations, Parents}
 use Rattle.plain_model.specs.declared.fault.Why.{Why}
 use Rattle.plain_model.specs.declared.fault.Why.TheVariants.{RepeatedMark, LeftOut}
-use Rattle.plain_model.specs.declared.limit.TheConstants.{MAX_EVENTS, MAX_OPERATIONS, MAX_PARENTS}
+use Rattle.plain_model.specs.declared.limit.TheConstants.{MAX_ALIASES, MAX_EVENTS, MAX_OPERATIONS, MAX_PARENTS}
 use Rattle.plain_model.specs.declared.person.Signed.{Signed}
 use Rattle.plain_model.specs.declared.event.PlainEvent.{PlainEvent}
 use Rattle.plain_model.specs.declared.event.PlainEvent.TheVariants as plain
 use Rattle.plain_model.specs.Fields.{◌>>=◌, Extent, mark_in, name_in, person_in, extent_in}
 use Rattle.plain_model.specs.Fields.Extent.{Counted, Delimited}
-use Rattle.plain_model.specs.Lookups.{greatest_mark}
 use Rattle.plain_model.specs.Parts.{has_no_lf}
 use Rattle.plain_model.specs.Paths.{Bytes}
-use Rattle.plain_model.specs.Streams.{is_marked}
 use Rattle.line_automaton.specs.Limits.{Cause, limited_step}
 use Rattle.line_automaton.specs.Machine.{Next, Outcome, outcome, all}
 use Rattle.line_automaton.specs.Machine.Next.{More, Block, Until, Over}
@@ -25,16 +24,21 @@ use Rattle.stream_grammar.specs.declared.lines.Expected.TheVariants as expected
 use Rattle.stream_grammar.specs.declared.lines.Standing.{Standing}
 use Rattle.stream_grammar.specs.declared.lines.Word.{Word}
 use Rattle.stream_grammar.specs.declared.lines.Word.TheVariants as word
-use Rattle.stream_grammar.specs.Known.{Known, OpenCommit, Open, closed, closed_commit, ensure, ref_in, with_data, with_event, with_marks, with_parent}
-use Rattle.stream_grammar.specs.Known.Open.{Nothing, ABlob, ACommit, ATag, AReset}
-use Rattle.stream_grammar.specs.Limits.{event_count, if_known, known_given, limit_at, limit_if, op_count, op_limit, open_count, open_ops, open_parents, ops_in, ops_in_event, own_want, exceeded, stream_of, stream_within, tree_limit}
-use Rattle.stream_grammar.specs.Lines.{State, begun_with, after_word, changed, commit_on, data_arrived, follows, is_comment, is_inline_expected, is_left_out_feature, judged, line_step, looked_at, must_go_on, next_by, next_of, read_on, stream, text_of, with_commit, with_from, with_mark, with_tagger, word_of, word_step}
-use Rattle.stream_grammar.specs.Lines.{exceeded as passed_on}
+use Rattle.stream_grammar.specs.Known.{Known, OpenCommit, Open, alias_marks, aliases_for, closed, closed_commit, ensure, greatest_read, history_of, is_known_mark, op_after, ref_in, with_data, with_event, with_parent}
+use Rattle.stream_grammar.specs.Known.Open.{Nothing, ABlob, ACommit, ATag, AReset, AnAlias}
+use Rattle.stream_grammar.specs.Limits.{event_count, if_known, known_given, limit_at, limit_if, op_count, op_limit, open_aliases, open_count, open_ops, open_parents, ops_in, ops_in_event, own_want, exceeded, stream_of, stream_within, tree_limit, want_of}
+use Rattle.stream_grammar.specs.Limits.{alias_count as known_aliases}
+use Rattle.stream_grammar.specs.Lines.{State, aliased, begun_with, after_word, changed, commit_on, data_arrived, follows, is_inline_expected, is_left_out_feature, judged, line_step, must_go_on, next_by, next_of, passed, stream, text_of, with_commit, with_from, with_mark, with_operation, with_tagger, word_of}
+use Rattle.round_trip_laws.specs.AsRead.{ArePlaced}
 use Rattle.field_laws.proofs.FieldSteps.{bind_ok, same_Ok}
 use Rattle.soundness_laws.proofs.Carried.{IsAfter, carried}
 use Rattle.soundness_laws.proofs.LinesKept.{GoesWith, goes_ok, start_ok}
-use Rattle.soundness_laws.proofs.Marking.{marked_event, marked_events, with_marks_are}
-use Rattle.soundness_laws.proofs.StreamKept.{made_within, not_spent}
+use Rattle.soundness_laws.specs.Counts.{alias_count}
+use Rattle.soundness_laws.proofs.MarkSums.{late, late_all, late_less, late_step, weigh}
+use Rattle.soundness_laws.proofs.Marking.{history_is, marked_event, marked_events}
+use Rattle.soundness_laws.proofs.SoFar.{are_placed}
+use Rattle.soundness_laws.proofs.Steps.{stepped_by}
+use Rattle.soundness_laws.proofs.StreamKept.{known_so_far, not_spent}
 
 -- ---- lists of events
 
@@ -45,10 +49,11 @@ ops-more (x ∷ events) e = let more = ops-more events e in omega arith
 length-more : (events : List PlainEvent) (e : PlainEvent) → length (with_event events e) ≡ length events + 1
 length-more events e = length-append events (e ∷ [])
 
--- so many events and operations are within the limits
-pub record AreWithin (events : List PlainEvent) : Type 0 where
+-- so many events, operations and aliases are within the limits
+pub record AreWithin (events : List PlainEvent) (aliases : List (ℕ × ℕ)) : Type 0 where
   pub few : length events ≤ MAX_EVENTS
   pub few_ops : ops_in events ≤ MAX_OPERATIONS
+  pub few_aliases : length aliases ≤ MAX_ALIASES
 
 -- ---- what is known
 
@@ -56,80 +61,90 @@ pub record AreWithin (events : List PlainEvent) : Type 0 where
 record IsWithin (more : ℕ) (k : Known) : Type 0 where
   few : event_count k + more ≤ MAX_EVENTS
   few_ops : op_count k ≤ MAX_OPERATIONS
+  few_aliases : known_aliases k ≤ MAX_ALIASES
 
 -- what is closed has no more events and operations than were counted
 closed_commit_count : (events : List PlainEvent) (c : OpenCommit) (committer : Option Signed) → (length (closed_commit events c committer) ≤ length events + 1) × (ops_in (closed_commit events c committer) ≤ ops_in events + length c.ops)
 closed_commit_count events c None = (omega arith, omega arith)
-closed_commit_count events c (Some who) = go (plain.Commit _ c.mark c.branch _ who c.encoding c.comment c.parents c.ops aliases) refl
+closed_commit_count events c (Some who) = go (plain.Commit _ c.mark c.branch _ who c.encoding c.comment c.parents c.ops []) refl
   where
     go : (e : PlainEvent) → ops_in_event e ≡ length c.ops → (length (with_event events e) ≤ length events + 1) × (ops_in (with_event events e) ≤ ops_in events + length c.ops)
     go e is = let more = length-more events e in let ops = ops-more events e in (omega arith, omega arith)
 
-closed_count : (events : List PlainEvent) (o : Open) → (length (closed (record { events = events; current = o })) ≤ length events + open_count o) × (ops_in (closed (record { events = events; current = o })) ≤ ops_in events + open_ops o)
-closed_count events Nothing = (omega arith, omega arith)
-closed_count events (ABlob mark) = (omega arith, omega arith)
-closed_count events (ACommit c) = closed_commit_count events c c.committer
-closed_count events (ATag name target tagger) = (omega arith, omega arith)
-closed_count events (AReset branch target) = (
+closed_count : (events : List PlainEvent) (o : Open) (aliases : List (ℕ × ℕ)) → (length (closed (record { events = events; current = o; aliases = aliases })) ≤ length events + open_count o)
+    × (ops_in (closed (record { events = events; current = o; aliases = aliases })) ≤ ops_in events + open_ops o)
+closed_count events Nothing aliases = (omega arith, omega arith)
+closed_count events (ABlob mark) aliases = (omega arith, omega arith)
+closed_count events (ACommit c) aliases = closed_commit_count events c c.committer
+closed_count events (ATag name target tagger mark) aliases = (omega arith, omega arith)
+closed_count events (AReset branch target) aliases = (
   let more = length-more events (plain.Reset (length events + 1) branch target) in omega arith,
   let more = ops-more events (plain.Reset (length events + 1) branch target) in omega arith,
 )
+closed_count events (AnAlias mark) aliases = (omega arith, omega arith)
 
-closed_within : (more : ℕ) (k : Known) → IsWithin more k → AreWithin (closed k)
+closed_within : (more : ℕ) (k : Known) → IsWithin more k → AreWithin (closed k) k.aliases
 closed_within more k h =
-    let count = closed_count k.events k.current in
+    let count = closed_count k.events k.current k.aliases in
     let one = count.0 in
     let two = count.1 in
     let few = h.few in
     let ops = h.few_ops in
-    record { few = omega arith; few_ops = omega arith }
+    let aliases = h.few_aliases in
+    record { few = omega arith; few_ops = omega arith; few_aliases = omega arith }
 
 -- fewer to come
 within_less : (a b : ℕ) (k : Known) → b ≤ a → IsWithin a k → IsWithin b k
-within_less a b k less h = let few = h.few in record { few = omega arith; few_ops = h.few_ops }
+within_less a b k less h = let few = h.few in record { few = omega arith; few_ops = h.few_ops; few_aliases = h.few_aliases }
 
 -- ---- changes of the event that is being read
 
 -- a change of it that leaves the counts
 abbrev KeepsCounts : (Open → Open) → Type 0
-KeepsCounts change = (o : Open) → (open_count (change o) ≡ open_count o) × (open_ops (change o) ≡ open_ops o)
+KeepsCounts change = (o : Open) → (open_count (change o) ≡ open_count o) × (open_ops (change o) ≡ open_ops o) × (open_aliases (change o) ≡ open_aliases o)
 
 mark_counts : (mark : ℕ) → KeepsCounts (with_mark mark)
-mark_counts mark (ABlob m) = (refl, refl)
-mark_counts mark (ACommit c) = (refl, refl)
-mark_counts mark Nothing = (refl, refl)
-mark_counts mark (ATag name target tagger) = (refl, refl)
-mark_counts mark (AReset branch target) = (refl, refl)
+mark_counts mark (ABlob m) = (refl, refl, refl)
+mark_counts mark (ACommit c) = (refl, refl, refl)
+mark_counts mark Nothing = (refl, refl, refl)
+mark_counts mark (ATag name target tagger m) = (refl, refl, refl)
+mark_counts mark (AReset branch target) = (refl, refl, refl)
+mark_counts mark (AnAlias m) = (refl, refl, refl)
 
 commit_counts : (change : OpenCommit → OpenCommit) → ((c : OpenCommit) → (change c).ops ≡ c.ops) → KeepsCounts (with_commit change)
-commit_counts change same (ACommit c) = (refl, ap length (same c))
-commit_counts change same (ABlob m) = (refl, refl)
-commit_counts change same Nothing = (refl, refl)
-commit_counts change same (ATag name target tagger) = (refl, refl)
-commit_counts change same (AReset branch target) = (refl, refl)
+commit_counts change same (ACommit c) = (refl, ap length (same c), refl)
+commit_counts change same (ABlob m) = (refl, refl, refl)
+commit_counts change same Nothing = (refl, refl, refl)
+commit_counts change same (ATag name target tagger mark) = (refl, refl, refl)
+commit_counts change same (AReset branch target) = (refl, refl, refl)
+commit_counts change same (AnAlias mark) = (refl, refl, refl)
 
 from_counts : (commit : ℕ) → KeepsCounts (with_from commit)
-from_counts commit (ACommit c) = (refl, refl)
-from_counts commit (ABlob m) = (refl, refl)
-from_counts commit Nothing = (refl, refl)
-from_counts commit (ATag name target tagger) = (refl, refl)
-from_counts commit (AReset branch target) = (refl, refl)
+from_counts commit (ACommit c) = (refl, refl, refl)
+from_counts commit (ABlob m) = (refl, refl, refl)
+from_counts commit Nothing = (refl, refl, refl)
+from_counts commit (ATag name target tagger mark) = (refl, refl, refl)
+from_counts commit (AReset branch target) = (refl, refl, refl)
+from_counts commit (AnAlias mark) = (refl, refl, refl)
 
 tagger_counts : (who : Signed) → KeepsCounts (with_tagger who)
-tagger_counts who (ACommit c) = (refl, refl)
-tagger_counts who (ABlob m) = (refl, refl)
-tagger_counts who Nothing = (refl, refl)
-tagger_counts who (ATag name target tagger) = (refl, refl)
-tagger_counts who (AReset branch target) = (refl, refl)
+tagger_counts who (ACommit c) = (refl, refl, refl)
+tagger_counts who (ABlob m) = (refl, refl, refl)
+tagger_counts who Nothing = (refl, refl, refl)
+tagger_counts who (ATag name target tagger mark) = (refl, refl, refl)
+tagger_counts who (AReset branch target) = (refl, refl, refl)
+tagger_counts who (AnAlias mark) = (refl, refl, refl)
 
 changed_within : (more : ℕ) (k : Known) (change : Open → Open) → KeepsCounts change → IsWithin more k → IsWithin more (changed k change)
 changed_within more k change keeps h =
     let same = keeps k.current in
     let one = same.0 in
     let two = same.1 in
+    let three = same.2 in
     let few = h.few in
     let ops = h.few_ops in
-    record { few = omega arith; few_ops = omega arith }
+    let aliases = h.few_aliases in
+    record { few = omega arith; few_ops = omega arith; few_aliases = omega arith }
 
 -- ---- limits
 
@@ -142,7 +157,7 @@ not_passed most count which other h = go (nat_lt most count) refl h
 
 -- ---- where a stream stands
 
--- an event that was counted is to come: the blob of the bytes that are due
+-- an event that was counted is to come: the blob of the bytes that are expected
 abbrev owed : Expected → ℕ
 owed expected.InlineData = 1
 owed _ = 0
@@ -160,7 +175,7 @@ paid : (d : Expected) → IsPaid d → owed d ≡ 0
 paid expected.InlineData h = absurd h
 paid _ h = refl
 
--- after the line of data stands the stream where bytes come only if they were due
+-- after a line of data the bytes of an operation come only if they were expected
 abbrev IsDataAfter : Expected → Expected → Type 0
 IsDataAfter expected.InlineData expected.InlineData = ⊥
 IsDataAfter expected.InlineData old = ⊥
@@ -186,7 +201,7 @@ abbrev AfterLine : Next → Expected → Known → Type 0
 AfterLine More d k = IsWithin (owed d) k
 AfterLine (Block n) d k = IsWithin (coming d) k × IsPaid d
 AfterLine (Until n) d k = IsWithin (coming d) k × IsPaid d
-AfterLine Over d k = AreWithin (closed k)
+AfterLine Over d k = AreWithin (closed k) k.aliases
 
 more_after : (d : Expected) (k : Known) (next : Next) → IsWithin (owed d) k → ◌≡◌ {A = Result Next Why} (Ok More) (Ok next) → AfterLine next d k
 more_after d k next h e = subst (λ (n : Next). AfterLine n d k) (same_Ok More next e) h
@@ -199,18 +214,32 @@ after_start t new k next e h f = subst (λ (q : Standing). AfterLine next q.expe
 after_inside : (a : ℕ) (d : Expected) (k : Known) (next : Next) → IsPaid d → IsWithin a k → ◌≡◌ {A = Result Next Why} (Ok More) (Ok next) → AfterLine next d k
 after_inside a d k next free h f = more_after d k next (let none = paid d free in within_less a (owed d) k (omega arith) h) f
 
-begun_within : (more : ℕ) (k : Known) (o : Open) → IsWithin more k → open_ops o ≡ 0 → limit_if MAX_EVENTS (event_count (begun_with k o)) Events None ≡ None → IsWithin 0 (begun_with k o)
+begun_within : (more : ℕ) (k : Known) (o : Open) → IsWithin more k → (open_ops o ≡ 0) × (open_aliases o ≡ 0) → limit_if MAX_EVENTS (event_count (begun_with k o)) Events None ≡ None → IsWithin 0 (begun_with k o)
 begun_within more k o h none limit =
     let few = (not_passed MAX_EVENTS (event_count (begun_with k o)) Events None limit).0 in
-    let ops = (closed_within more k h).few_ops in
-    record { few = omega arith; few_ops = omega arith }
+    let before = closed_within more k h in
+    let ops = before.few_ops in
+    let aliases = before.few_aliases in
+    let no_ops = none.0 in
+    let no_aliases = none.1 in
+    record { few = omega arith; few_ops = omega arith; few_aliases = omega arith }
 
-passed_within : (more : ℕ) (k : Known) (line : Bytes) → IsWithin more k → limit_if MAX_EVENTS (event_count (passed_on k line)) Events None ≡ None → IsWithin 0 (passed_on k line)
+alias_within : (more : ℕ) (k : Known) → IsWithin more k → limit_if MAX_ALIASES (known_aliases (begun_with k (AnAlias 0))) Aliases None ≡ None → IsWithin 0 (begun_with k (AnAlias 0))
+alias_within more k h limit =
+    let aliases = (not_passed MAX_ALIASES (known_aliases (begun_with k (AnAlias 0))) Aliases None limit).0 in
+    let before = closed_within more k h in
+    let few = before.few in
+    let ops = before.few_ops in
+    record { few = omega arith; few_ops = omega arith; few_aliases = omega arith }
+
+passed_within : (more : ℕ) (k : Known) (line : Bytes) → IsWithin more k → limit_if MAX_EVENTS (event_count (passed k line)) Events None ≡ None → IsWithin 0 (passed k line)
 passed_within more k line h limit =
-    let few = (not_passed MAX_EVENTS (event_count (passed_on k line)) Events None limit).0 in
-    let ops = (closed_within more k h).few_ops in
+    let few = (not_passed MAX_EVENTS (event_count (passed k line)) Events None limit).0 in
+    let before = closed_within more k h in
+    let ops = before.few_ops in
+    let aliases = before.few_aliases in
     let same = ops-more (closed k) (plain.Pass (length (closed k) + 1) line) in
-    record { few = omega arith; few_ops = omega arith }
+    record { few = omega arith; few_ops = omega arith; few_aliases = omega arith }
 
 module _ (line : Bytes) where
   abbrev Keeps : Word → Type 0
@@ -221,7 +250,7 @@ module _ (line : Bytes) where
       let st = start_ok word.Blob s new refl e in
       let same : begun_with k (ABlob 0) ≡ after = same_Ok (begun_with k (ABlob 0)) after g in
       after_start (record s { expected = expected.BlobMark }) new after next st.1
-      (subst (IsWithin 0) same (begun_within (owed s.expected) k (ABlob 0) h refl (subst (λ (q : Known). limit_at word.Blob q ≡ None) (sym same) limit))) f
+      (subst (IsWithin 0) same (begun_within (owed s.expected) k (ABlob 0) h (refl, refl) (subst (λ (q : Known). limit_at word.Blob q ≡ None) (sym same) limit))) f
 
   keeps_commit : Keeps word.Commit
   keeps_commit s new k after next h e f g limit =
@@ -229,15 +258,15 @@ module _ (line : Bytes) where
       let x = bind_ok (name_in (text_of line)) (λ branch. Ok (begun_with k (commit_on k branch))) after g in
       let same : begun_with k (commit_on k x.0) ≡ after = same_Ok (begun_with k (commit_on k x.0)) after x.2 in
       after_start (record s { expected = expected.CommitMark }) new after next st.1
-      (subst (IsWithin 0) same (begun_within (owed s.expected) k (commit_on k x.0) h refl (subst (λ (q : Known). limit_at word.Commit q ≡ None) (sym same) limit))) f
+      (subst (IsWithin 0) same (begun_within (owed s.expected) k (commit_on k x.0) h (refl, refl) (subst (λ (q : Known). limit_at word.Commit q ≡ None) (sym same) limit))) f
 
   keeps_tag : Keeps word.Tag
   keeps_tag s new k after next h e f g limit =
       let st = start_ok word.Tag s new refl e in
-      let x = bind_ok (name_in (text_of line)) (λ name. Ok (begun_with k (ATag name 0 None))) after g in
-      let same : begun_with k (ATag x.0 0 None) ≡ after = same_Ok (begun_with k (ATag x.0 0 None)) after x.2 in
-      after_start (record s { expected = expected.TagFrom }) new after next st.1
-      (subst (IsWithin 0) same (begun_within (owed s.expected) k (ATag x.0 0 None) h refl (subst (λ (q : Known). limit_at word.Tag q ≡ None) (sym same) limit))) f
+      let x = bind_ok (name_in (text_of line)) (λ name. Ok (begun_with k (ATag name 0 None None))) after g in
+      let same : begun_with k (ATag x.0 0 None None) ≡ after = same_Ok (begun_with k (ATag x.0 0 None None)) after x.2 in
+      after_start (record s { expected = expected.TagMark }) new after next st.1
+      (subst (IsWithin 0) same (begun_within (owed s.expected) k (ATag x.0 0 None None) h (refl, refl) (subst (λ (q : Known). limit_at word.Tag q ≡ None) (sym same) limit))) f
 
   keeps_reset : Keeps word.Reset
   keeps_reset s new k after next h e f g limit =
@@ -245,20 +274,26 @@ module _ (line : Bytes) where
       let x = bind_ok (name_in (text_of line)) (λ branch. Ok (begun_with k (AReset branch None))) after g in
       let same : begun_with k (AReset x.0 None) ≡ after = same_Ok (begun_with k (AReset x.0 None)) after x.2 in
       after_start (record s { expected = expected.ResetFrom }) new after next st.1
-      (subst (IsWithin 0) same (begun_within (owed s.expected) k (AReset x.0 None) h refl (subst (λ (q : Known). limit_at word.Reset q ≡ None) (sym same) limit))) f
+      (subst (IsWithin 0) same (begun_within (owed s.expected) k (AReset x.0 None) h (refl, refl) (subst (λ (q : Known). limit_at word.Reset q ≡ None) (sym same) limit))) f
+
+  keeps_alias : Keeps word.Alias
+  keeps_alias s new k after next h e f g limit =
+      let st = start_ok word.Alias s new refl e in
+      let same : begun_with k (AnAlias 0) ≡ after = same_Ok (begun_with k (AnAlias 0)) after g in
+      after_start (record s { expected = expected.AliasMark }) new after next st.1 (subst (IsWithin 0) same (alias_within (owed s.expected) k h (subst (λ (q : Known). limit_at word.Alias q ≡ None) (sym same) limit))) f
 
   keeps_pass : Keeps word.Pass
   keeps_pass s new k after next h e f g limit =
       let st = start_ok word.Pass s new refl e in
-      let x = bind_ok (ensure (not (is_left_out_feature line)) LeftOut) (λ kept. Ok (passed_on k line)) after g in
-      let same : passed_on k line ≡ after = same_Ok (passed_on k line) after x.2 in
+      let x = bind_ok (ensure (not (is_left_out_feature line)) LeftOut) (λ kept. Ok (passed k line)) after g in
+      let same : passed k line ≡ after = same_Ok (passed k line) after x.2 in
       after_start (record s { expected = expected.Event }) new after next st.1
       (subst (IsWithin 0) same (passed_within (owed s.expected) k line h (subst (λ (q : Known). limit_at word.Pass q ≡ None) (sym same) limit))) f
 
   keeps_feature : Keeps word.FeatureDone
   keeps_feature s new k after next h e f g limit =
       let st = start_ok word.FeatureDone s new refl e in
-      let same : passed_on k line ≡ after = same_Ok (passed_on k line) after g in
+      let same : passed k line ≡ after = same_Ok (passed k line) after g in
       after_start (record { expected = expected.Event; wants_done = true }) new after next st.1
       (subst (IsWithin 0) same (passed_within (owed s.expected) k line h (subst (λ (q : Known). limit_at word.FeatureDone q ≡ None) (sym same) limit))) f
 
@@ -283,8 +318,8 @@ module _ (line : Bytes) where
 
   keeps_mark : Keeps word.Mark
   keeps_mark s new k after next h e f g limit =
-      let m = bind_ok (mark_in (text_of line)) (λ mark. ensure (not (is_marked k.events mark)) RepeatedMark >>= λ fresh. Ok (changed k (with_mark mark))) after g in
-      let u = bind_ok (ensure (not (is_marked k.events m.0)) RepeatedMark) (λ fresh. Ok (changed k (with_mark m.0))) after m.2 in
+      let m = bind_ok (mark_in (text_of line)) (λ mark. ensure (not (is_known_mark k mark)) RepeatedMark >>= λ fresh. Ok (changed k (with_mark mark))) after g in
+      let u = bind_ok (ensure (not (is_known_mark k m.0)) RepeatedMark) (λ fresh. Ok (changed k (with_mark m.0))) after m.2 in
       after_change s new k after next (with_mark m.0) (mark_counts m.0) (goes_ok IsPaid word.Mark s new (λ t x. absurd cc) e (mark_goes s.expected)) h u.2 f
 
   oid_goes : (d : Expected) → GoesWith IsPaid (follows d word.Oid)
@@ -293,7 +328,7 @@ module _ (line : Bytes) where
 
   keeps_oid : Keeps word.Oid
   keeps_oid s new k after next h e f g limit =
-      after_change s new k after next (λ o. o) (λ o. (refl, refl)) (goes_ok IsPaid word.Oid s new (λ t x. absurd cc) e (oid_goes s.expected)) h g f
+      after_change s new k after next (λ o. o) (λ o. (refl, refl, refl)) (goes_ok IsPaid word.Oid s new (λ t x. absurd cc) e (oid_goes s.expected)) h g f
 
   author_goes : (d : Expected) → GoesWith IsPaid (follows d word.Author)
   author_goes expected.Event = tt
@@ -337,37 +372,68 @@ module _ (line : Bytes) where
 
   keeps_from : Keeps word.From
   keeps_from s new k after next h e f g limit =
-      let c = bind_ok (ref_in k.events (text_of line)) (λ commit. Ok (changed k (with_from commit))) after g in
+      let c = bind_ok (ref_in k.events k.aliases (text_of line)) (λ commit. Ok (changed k (with_from commit))) after g in
       after_change s new k after next (with_from c.0) (from_counts c.0) (goes_ok IsPaid word.From s new (λ t x. absurd cc) e (from_goes s.expected)) h c.2 f
+
+  to_goes : (d : Expected) → GoesWith IsPaid (follows d word.To)
+  to_goes expected.Event = tt
+  to_goes _ = tt
+
+  -- an alias that is there was counted
+  aliased_within : (more commit : ℕ) (events : List PlainEvent) (o : Open) (aliases : List (ℕ × ℕ)) → IsWithin more (record { events = events; current = o; aliases = aliases })
+      → IsWithin more (aliased commit (record { events = events; current = o; aliases = aliases }))
+  aliased_within more commit events (AnAlias mark) aliases h = let same = length-append aliases ((mark, commit) ∷ []) in let most = h.few_aliases in record { few = h.few; few_ops = h.few_ops; few_aliases = omega arith }
+  aliased_within more commit events Nothing aliases h = h
+  aliased_within more commit events (ABlob mark) aliases h = h
+  aliased_within more commit events (ACommit c) aliases h = h
+  aliased_within more commit events (ATag name target tagger mark) aliases h = h
+  aliased_within more commit events (AReset branch target) aliases h = h
+
+  keeps_to : Keeps word.To
+  keeps_to s new k after next h e f g limit =
+      let c = bind_ok (ref_in k.events k.aliases (text_of line)) (λ commit. Ok (aliased commit k)) after g in
+      after_inside (owed s.expected) new.expected after next (goes_ok IsPaid word.To s new (λ t x. absurd cc) e (to_goes s.expected))
+      (subst (IsWithin (owed s.expected)) (same_Ok (aliased c.0 k) after c.2) (aliased_within (owed s.expected) c.0 k.events k.current k.aliases h)) f
 
   merge_goes : (d : Expected) → GoesWith IsPaid (follows d word.Merge)
   merge_goes expected.Event = tt
   merge_goes _ = tt
 
   -- one event is read, whatever is put into the commit
-  one_open : (change : OpenCommit → OpenCommit) (o : Open) → open_count (with_commit change o) ≡ open_count o
-  one_open change (ACommit c) = refl
-  one_open change (ABlob m) = refl
-  one_open change Nothing = refl
-  one_open change (ATag name target tagger) = refl
-  one_open change (AReset branch target) = refl
+  one_open : (change : OpenCommit → OpenCommit) (o : Open) → (open_count (with_commit change o) ≡ open_count o) × (open_aliases (with_commit change o) ≡ open_aliases o)
+  one_open change (ACommit c) = (refl, refl)
+  one_open change (ABlob m) = (refl, refl)
+  one_open change Nothing = (refl, refl)
+  one_open change (ATag name target tagger mark) = (refl, refl)
+  one_open change (AReset branch target) = (refl, refl)
+  one_open change (AnAlias mark) = (refl, refl)
 
   keeps_merge : Keeps word.Merge
   keeps_merge s new k after next h e f g limit =
-      let c = bind_ok (ref_in k.events (text_of line)) (λ commit. Ok (changed k (with_commit (with_parent commit)))) after g in
+      let c = bind_ok (ref_in k.events k.aliases (text_of line)) (λ commit. Ok (changed k (with_commit (with_parent commit)))) after g in
       let same : changed k (with_commit (with_parent c.0)) ≡ after = same_Ok (changed k (with_commit (with_parent c.0))) after c.2 in
       let ops = (not_passed MAX_OPERATIONS (op_count after) Operations (limit_if MAX_PARENTS (open_parents after.current) Parents None) limit).0 in
-      let one = one_open (with_parent c.0) k.current in
+      let same_open = one_open (with_parent c.0) k.current in
+      let one = same_open.0 in
+      let two = same_open.1 in
       let few = h.few in
+      let aliases = h.few_aliases in
       let within : IsWithin (owed s.expected) (changed k (with_commit (with_parent c.0))) =
-      record { few = omega arith; few_ops = subst (λ (q : Known). op_count q ≤ MAX_OPERATIONS) (sym same) ops } in
+      record { few = omega arith; few_ops = subst (λ (q : Known). op_count q ≤ MAX_OPERATIONS) (sym same) ops; few_aliases = omega arith } in
       after_inside (owed s.expected) new.expected after next (goes_ok IsPaid word.Merge s new (λ t x. absurd cc) e (merge_goes s.expected)) (subst (IsWithin (owed s.expected)) same within) f
 
   -- the limits at an operation's line
-  op_within : (more : ℕ) (k : Known) → op_limit more k ≡ None → IsWithin more k
-  op_within more k limit =
-      let few = not_passed MAX_EVENTS (event_count k + more) Events (limit_if MAX_OPERATIONS (op_count k) Operations (tree_limit k)) limit in
-      record { few = few.0; few_ops = (not_passed MAX_OPERATIONS (op_count k) Operations (tree_limit k) few.1).0 }
+  op_within : (more a : ℕ) (k after : Known) → IsWithin a k → with_operation k line ≡ Ok after → op_limit more after ≡ None → IsWithin more after
+  op_within more a k after h e limit =
+      let few = not_passed MAX_EVENTS (event_count after + more) Events (limit_if MAX_OPERATIONS (op_count after) Operations (tree_limit after)) limit in
+      let same = operation_aliases k.events k.current k.aliases after e in
+      let aliases = h.few_aliases in
+      record { few = few.0; few_ops = (not_passed MAX_OPERATIONS (op_count after) Operations (tree_limit after) few.1).0; few_aliases = omega arith }
+    where
+      operation_aliases : (events : List PlainEvent) (o : Open) (aliases : List (ℕ × ℕ)) (after : Known) → with_operation (record { events = events; current = o; aliases = aliases }) line ≡ Ok after → known_aliases after ≡ length aliases + open_aliases o
+      operation_aliases events (ACommit c) aliases after e =
+          let x = bind_ok (op_after events c line) (λ op. Ok (record { events = events; current = ACommit (record c { ops = c.ops ++ op ∷ [] }); aliases = aliases })) after e in ap known_aliases (sym (same_Ok _ after x.2))
+      operation_aliases events o aliases after e = ap known_aliases (sym (same_Ok (record { events = events; current = o; aliases = aliases }) after e))
 
   operation_goes : (d : Expected) → GoesWith IsPaid (follows d word.Operation)
   operation_goes expected.Event = tt
@@ -375,14 +441,14 @@ module _ (line : Bytes) where
 
   keeps_operation : Keeps word.Operation
   keeps_operation s new k after next h e f g limit =
-      after_inside 0 new.expected after next (goes_ok IsPaid word.Operation s new (λ t x. absurd cc) e (operation_goes s.expected)) (op_within 0 after limit) f
+      after_inside 0 new.expected after next (goes_ok IsPaid word.Operation s new (λ t x. absurd cc) e (operation_goes s.expected)) (op_within 0 (owed s.expected) k after h g limit) f
 
   owed_one : (d : Expected) → owed d ≤ 1
   owed_one expected.InlineData = omega arith
   owed_one _ = omega arith
 
   keeps_inline : Keeps word.InlineOperation
-  keeps_inline s new k after next h e f g limit = more_after new.expected after next (within_less 1 (owed new.expected) after (owed_one new.expected) (op_within 1 after limit)) f
+  keeps_inline s new k after next h e f g limit = more_after new.expected after next (within_less 1 (owed new.expected) after (owed_one new.expected) (op_within 1 (owed s.expected) k after h g limit)) f
 
   keeps_data : Keeps word.Data
   keeps_data s new k after next h e f g limit =
@@ -410,6 +476,8 @@ module _ (line : Bytes) where
   keeps word.Commit = keeps_commit
   keeps word.Tag = keeps_tag
   keeps word.Reset = keeps_reset
+  keeps word.Alias = keeps_alias
+  keeps word.To = keeps_to
   keeps word.Mark = keeps_mark
   keeps word.Oid = keeps_oid
   keeps word.Author = keeps_author
@@ -431,23 +499,29 @@ module _ (line : Bytes) where
 -- ---- blocks
 
 -- what the block of data adds
-data_counts : (inline : Bool) (events : List PlainEvent) (o : Open) (bytes : Bytes)
-    → (event_count (with_data inline bytes (record { events = events; current = o })) ≤ length events + open_count o + cond inline 1 0) × (op_count (with_data inline bytes (record { events = events; current = o })) ≡ ops_in events + open_ops o)
-data_counts inline events Nothing bytes = (omega arith, refl)
-data_counts inline events (ABlob mark) bytes = (
+data_counts : (inline : Bool) (events : List PlainEvent) (o : Open) (aliases : List (ℕ × ℕ)) (bytes : Bytes)
+    → (event_count (with_data inline bytes (record { events = events; current = o; aliases = aliases })) ≤ length events + open_count o + cond inline 1 0)
+    × (op_count (with_data inline bytes (record { events = events; current = o; aliases = aliases })) ≡ ops_in events + open_ops o)
+    × (known_aliases (with_data inline bytes (record { events = events; current = o; aliases = aliases })) ≡ length aliases + open_aliases o)
+data_counts inline events Nothing aliases bytes = (omega arith, refl, refl)
+data_counts inline events (ABlob mark) aliases bytes = (
   let more = length-more events (plain.Blob (length events + 1) mark bytes) in omega arith,
   let more = ops-more events (plain.Blob (length events + 1) mark bytes) in omega arith,
+  refl,
 )
-data_counts true events (ACommit c) bytes = (
+data_counts true events (ACommit c) aliases bytes = (
   let more = length-more events (plain.Blob (length events + 1) 0 bytes) in omega arith,
   let more = ops-more events (plain.Blob (length events + 1) 0 bytes) in omega arith,
+  refl,
 )
-data_counts false events (ACommit c) bytes = (omega arith, refl)
-data_counts inline events (ATag name target tagger) bytes = (
+data_counts false events (ACommit c) aliases bytes = (omega arith, refl, refl)
+data_counts inline events (ATag name target tagger mark) aliases bytes = (
   let more = length-more events (plain.Tag (length events + 1) name target tagger bytes mark) in omega arith,
   let more = ops-more events (plain.Tag (length events + 1) name target tagger bytes mark) in omega arith,
+  refl,
 )
-data_counts inline events (AReset branch target) bytes = (omega arith, refl)
+data_counts inline events (AReset branch target) aliases bytes = (omega arith, refl, refl)
+data_counts inline events (AnAlias mark) aliases bytes = (omega arith, refl, refl)
 
 coming_inline : (d : Expected) → coming d ≡ cond (is_inline_expected d) 1 0
 coming_inline expected.CommitOperation = refl
@@ -457,12 +531,14 @@ arrived_within : (d : Expected) (k : Known) (bytes : Bytes) → IsWithin (coming
 arrived_within d k bytes h free =
     let none = paid d free in
     let one = coming_inline d in
-    let counts = data_counts (is_inline_expected d) k.events k.current bytes in
+    let counts = data_counts (is_inline_expected d) k.events k.current k.aliases bytes in
     let events = counts.0 in
     let ops = counts.1 in
+    let aliases = counts.2 in
     let few = h.few in
     let few_ops = h.few_ops in
-    record { few = omega arith; few_ops = omega arith }
+    let few_aliases = h.few_aliases in
+    record { few = omega arith; few_ops = omega arith; few_aliases = omega arith }
 
 -- ---- the whole stream
 
@@ -473,7 +549,7 @@ abbrev IsAwaitingState : State → Type 0
 IsAwaitingState s = IsWithin (coming s.standing.expected) s.known × IsPaid s.standing.expected
 
 abbrev IsLastState : State → Type 0
-IsLastState s = AreWithin (closed s.known)
+IsLastState s = AreWithin (closed s.known) s.known.aliases
 
 abbrev AfterStep : Next → State → Type 0
 AfterStep next s = IsAfter IsReadyState IsAwaitingState IsLastState next s
@@ -484,69 +560,81 @@ after_step (Block n) s h = h
 after_step (Until n) s h = h
 after_step Over s h = h
 
-word_stepped : (s : State) (line : Bytes) (w : Word) (new : State) (next : Next) → IsReadyState s → word_step true s line w ≡ Ok (new, next) → limit_at w new.known ≡ None → AfterStep next new
-word_stepped s line w new next h e limit =
-    let a = bind_ok (after_word s.standing w) (λ standing. next_of w line >>= λ next. looked_at true w line s.known >>= λ known. read_on s line standing next known) (new, next) e in
-    let b = bind_ok (next_of w line) (λ next. looked_at true w line s.known >>= λ known. read_on s line a.0 next known) (new, next) a.2 in
-    let c = bind_ok (judged w line s.known) (λ known. read_on s line a.0 b.0 known) (new, next) b.2 in
-    let made : State = record { standing = a.0; spelled = line ∷ s.spelled; known = c.0 } in
-    let same : ◌≡◌ {A = State × Next} (made, b.0) (new, next) = same_Ok {A = State × Next} (made, b.0) (new, next) c.2 in
-    let within : limit_at w c.0 ≡ None = subst (λ (q : State × Next). limit_at w q.0.known ≡ None) (sym same) limit in
-    subst (λ (q : State × Next). AfterStep q.1 q.0) same (after_step b.0 made (keeps line w s.standing a.0 s.known c.0 b.0 h a.1 b.1 c.1 within))
-
 stepped : (s : State) (line : Bytes) (new : State) (next : Next) → IsReadyState s → has_no_lf line ≡ true → limited_step stream exceeded line (line_step true s line) ≡ Ok (new, next) → AfterStep next new
 stepped s line new next h text e =
-    let made = made_within line (line_step true s line) new next e in
-    go (is_comment line) made.0 made.1
-  where
-    go : (t : Bool) → cond t (Ok (s, More)) (word_step true s line (word_of line)) ≡ Ok (new, next) → cond t None (limit_at (word_of line) new.known) ≡ None → AfterStep next new
-    go true e limit = subst (λ (q : State × Next). AfterStep q.1 q.0) (same_Ok {A = State × Next} (s, More) (new, next) e) h
-    go false e limit = word_stepped s line (word_of line) new next h e limit
+    stepped_by (λ t n. AfterStep n t) s line new next h
+    (λ step. after_step next new (keeps line (word_of line) s.standing new.standing s.known new.known next h step.stands step.follows step.means step.within)) e
 
-arrived : (bound : ℕ) (s : State) (bytes : Bytes) → IsAwaitingState s → length bytes < bound → IsReadyState (data_arrived s bytes)
-arrived bound s bytes h few = arrived_within s.standing.expected s.known bytes h.0 h.1
+arrived : (s : State) (bytes : Bytes) → IsAwaitingState s → IsReadyState (data_arrived s bytes)
+arrived s bytes h = arrived_within s.standing.expected s.known bytes h.0 h.1
 
 ends : (s : State) → IsReadyState s → must_go_on s.standing ≡ false → IsLastState s
 ends s h e = closed_within (owed s.standing.expected) s.known h
 
 start_ready : IsReadyState stream_within.start
-start_ready = record { few = omega arith; few_ops = omega arith }
+start_ready = record { few = omega arith; few_ops = omega arith; few_aliases = omega arith }
 
-events_are_within : (bytes : Bytes) (s : State) → outcome stream_within all bytes ≡ Reads s → AreWithin (closed s.known)
-events_are_within bytes s e = carried stream_within (suc (length bytes)) IsReadyState IsAwaitingState IsLastState stepped (arrived (suc (length bytes))) ends start_ready bytes s (omega arith) e
+known_within : (bytes : Bytes) (s : State) → outcome stream_within all bytes ≡ Reads s → AreWithin (closed s.known) s.known.aliases
+known_within bytes s e = carried stream_within IsReadyState IsAwaitingState IsLastState stepped arrived ends start_ready bytes s e
 
--- ---- marks that are given at the end
+-- ---- marks and aliases that are given at the end
 
-marked_length : (n : ℕ) (events : List PlainEvent) → length (marked_events n events) ≡ length events
-marked_length n [] = refl
-marked_length n (e ∷ events) = ap suc (marked_length (n + own_want e) events)
+module _ (aliases : List (ℕ × ℕ)) where
+  marked_length : (n : ℕ) (events : List PlainEvent) → length (marked_events aliases n events) ≡ length events
+  marked_length n [] = refl
+  marked_length n (e ∷ events) = ap suc (marked_length (n + own_want e) events)
 
-marked_ops_in : (n : ℕ) (e : PlainEvent) → ops_in_event (marked_event n e) ≡ ops_in_event e
-marked_ops_in n (plain.Blob id mark bytes) = refl
-marked_ops_in n (plain.Commit id mark branch author committer encoding comment parents ops aliases) = refl
-marked_ops_in n (plain.Tag id name target tagger comment mark) = refl
-marked_ops_in n (plain.Reset id branch target) = refl
-marked_ops_in n (plain.Pass id line) = refl
+  marked_ops_in : (n : ℕ) (e : PlainEvent) → ops_in_event (marked_event aliases n e) ≡ ops_in_event e
+  marked_ops_in n (plain.Blob id mark bytes) = refl
+  marked_ops_in n (plain.Commit id mark branch author committer encoding comment parents ops old) = refl
+  marked_ops_in n (plain.Tag id name target tagger comment mark) = refl
+  marked_ops_in n (plain.Reset id branch target) = refl
+  marked_ops_in n (plain.Pass id line) = refl
 
-marked_ops : (n : ℕ) (events : List PlainEvent) → ops_in (marked_events n events) ≡ ops_in events
-marked_ops n [] = refl
-marked_ops n (e ∷ events) = let one = marked_ops_in n e in let more = marked_ops (n + own_want e) events in omega arith
+  marked_ops : (n : ℕ) (events : List PlainEvent) → ops_in (marked_events aliases n events) ≡ ops_in events
+  marked_ops n [] = refl
+  marked_ops n (e ∷ events) = let one = marked_ops_in n e in let more = marked_ops (n + own_want e) events in omega arith
 
-marked_within : (n : ℕ) (events : List PlainEvent) → AreWithin events → AreWithin (with_marks n events)
-marked_within n events h =
-    let count = marked_length n events in
-    let ops = marked_ops n events in
+  -- each alias is one
+  lengths : (marks : List ℕ) → weigh (λ m. 1) marks ≡ length marks
+  lengths [] = refl
+  lengths (mark ∷ marks) = let more = lengths marks in omega arith
+
+  marked_aliases : (n k : ℕ) (events : List PlainEvent) → ArePlaced k events → alias_count (marked_events aliases n events) ≤ late (λ m. 1) k aliases
+  marked_aliases n k [] placed = omega arith
+  marked_aliases n k (plain.Commit id mark branch author committer encoding comment parents ops old ∷ events) placed =
+      let more = marked_aliases (n + want_of mark) (suc k) events placed.1 in
+      let here = late_step (λ m. 1) k aliases in
+      let own : weigh (λ m. 1) (aliases_for k aliases) ≡ length (aliases_for id aliases) = ap (λ i. weigh (λ m. 1) (aliases_for i aliases)) (sym placed.0) ∙ lengths (aliases_for id aliases) in
+      omega arith
+  marked_aliases n k (plain.Blob id mark bytes ∷ events) placed = let more = marked_aliases (n + want_of mark) (suc k) events placed.1 in let less = late_less (λ m. 1) k aliases in omega arith
+  marked_aliases n k (plain.Tag id name target tagger comment mark ∷ events) placed = let more = marked_aliases (n + 0) (suc k) events placed.1 in let less = late_less (λ m. 1) k aliases in omega arith
+  marked_aliases n k (plain.Reset id branch target ∷ events) placed = let more = marked_aliases (n + 0) (suc k) events placed.1 in let less = late_less (λ m. 1) k aliases in omega arith
+  marked_aliases n k (plain.Pass id line ∷ events) placed = let more = marked_aliases (n + 0) (suc k) events placed.1 in let less = late_less (λ m. 1) k aliases in omega arith
+
+  all_aliases : weigh (λ m. 1) (alias_marks aliases) ≡ length aliases
+  all_aliases = lengths (alias_marks aliases) ∙ length-map aliases (λ a. a.0)
+
+abbrev IsWithinLimits : List PlainEvent → Type 0
+IsWithinLimits events = (length events ≤ MAX_EVENTS) × (ops_in events ≤ MAX_OPERATIONS) × (alias_count events ≤ MAX_ALIASES)
+
+history_within : (k : Known) → ArePlaced 1 (closed k) → AreWithin (closed k) k.aliases → IsWithinLimits (history_of k)
+history_within k placed h =
+    let count = marked_length k.aliases (greatest_read k) (closed k) in
+    let ops = marked_ops k.aliases (greatest_read k) (closed k) in
+    let aliases = marked_aliases k.aliases (greatest_read k) 1 (closed k) placed in
+    let fewer = late_all (λ m. 1) 1 k.aliases in
+    let all = all_aliases k.aliases in
     let few = h.few in
     let few_ops = h.few_ops in
-    subst AreWithin (sym (with_marks_are n events)) (record { few = omega arith; few_ops = omega arith })
+    let few_aliases = h.few_aliases in
+    subst IsWithinLimits (sym (history_is k.aliases (greatest_read k) (closed k))) (omega arith, omega arith, omega arith)
 
 -- what a stream gives
-pub read_is_within : (bytes : Bytes) (events : List PlainEvent) → stream_of bytes ≡ Ok events → (length events ≤ MAX_EVENTS) × (ops_in events ≤ MAX_OPERATIONS)
+pub read_is_within : (bytes : Bytes) (events : List PlainEvent) → stream_of bytes ≡ Ok events → IsWithinLimits events
 read_is_within bytes events e = go (outcome stream_within all bytes) refl e
   where
-    go : (o : Outcome State (Cause Why Which)) → outcome stream_within all bytes ≡ o → if_known (known_given o) ≡ Ok events → (length events ≤ MAX_EVENTS) × (ops_in events ≤ MAX_OPERATIONS)
-    go (Reads s) is e =
-        let within : AreWithin events = subst AreWithin (not_spent s.known events e).1 (marked_within (greatest_mark (closed s.known)) (closed s.known) (events_are_within bytes s is)) in
-        (within.few, within.few_ops)
+    go : (o : Outcome State (Cause Why Which)) → outcome stream_within all bytes ≡ o → if_known (known_given o) ≡ Ok events → IsWithinLimits events
+    go (Reads s) is e = subst IsWithinLimits (not_spent s.known events e).1 (history_within s.known (are_placed (closed s.known) (known_so_far bytes s is).well) (known_within bytes s is))
     go (Refuses n cause) is e = absurd cc
     go (Misses n) is e = absurd cc

@@ -11,7 +11,7 @@ use Rattle.plain_model.specs.Histories.{Node, nodes, past}
 use Rattle.plain_model.specs.Lookups.{id_of, id_number, same_id}
 use Rattle.plain_model.specs.Snapshots.{refs_after}
 use Rattle.plain_model.specs.Soundness.{has_id}
-use Rattle.plain_model.specs.Streams.{is_marked, blob_marked, commit_marked}
+use Rattle.plain_model.specs.Streams.{is_among, blob_marked, commit_marked}
 use Rattle.plain_model.specs.Trees.{TreeOf, put}
 use Rattle.round_trip_laws.specs.AsRead.{ArePlaced}
 
@@ -30,7 +30,7 @@ has_id_step (Reset id branch target) events _ = refl
 has_id_step (Pass id line) events (any.Pass n) = refl
 has_id_step (Pass id line) events _ = refl
 
-or_assoc : (a b c : Bool) → (a || (b || c)) ≡ ((a || b) || c)
+pub or_assoc : (a b c : Bool) → (a || (b || c)) ≡ ((a || b) || c)
 or_assoc true b c = refl
 or_assoc false b c = refl
 
@@ -94,24 +94,19 @@ refs_append t (Pass id line ∷ a) b = refs_append t a b
 
 -- ---- marks
 
--- marks of two parts
-pub is_marked-append : (a b : List PlainEvent) (m : ℕ) → is_marked (a ++ b) m ≡ (is_marked a m || is_marked b m)
-is_marked-append [] b m = refl
-is_marked-append (Blob id mark bytes ∷ a) b m = ap (λ t. (mark == m) || t) (is_marked-append a b m) ∙ or_assoc (mark == m) (is_marked a m) (is_marked b m)
-is_marked-append (Commit id mark branch author committer encoding comment parents ops aliases ∷ a) b m =
-    ap (λ t. (mark == m) || t) (is_marked-append a b m) ∙ or_assoc (mark == m) (is_marked a m) (is_marked b m)
-is_marked-append (Tag id name target tagger comment mark ∷ a) b m = is_marked-append a b m
-is_marked-append (Reset id branch target ∷ a) b m = is_marked-append a b m
-is_marked-append (Pass id line ∷ a) b m = is_marked-append a b m
-
 -- what a mark finds is a commit
 pub commit_found : (events : List PlainEvent) (m c : ℕ) → commit_marked events m ≡ Some c → has_id events (any.Commit c) ≡ true
 commit_found [] m c h = absurd cc
-commit_found (Commit id mark branch author committer encoding comment parents ops aliases ∷ events) m c h = go (mark == m) h (commit_found events m c)
+commit_found (Commit id mark branch author committer encoding comment parents ops aliases ∷ events) m c h = go (mark == m) (is_among aliases m) h (commit_found events m c)
   where
-    go : (t : Bool) → cond t (Some id) (commit_marked events m) ≡ Some c → (commit_marked events m ≡ Some c → has_id events (any.Commit c) ≡ true) → ((id == c) || has_id events (any.Commit c)) ≡ true
-    go true is more = or_left (id == c) (has_id events (any.Commit c)) (let same : id ≡ c = cc in eq-eqb id c same)
-    go false is more = or_right (id == c) (has_id events (any.Commit c)) (more is)
+    own : Some id ≡ Some c → ((id == c) || has_id events (any.Commit c)) ≡ true
+    own is = or_left (id == c) (has_id events (any.Commit c)) (let same : id ≡ c = cc in eq-eqb id c same)
+
+    go : (t u : Bool) → cond t (Some id) (cond u (Some id) (commit_marked events m)) ≡ Some c → (commit_marked events m ≡ Some c → has_id events (any.Commit c) ≡ true)
+        → ((id == c) || has_id events (any.Commit c)) ≡ true
+    go true u is more = own is
+    go false true is more = own is
+    go false false is more = or_right (id == c) (has_id events (any.Commit c)) (more is)
 commit_found (_ ∷ events) m c h = commit_found events m c h
 
 -- what a mark finds is a blob

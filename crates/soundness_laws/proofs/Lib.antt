@@ -3,6 +3,8 @@ mod SoFar
 mod Marking
 mod Finished
 mod Carried
+mod Steps
+mod MarkSums
 mod FieldsRead
 mod OpsRead
 mod WordsRead
@@ -11,4 +13,5 @@ mod Changes
 mod LinesKept
 mod StreamKept
 mod Counted
+mod MarksOnce
 mod Positions

@@ -1,25 +1,22 @@
--- Events get the marks that they lack: what stays the same, and which marks there are then.
-use Rattle.std.proofs.Common.{◌≡◌, ℕ, suc, ◌+◌, ◌<◌, ◌≤◌, Bool, true, false, cond, max, List, [], ◌∷◌, ◌++◌, Some, None, refl, sym, ap, ◌∙◌, inl, inr, ◌⊎◌, arith, eqb-true, eq-eqb}
+-- Events get the marks that are missing, and their aliases: what stays the same, and which marks there are then.
+use Rattle.std.proofs.Common.{◌≡◌, ℕ, suc, ◌+◌, ◌<◌, ◌≤◌, Bool, true, false, cond, max, List, [], ◌∷◌, ◌++◌, Some, None, refl, sym, ap, ◌∙◌, arith, eqb-true, nat_lt, ne_eqb}
 use Rattle.std.specs.Prelude.{◌==◌, ◌||◌}
 use Rattle.std.specs.List.{fold}
-use Rattle.std.proofs.lemmas.Bool.{or_cases, or_left, or_right, false_from_ne_true}
+use Rattle.std.proofs.lemmas.Bool.Decides.{nat_tests}
 use Rattle.std.proofs.Math.Nat.{le-max_left, le-max_right}
-use Rattle.plain_model.specs.declared.limit.TheConstants.{MAX_MARK}
 use Rattle.plain_model.specs.declared.id.AnyId.{AnyId}
 use Rattle.plain_model.specs.declared.id.AnyId.TheVariants as any
 use Rattle.plain_model.specs.declared.event.PlainEvent.{PlainEvent}
 use Rattle.plain_model.specs.declared.event.PlainEvent.TheVariants.{Blob, Commit, Tag, Reset, Pass}
 use Rattle.plain_model.specs.Histories.{Node, nodes}
-use Rattle.plain_model.specs.Lookups.{greatest_mark, mark_number}
-use Rattle.plain_model.specs.Marks.{IsMark}
+use Rattle.plain_model.specs.Lookups.{event_marks, greatest_mark, greatest_of, top_mark}
 use Rattle.plain_model.specs.Snapshots.{refs_after}
 use Rattle.plain_model.specs.Soundness.{has_id}
-use Rattle.plain_model.specs.Streams.{is_marked}
 use Rattle.plain_model.specs.Trees.{TreeOf, put}
-use Rattle.stream_grammar.specs.Known.{with_marks}
-use Rattle.stream_grammar.specs.Limits.{own_want, unmarked_count}
+use Rattle.stream_grammar.specs.Known.{Known, alias_marks, aliases_for, closed, greatest_read, with_aliases, with_marks}
+use Rattle.stream_grammar.specs.Limits.{own_want, unmarked_count, want_of}
 use Rattle.round_trip_laws.specs.AsRead.{ArePlaced}
-use Rattle.soundness_laws.proofs.SoFar.{MarkFits}
+use Rattle.soundness_laws.proofs.MarkSums.{AreOnce, late, late_all, late_less, late_step, one, weigh, weight}
 
 -- ---- one event after another
 
@@ -27,186 +24,212 @@ use Rattle.soundness_laws.proofs.SoFar.{MarkFits}
 abbrev pub mark_above : ℕ → ℕ → ℕ
 mark_above n mark = cond (mark == 0) (n + 1) mark
 
-abbrev pub marked_event : ℕ → PlainEvent → PlainEvent
-marked_event n (Blob id mark bytes) = Blob id (mark_above n mark) bytes
-marked_event n (Commit id mark branch author committer encoding comment parents ops aliases) = Commit id (mark_above n mark) branch author committer encoding comment parents ops aliases
-marked_event n (Tag id name target tagger comment mark) = Tag id name target tagger comment mark
-marked_event n (Reset id branch target) = Reset id branch target
-marked_event n (Pass id line) = Pass id line
-
--- the definition, with the marks alone by cases
-abbrev pub marked_events : ℕ → List PlainEvent → List PlainEvent
-marked_events n [] = []
-marked_events n (e ∷ events) = marked_event n e ∷ marked_events (n + own_want e) events
-
 no_more : (n : ℕ) → n + 0 ≡ n
 no_more n = omega arith
 
-pub with_marks_are : (n : ℕ) (events : List PlainEvent) → with_marks n events ≡ marked_events n events
-with_marks_are n [] = refl
-with_marks_are n (Blob id mark bytes ∷ events) = go (mark == 0) (with_marks_are (n + 1) events) (with_marks_are n events)
-  where
-    go : (t : Bool) → with_marks (n + 1) events ≡ marked_events (n + 1) events → with_marks n events ≡ marked_events n events
-        → cond t (Blob id (n + 1) bytes ∷ with_marks (n + 1) events) (Blob id mark bytes ∷ with_marks n events) ≡ Blob id (cond t (n + 1) mark) bytes ∷ marked_events (n + cond t 1 0) events
-    go true more same = ap (λ (l : List PlainEvent). Blob id (n + 1) bytes ∷ l) more
-    go false more same = ap (λ (l : List PlainEvent). Blob id mark bytes ∷ l) (same ∙ ap (λ k. marked_events k events) (sym (no_more n)))
-with_marks_are n (Commit id mark branch author committer encoding comment parents ops aliases ∷ events) = go (mark == 0) (with_marks_are (n + 1) events) (with_marks_are n events)
-  where
-    go : (t : Bool) → with_marks (n + 1) events ≡ marked_events (n + 1) events → with_marks n events ≡ marked_events n events
-        → cond t (Commit id (n + 1) branch author committer encoding comment parents ops aliases ∷ with_marks (n + 1) events)
-        (Commit id mark branch author committer encoding comment parents ops aliases ∷ with_marks n events)
-        ≡ Commit id (cond t (n + 1) mark) branch author committer encoding comment parents ops aliases ∷ marked_events (n + cond t 1 0) events
-    go true more same = ap (λ (l : List PlainEvent). Commit id (n + 1) branch author committer encoding comment parents ops aliases ∷ l) more
-    go false more same = ap (λ (l : List PlainEvent). Commit id mark branch author committer encoding comment parents ops aliases ∷ l) (same ∙ ap (λ k. marked_events k events) (sym (no_more n)))
-with_marks_are n (Tag id name target tagger comment mark ∷ events) = ap (λ (l : List PlainEvent). Tag id name target tagger comment mark ∷ l) (with_marks_are n events ∙ ap (λ k. marked_events k events) (sym (no_more n)))
-with_marks_are n (Reset id branch target ∷ events) = ap (λ (l : List PlainEvent). Reset id branch target ∷ l) (with_marks_are n events ∙ ap (λ k. marked_events k events) (sym (no_more n)))
-with_marks_are n (Pass id line ∷ events) = ap (λ (l : List PlainEvent). Pass id line ∷ l) (with_marks_are n events ∙ ap (λ k. marked_events k events) (sym (no_more n)))
+-- 1 for a mark above n
+abbrev above : ℕ → ℕ → ℕ
+above n m = cond (nat_lt n m) 1 0
 
--- events of two parts
-pub marked-append : (n : ℕ) (a : List PlainEvent) (e : PlainEvent) → marked_events n (a ++ e ∷ []) ≡ marked_events n a ++ marked_event (n + unmarked_count a) e ∷ []
-marked-append n [] e = ap (λ k. marked_event k e ∷ []) (sym (no_more n))
-marked-append n (x ∷ a) e =
-    ap (λ (l : List PlainEvent). marked_event n x ∷ l) (marked-append (n + own_want x) a e)
-    ∙ ap (λ k. marked_event n x ∷ (marked_events (n + own_want x) a ++ marked_event k e ∷ [])) (sums n (own_want x) (unmarked_count a))
+-- the mark is the one that was there, or one above n
+own_times : (n mark m : ℕ) → one m (mark_above n mark) + above (n + want_of mark) m ≤ one m mark + above n m
+own_times n mark m = go (mark == 0)
   where
-    sums : (n k l : ℕ) → n + k + l ≡ n + (k + l)
-    sums n k l = omega arith
+    new : (u v w : Bool) → (n + 1 == m) ≡ u → nat_lt (n + 1) m ≡ v → nat_lt n m ≡ w → cond u 1 0 + cond v 1 0 ≤ one m mark + cond w 1 0
+    new true true w here later all = let is = eqb-true (n + 1) m here in absurd (grind (arith, nat_tests))
+    new true false true here later all = omega arith
+    new true false false here later all = let is = eqb-true (n + 1) m here in absurd (grind (arith, nat_tests))
+    new false true true here later all = omega arith
+    new false true false here later all = absurd (grind (arith, nat_tests))
+    new false false w here later all = omega arith
+
+    go : (t : Bool) → one m (cond t (n + 1) mark) + above (n + cond t 1 0) m ≤ one m mark + above n m
+    go true = new (n + 1 == m) (nat_lt (n + 1) m) (nat_lt n m) refl refl refl
+    go false = let same : above (n + 0) m ≡ above n m = ap (λ i. above i m) (no_more n) in omega arith
 
 pub unmarked-append : (a : List PlainEvent) (e : PlainEvent) → unmarked_count (a ++ e ∷ []) ≡ unmarked_count a + own_want e
 unmarked-append [] e = omega arith
 unmarked-append (x ∷ a) e = let more = unmarked-append a e in omega arith
 
--- ---- what stays
+-- each commit has these aliases
+module _ (aliases : List (ℕ × ℕ)) where
+  abbrev pub marked_event : ℕ → PlainEvent → PlainEvent
+  marked_event n (Blob id mark bytes) = Blob id (mark_above n mark) bytes
+  marked_event n (Commit id mark branch author committer encoding comment parents ops old) = Commit id (mark_above n mark) branch author committer encoding comment parents ops (aliases_for id aliases)
+  marked_event n (Tag id name target tagger comment mark) = Tag id name target tagger comment mark
+  marked_event n (Reset id branch target) = Reset id branch target
+  marked_event n (Pass id line) = Pass id line
 
-pub has_id_same : (n : ℕ) (events : List PlainEvent) (wanted : AnyId) → has_id (marked_events n events) wanted ≡ has_id events wanted
-has_id_same n [] wanted = refl
-has_id_same n (Blob id mark bytes ∷ events) (any.Blob b) = ap (λ t. (id == b) || t) (has_id_same (n + cond (mark == 0) 1 0) events (any.Blob b))
-has_id_same n (Blob id mark bytes ∷ events) wanted = has_id_same (n + cond (mark == 0) 1 0) events wanted
-has_id_same n (Commit id mark branch author committer encoding comment parents ops aliases ∷ events) (any.Commit c) = ap (λ t. (id == c) || t) (has_id_same (n + cond (mark == 0) 1 0) events (any.Commit c))
-has_id_same n (Commit id mark branch author committer encoding comment parents ops aliases ∷ events) wanted = has_id_same (n + cond (mark == 0) 1 0) events wanted
-has_id_same n (Tag id name target tagger comment mark ∷ events) (any.Tag t) = ap (λ u. (id == t) || u) (has_id_same (n + 0) events (any.Tag t))
-has_id_same n (Tag id name target tagger comment mark ∷ events) wanted = has_id_same (n + 0) events wanted
-has_id_same n (Reset id branch target ∷ events) (any.Reset r) = ap (λ t. (id == r) || t) (has_id_same (n + 0) events (any.Reset r))
-has_id_same n (Reset id branch target ∷ events) wanted = has_id_same (n + 0) events wanted
-has_id_same n (Pass id line ∷ events) (any.Pass p) = ap (λ t. (id == p) || t) (has_id_same (n + 0) events (any.Pass p))
-has_id_same n (Pass id line ∷ events) wanted = has_id_same (n + 0) events wanted
+  -- the definition, with the marks alone by cases
+  abbrev pub marked_events : ℕ → List PlainEvent → List PlainEvent
+  marked_events n [] = []
+  marked_events n (e ∷ events) = marked_event n e ∷ marked_events (n + own_want e) events
 
-pub nodes_same : (n : ℕ) (events : List PlainEvent) → nodes (marked_events n events) ≡ nodes events
-nodes_same n [] = refl
-nodes_same n (Commit id mark branch author committer encoding comment parents ops aliases ∷ events) =
-    ap (λ (l : List Node). record { id = id; parents = parents; ops = ops } ∷ l) (nodes_same (n + cond (mark == 0) 1 0) events)
-nodes_same n (Blob id mark bytes ∷ events) = nodes_same (n + cond (mark == 0) 1 0) events
-nodes_same n (Tag id name target tagger comment mark ∷ events) = nodes_same (n + 0) events
-nodes_same n (Reset id branch target ∷ events) = nodes_same (n + 0) events
-nodes_same n (Pass id line ∷ events) = nodes_same (n + 0) events
+  pub history_is : (n : ℕ) (events : List PlainEvent) → with_aliases aliases (with_marks n events) ≡ marked_events n events
+  history_is n [] = refl
+  history_is n (Blob id mark bytes ∷ events) = go (mark == 0) (history_is (n + 1) events) (history_is n events)
+    where
+      go : (t : Bool) → with_aliases aliases (with_marks (n + 1) events) ≡ marked_events (n + 1) events → with_aliases aliases (with_marks n events) ≡ marked_events n events
+          → with_aliases aliases (cond t (Blob id (n + 1) bytes ∷ with_marks (n + 1) events) (Blob id mark bytes ∷ with_marks n events)) ≡ Blob id (cond t (n + 1) mark) bytes ∷ marked_events (n + cond t 1 0) events
+      go true more same = ap (λ (l : List PlainEvent). Blob id (n + 1) bytes ∷ l) more
+      go false more same = ap (λ (l : List PlainEvent). Blob id mark bytes ∷ l) (same ∙ ap (λ k. marked_events k events) (sym (no_more n)))
+  history_is n (Commit id mark branch author committer encoding comment parents ops old ∷ events) = go (mark == 0) (history_is (n + 1) events) (history_is n events)
+    where
+      go : (t : Bool) → with_aliases aliases (with_marks (n + 1) events) ≡ marked_events (n + 1) events → with_aliases aliases (with_marks n events) ≡ marked_events n events
+          → with_aliases aliases (cond t (Commit id (n + 1) branch author committer encoding comment parents ops old ∷ with_marks (n + 1) events)
+          (Commit id mark branch author committer encoding comment parents ops old ∷ with_marks n events))
+          ≡ Commit id (cond t (n + 1) mark) branch author committer encoding comment parents ops (aliases_for id aliases) ∷ marked_events (n + cond t 1 0) events
+      go true more same = ap (λ (l : List PlainEvent). Commit id (n + 1) branch author committer encoding comment parents ops (aliases_for id aliases) ∷ l) more
+      go false more same = ap (λ (l : List PlainEvent). Commit id mark branch author committer encoding comment parents ops (aliases_for id aliases) ∷ l) (same ∙ ap (λ k. marked_events k events) (sym (no_more n)))
+  history_is n (Tag id name target tagger comment mark ∷ events) = ap (λ (l : List PlainEvent). Tag id name target tagger comment mark ∷ l) (history_is n events ∙ ap (λ k. marked_events k events) (sym (no_more n)))
+  history_is n (Reset id branch target ∷ events) = ap (λ (l : List PlainEvent). Reset id branch target ∷ l) (history_is n events ∙ ap (λ k. marked_events k events) (sym (no_more n)))
+  history_is n (Pass id line ∷ events) = ap (λ (l : List PlainEvent). Pass id line ∷ l) (history_is n events ∙ ap (λ k. marked_events k events) (sym (no_more n)))
 
-pub refs_same : (n : ℕ) (t : TreeOf ℕ) (events : List PlainEvent) → refs_after t (marked_events n events) ≡ refs_after t events
-refs_same n t [] = refl
-refs_same n t (Blob id mark bytes ∷ events) = refs_same (n + cond (mark == 0) 1 0) t events
-refs_same n t (Commit id mark branch author committer encoding comment parents ops aliases ∷ events) = refs_same (n + cond (mark == 0) 1 0) (put branch id t) events
-refs_same n t (Tag id name target tagger comment mark ∷ events) = refs_same (n + 0) t events
-refs_same n t (Reset id branch None ∷ events) = refs_same (n + 0) _ events
-refs_same n t (Reset id branch (Some c) ∷ events) = refs_same (n + 0) (put branch c t) events
-refs_same n t (Pass id line ∷ events) = refs_same (n + 0) t events
+  -- events of two parts
+  pub marked-append : (n : ℕ) (a : List PlainEvent) (e : PlainEvent) → marked_events n (a ++ e ∷ []) ≡ marked_events n a ++ marked_event (n + unmarked_count a) e ∷ []
+  marked-append n [] e = ap (λ k. marked_event k e ∷ []) (sym (no_more n))
+  marked-append n (x ∷ a) e =
+      ap (λ (l : List PlainEvent). marked_event n x ∷ l) (marked-append (n + own_want x) a e)
+      ∙ ap (λ k. marked_event n x ∷ (marked_events (n + own_want x) a ++ marked_event k e ∷ [])) (sums n (own_want x) (unmarked_count a))
+    where
+      sums : (n k l : ℕ) → n + k + l ≡ n + (k + l)
+      sums n k l = omega arith
 
-pub placed_same : (n k : ℕ) (events : List PlainEvent) → ArePlaced k events → ArePlaced k (marked_events n events)
-placed_same n k [] p = tt
-placed_same n k (Blob id mark bytes ∷ events) p = (p.0, placed_same (n + cond (mark == 0) 1 0) (suc k) events p.1)
-placed_same n k (Commit id mark branch author committer encoding comment parents ops aliases ∷ events) p = (p.0, placed_same (n + cond (mark == 0) 1 0) (suc k) events p.1)
-placed_same n k (Tag id name target tagger comment mark ∷ events) p = (p.0, placed_same (n + 0) (suc k) events p.1)
-placed_same n k (Reset id branch target ∷ events) p = (p.0, placed_same (n + 0) (suc k) events p.1)
-placed_same n k (Pass id line ∷ events) p = (p.0, placed_same (n + 0) (suc k) events p.1)
+  -- ---- what stays
 
--- ---- which marks there are
+  pub has_id_same : (n : ℕ) (events : List PlainEvent) (wanted : AnyId) → has_id (marked_events n events) wanted ≡ has_id events wanted
+  has_id_same n [] wanted = refl
+  has_id_same n (Blob id mark bytes ∷ events) (any.Blob b) = ap (λ t. (id == b) || t) (has_id_same (n + cond (mark == 0) 1 0) events (any.Blob b))
+  has_id_same n (Blob id mark bytes ∷ events) wanted = has_id_same (n + cond (mark == 0) 1 0) events wanted
+  has_id_same n (Commit id mark branch author committer encoding comment parents ops old ∷ events) (any.Commit c) = ap (λ t. (id == c) || t) (has_id_same (n + cond (mark == 0) 1 0) events (any.Commit c))
+  has_id_same n (Commit id mark branch author committer encoding comment parents ops old ∷ events) wanted = has_id_same (n + cond (mark == 0) 1 0) events wanted
+  has_id_same n (Tag id name target tagger comment mark ∷ events) (any.Tag t) = ap (λ u. (id == t) || u) (has_id_same (n + 0) events (any.Tag t))
+  has_id_same n (Tag id name target tagger comment mark ∷ events) wanted = has_id_same (n + 0) events wanted
+  has_id_same n (Reset id branch target ∷ events) (any.Reset r) = ap (λ t. (id == r) || t) (has_id_same (n + 0) events (any.Reset r))
+  has_id_same n (Reset id branch target ∷ events) wanted = has_id_same (n + 0) events wanted
+  has_id_same n (Pass id line ∷ events) (any.Pass p) = ap (λ t. (id == p) || t) (has_id_same (n + 0) events (any.Pass p))
+  has_id_same n (Pass id line ∷ events) wanted = has_id_same (n + 0) events wanted
 
--- a mark is one that was there, or one of those above n
-abbrev OldOrNew : ℕ → List PlainEvent → ℕ → Type 0
-OldOrNew n events m = (is_marked events m ≡ true) ⊎ ((n < m) × (m ≤ n + unmarked_count events))
+  pub nodes_same : (n : ℕ) (events : List PlainEvent) → nodes (marked_events n events) ≡ nodes events
+  nodes_same n [] = refl
+  nodes_same n (Commit id mark branch author committer encoding comment parents ops old ∷ events) =
+      ap (λ (l : List Node). record { id = id; parents = parents; ops = ops } ∷ l) (nodes_same (n + cond (mark == 0) 1 0) events)
+  nodes_same n (Blob id mark bytes ∷ events) = nodes_same (n + cond (mark == 0) 1 0) events
+  nodes_same n (Tag id name target tagger comment mark ∷ events) = nodes_same (n + 0) events
+  nodes_same n (Reset id branch target ∷ events) = nodes_same (n + 0) events
+  nodes_same n (Pass id line ∷ events) = nodes_same (n + 0) events
 
--- the same of an event's mark and the events after it
-mark_case : (n mark m : ℕ) (events : List PlainEvent) → OldOrNew (n + cond (mark == 0) 1 0) events m ⊎ ((mark_above n mark == m) ≡ true)
-    → (((mark == m) || is_marked events m) ≡ true) ⊎ ((n < m) × (m ≤ n + (cond (mark == 0) 1 0 + unmarked_count events)))
-mark_case n mark m events h = go (mark == 0) h
-  where
-    go : (t : Bool) → OldOrNew (n + cond t 1 0) events m ⊎ ((cond t (n + 1) mark == m) ≡ true)
-        → (((mark == m) || is_marked events m) ≡ true) ⊎ ((n < m) × (m ≤ n + (cond t 1 0 + unmarked_count events)))
-    go t (inl (inl old)) = inl (or_right (mark == m) (is_marked events m) old)
-    go true (inl (inr new)) = let low = new.0 in let high = new.1 in inr (omega arith, omega arith)
-    go false (inl (inr new)) = let low = new.0 in let high = new.1 in inr (omega arith, omega arith)
-    go true (inr e) = let is = eqb-true (n + 1) m e in inr (omega arith, omega arith)
-    go false (inr e) = inl (or_left (mark == m) (is_marked events m) e)
+  pub refs_same : (n : ℕ) (t : TreeOf ℕ) (events : List PlainEvent) → refs_after t (marked_events n events) ≡ refs_after t events
+  refs_same n t [] = refl
+  refs_same n t (Blob id mark bytes ∷ events) = refs_same (n + cond (mark == 0) 1 0) t events
+  refs_same n t (Commit id mark branch author committer encoding comment parents ops old ∷ events) = refs_same (n + cond (mark == 0) 1 0) (put branch id t) events
+  refs_same n t (Tag id name target tagger comment mark ∷ events) = refs_same (n + 0) t events
+  refs_same n t (Reset id branch None ∷ events) = refs_same (n + 0) _ events
+  refs_same n t (Reset id branch (Some c) ∷ events) = refs_same (n + 0) (put branch c t) events
+  refs_same n t (Pass id line ∷ events) = refs_same (n + 0) t events
 
-turned : {A B : Type 0} → A ⊎ B → B ⊎ A
-turned (inl a) = inr a
-turned (inr b) = inl b
+  pub placed_same : (n k : ℕ) (events : List PlainEvent) → ArePlaced k events → ArePlaced k (marked_events n events)
+  placed_same n k [] p = tt
+  placed_same n k (Blob id mark bytes ∷ events) p = (p.0, placed_same (n + cond (mark == 0) 1 0) (suc k) events p.1)
+  placed_same n k (Commit id mark branch author committer encoding comment parents ops old ∷ events) p = (p.0, placed_same (n + cond (mark == 0) 1 0) (suc k) events p.1)
+  placed_same n k (Tag id name target tagger comment mark ∷ events) p = (p.0, placed_same (n + 0) (suc k) events p.1)
+  placed_same n k (Reset id branch target ∷ events) p = (p.0, placed_same (n + 0) (suc k) events p.1)
+  placed_same n k (Pass id line ∷ events) p = (p.0, placed_same (n + 0) (suc k) events p.1)
 
-map_right : {A B C : Type 0} → (B → C) → A ⊎ B → A ⊎ C
-map_right f (inl a) = inl a
-map_right f (inr b) = inr (f b)
+  -- ---- how often a mark is there
 
-fewer : (n m : ℕ) (events : List PlainEvent) → OldOrNew (n + 0) events m → (is_marked events m ≡ true) ⊎ ((n < m) × (m ≤ n + (0 + unmarked_count events)))
-fewer n m events h = map_right (λ x. let low = x.0 in let high = x.1 in (omega arith, omega arith)) h
-
-marks_are : (n : ℕ) (events : List PlainEvent) (m : ℕ) → is_marked (marked_events n events) m ≡ true → OldOrNew n events m
-marks_are n [] m h = absurd cc
-marks_are n (Blob id mark bytes ∷ events) m h =
-    mark_case n mark m events (turned (map_right (marks_are (n + cond (mark == 0) 1 0) events m) (or_cases (mark_above n mark == m) (is_marked (marked_events (n + cond (mark == 0) 1 0) events) m) h)))
-marks_are n (Commit id mark branch author committer encoding comment parents ops aliases ∷ events) m h =
-    mark_case n mark m events (turned (map_right (marks_are (n + cond (mark == 0) 1 0) events m) (or_cases (mark_above n mark == m) (is_marked (marked_events (n + cond (mark == 0) 1 0) events) m) h)))
-marks_are n (Tag id name target tagger comment mark ∷ events) m h = fewer n m events (marks_are (n + 0) events m h)
-marks_are n (Reset id branch target ∷ events) m h = fewer n m events (marks_are (n + 0) events m h)
-marks_are n (Pass id line ∷ events) m h = fewer n m events (marks_are (n + 0) events m h)
-
--- no mark of the events is above g
-abbrev pub AreMarksTo : ℕ → List PlainEvent → Type 0
-AreMarksTo g events = (m : ℕ) → is_marked events m ≡ true → m ≤ g
-
--- an event's own mark becomes a mark that no earlier event has
-pub mark_is_new : (g : ℕ) (earlier : List PlainEvent) (mark : ℕ) → AreMarksTo g earlier → mark ≤ g → MarkFits earlier mark → g + unmarked_count earlier + cond (mark == 0) 1 0 ≤ MAX_MARK
-    → IsMark (mark_above (g + unmarked_count earlier) mark) × (is_marked (marked_events g earlier) (mark_above (g + unmarked_count earlier) mark) ≡ false)
-mark_is_new g earlier mark most own fits within = go (mark == 0) refl fits within
-  where
-    go : (t : Bool) → (mark == 0) ≡ t → MarkFits earlier mark → g + unmarked_count earlier + cond t 1 0 ≤ MAX_MARK
-        → IsMark (cond t (g + unmarked_count earlier + 1) mark) × (is_marked (marked_events g earlier) (cond t (g + unmarked_count earlier + 1) mark) ≡ false)
-    go true e fits within = ((omega arith, within), false_from_ne_true (is_marked (marked_events g earlier) (g + unmarked_count earlier + 1)) (λ h. above (marks_are g earlier (g + unmarked_count earlier + 1) h)))
-      where
-        above : OldOrNew g earlier (g + unmarked_count earlier + 1) → ⊥
-        above (inl old) = let low = most (g + unmarked_count earlier + 1) old in absurd (omega arith)
-        above (inr new) = let high = new.1 in absurd (omega arith)
-    go false e (inl none) within = absurd (let is : (mark == 0) ≡ true = eq-eqb mark 0 none in cc)
-    go false e (inr fits) within = (fits.0, false_from_ne_true (is_marked (marked_events g earlier) mark) (λ h. old_one (marks_are g earlier mark h)))
-      where
-        old_one : OldOrNew g earlier mark → ⊥
-        old_one (inl old) = let new = fits.1 in absurd cc
-        old_one (inr new) = let high = new.0 in absurd (omega arith)
+  -- each mark is one that was there, an alias, or one above n
+  pub marked_times : (n k m : ℕ) (events : List PlainEvent) → ArePlaced k events → weight (one m) (marked_events n events) ≤ weight (one m) events + late (one m) k aliases + above n m
+  marked_times n k m [] placed = omega arith
+  marked_times n k m (Blob id mark bytes ∷ events) placed =
+      let own = own_times n mark m in
+      let more = marked_times (n + want_of mark) (suc k) m events placed.1 in
+      let less = late_less (one m) k aliases in
+      omega arith
+  marked_times n k m (Commit id mark branch author committer encoding comment parents ops old ∷ events) placed =
+      let own = own_times n mark m in
+      let more = marked_times (n + want_of mark) (suc k) m events placed.1 in
+      let here = late_step (one m) k aliases in
+      let same : weigh (one m) (aliases_for id aliases) ≡ weigh (one m) (aliases_for k aliases) = ap (λ i. weigh (one m) (aliases_for i aliases)) placed.0 in
+      omega arith
+  marked_times n k m (Tag id name target tagger comment mark ∷ events) placed =
+      let more = marked_times (n + 0) (suc k) m events placed.1 in
+      let less = late_less (one m) k aliases in
+      let same : above (n + 0) m ≡ above n m = ap (λ i. above i m) (no_more n) in
+      omega arith
+  marked_times n k m (Reset id branch target ∷ events) placed =
+      let more = marked_times (n + 0) (suc k) m events placed.1 in
+      let less = late_less (one m) k aliases in
+      let same : above (n + 0) m ≡ above n m = ap (λ i. above i m) (no_more n) in
+      omega arith
+  marked_times n k m (Pass id line ∷ events) placed =
+      let more = marked_times (n + 0) (suc k) m events placed.1 in
+      let less = late_less (one m) k aliases in
+      let same : above (n + 0) m ≡ above n m = ap (λ i. above i m) (no_more n) in
+      omega arith
 
 -- ---- the greatest mark
 
-abbrev greatest_from : ℕ → List PlainEvent → ℕ
-greatest_from k events = fold (λ n e. max n (mark_number e)) k events
+-- no mark of some is greater, so a greater one isn't there
+none_above : (n m : ℕ) (marks : List ℕ) → greatest_of n marks < m → (n < m) × (weigh (one m) marks ≡ 0)
+none_above n m [] h = (h, refl)
+none_above n m (mark ∷ marks) h =
+    let more = none_above (max n mark) m marks h in
+    let here = le-max_right n mark in
+    let first = le-max_left n mark in
+    let low = more.0 in
+    let rest = more.1 in
+    let isnt : one m mark ≡ 0 = ap (λ b. cond b 1 0) (ne_eqb mark m (λ e. omega arith)) in
+    (omega arith, omega arith)
 
-least : (k : ℕ) (events : List PlainEvent) → k ≤ greatest_from k events
-least k [] = omega arith
-least k (e ∷ events) = let more = least (max k (mark_number e)) events in let here = le-max_left k (mark_number e) in omega arith
+event_above : (e : PlainEvent) (m : ℕ) → top_mark e < m → weigh (one m) (event_marks e) ≡ 0
+event_above (Blob id mark bytes) m h = let isnt : one m mark ≡ 0 = ap (λ b. cond b 1 0) (ne_eqb mark m (λ e. omega arith)) in omega arith
+event_above (Commit id mark branch author committer encoding comment parents ops old) m h =
+    let more = none_above mark m old h in
+    let low = more.0 in
+    let rest = more.1 in
+    let isnt : one m mark ≡ 0 = ap (λ b. cond b 1 0) (ne_eqb mark m (λ e. omega arith)) in
+    omega arith
+event_above (Tag id name target tagger comment None) m h = refl
+event_above (Tag id name target tagger comment (Some mark)) m h = let isnt : one m mark ≡ 0 = ap (λ b. cond b 1 0) (ne_eqb mark m (λ e. omega arith)) in omega arith
+event_above (Reset id branch target) m h = refl
+event_above (Pass id line) m h = refl
 
-own_at_most : (mark m k g : ℕ) → (mark == m) ≡ true → max k mark ≤ g → m ≤ g
-own_at_most mark m k g e h = let is = eqb-true mark m e in let here = le-max_right k mark in omega arith
+events_above : (n m : ℕ) (events : List PlainEvent) → fold (λ k e. max k (top_mark e)) n events < m → (n < m) × (weight (one m) events ≡ 0)
+events_above n m [] h = (h, refl)
+events_above n m (e ∷ events) h =
+    let more = events_above (max n (top_mark e)) m events h in
+    let here = le-max_right n (top_mark e) in
+    let first = le-max_left n (top_mark e) in
+    let low = more.0 in
+    let rest = more.1 in
+    let own = event_above e m (omega arith) in
+    (omega arith, omega arith)
 
-at_most : (k : ℕ) (events : List PlainEvent) → AreMarksTo (greatest_from k events) events
-at_most k [] m h = absurd cc
-at_most k (Blob id mark bytes ∷ events) m h = go (or_cases (mark == m) (is_marked events m) h) (at_most (max k mark) events m)
+-- ---- all marks
+
+-- Where no mark was there twice, none is once each blob, commit and alias has its own.
+pub are_once : (k : Known) → ArePlaced 1 (closed k) → ((m : ℕ) → 0 < m → weight (one m) (closed k) + weigh (one m) (alias_marks k.aliases) ≤ 1)
+    → AreOnce (marked_events k.aliases (greatest_read k) (closed k))
+are_once k placed h m is = go (nat_lt (greatest_read k) m) refl
   where
-    go : ((mark == m) ≡ true) ⊎ (is_marked events m ≡ true) → (is_marked events m ≡ true → m ≤ greatest_from (max k mark) events) → m ≤ greatest_from (max k mark) events
-    go (inl here) more = own_at_most mark m k (greatest_from (max k mark) events) here (least (max k mark) events)
-    go (inr later) more = more later
-at_most k (Commit id mark branch author committer encoding comment parents ops aliases ∷ events) m h = go (or_cases (mark == m) (is_marked events m) h) (at_most (max k mark) events m)
-  where
-    go : ((mark == m) ≡ true) ⊎ (is_marked events m ≡ true) → (is_marked events m ≡ true → m ≤ greatest_from (max k mark) events) → m ≤ greatest_from (max k mark) events
-    go (inl here) more = own_at_most mark m k (greatest_from (max k mark) events) here (least (max k mark) events)
-    go (inr later) more = more later
-at_most k (Tag id name target tagger comment mark ∷ events) m h = at_most (max k 0) events m h
-at_most k (Reset id branch target ∷ events) m h = at_most (max k 0) events m h
-at_most k (Pass id line ∷ events) m h = at_most (max k 0) events m h
+    times : weight (one m) (marked_events k.aliases (greatest_read k) (closed k)) ≤ weight (one m) (closed k) + late (one m) 1 k.aliases + above (greatest_read k) m
+    times = marked_times k.aliases (greatest_read k) 1 m (closed k) placed
 
-pub marks_to_greatest : (events : List PlainEvent) → AreMarksTo (greatest_mark events) events
-marks_to_greatest events = at_most 0 events
+    go : (b : Bool) → nat_lt (greatest_read k) m ≡ b → weight (one m) (marked_events k.aliases (greatest_read k) (closed k)) ≤ 1
+    go true e =
+        let least : greatest_read k < m = grind (arith, nat_tests) in
+        let aliases = none_above (greatest_mark (closed k)) m (alias_marks k.aliases) least in
+        let events = events_above 0 m (closed k) aliases.0 in
+        let none = aliases.1 in
+        let none_here = events.1 in
+        let all = late_all (one m) 1 k.aliases in
+        let last : above (greatest_read k) m ≡ 1 = ap (λ b. cond b 1 0) e in
+        let most = times in
+        omega arith
+    go false e =
+        let once = h m is in
+        let all = late_all (one m) 1 k.aliases in
+        let last : above (greatest_read k) m ≡ 0 = ap (λ b. cond b 1 0) e in
+        let most = times in
+        omega arith

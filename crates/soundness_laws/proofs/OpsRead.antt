@@ -48,7 +48,7 @@ IsOp seen t op = RefersBack seen op × IsFormedOp op × HasSource t op
 text_is : (line text : Bytes) → after_space line ≡ Some text → text_of line ≡ text
 text_is line text e = ap (λ (o : Option Bytes). elim o [ None ↦ [] | Some t ↦ t ]) e
 
-ensured : (b : Bool) (why : Why) (u : Unit {0}) → ensure b why ≡ Ok u → b ≡ true
+pub ensured : (b : Bool) (why : Why) (u : Unit {0}) → ensure b why ≡ Ok u → b ≡ true
 ensured true why u e = refl
 ensured false why u e = absurd cc
 

@@ -13,8 +13,8 @@ use Rattle.plain_model.specs.declared.event.PlainEvent.TheVariants.{Blob, Commit
 use Rattle.plain_model.specs.Lookups.{id_of, id_number}
 use Rattle.plain_model.specs.Paths.{Bytes, path_fault}
 use Rattle.plain_model.specs.Snapshots.{refs}
-use Rattle.plain_model.specs.Soundness.{AreSoundAfter, IsFormedEvent, IsSoundEvent, has_id}
-use Rattle.plain_model.specs.Streams.{is_marked}
+use Rattle.plain_model.specs.Soundness.{AreSoundAfter, IsFormedEvent, IsSoundEvent, are_distinct, has_id}
+use Rattle.plain_model.specs.Streams.{is_among, is_marked}
 use Rattle.plain_model.specs.Trees.{at, has}
 use Rattle.round_trip_laws.specs.AsRead.{ArePlaced, IsRooted, AreRootedAfter, IsAsRead}
 
@@ -53,24 +53,37 @@ module _ (front back : List PlainEvent) where
   mark_twice id mark bytes there h = let new = (own_sound (Blob id mark bytes) h).1 in absurd cc
 
   module _ (id mark : ℕ) (branch : Bytes) (author committer : Signed) (encoding : Option Bytes) (comment : Bytes) where
-    abbrev commit : List ℕ → List FileOp → PlainEvent
-    commit parents ops = Commit id mark branch author committer encoding comment parents ops aliases
+    abbrev commit : List ℕ → List FileOp → List ℕ → PlainEvent
+    commit parents ops aliases = Commit id mark branch author committer encoding comment parents ops aliases
 
-    pub parent_twice : (p : ℕ) (ops : List FileOp) → IsAsRead (front ++ commit (p ∷ p ∷ []) ops ∷ back) → ⊥
-    parent_twice p ops h =
-        let apart = and_parts (not ((p == p) || false)) (not false && true) (own_sound (commit (p ∷ p ∷ []) ops) h).7 in
+    pub alias_twice : (parents : List ℕ) (ops : List FileOp) (alias : ℕ) (aliases : List ℕ) → IsTrue (is_marked front alias) → IsAsRead (front ++ commit parents ops (alias ∷ aliases) ∷ back) → ⊥
+    alias_twice parents ops alias aliases there h = let new = (own_sound (commit parents ops (alias ∷ aliases)) h).10.0 in absurd cc
+
+    pub own_alias : (parents : List ℕ) (ops : List FileOp) (aliases : List ℕ) → IsAsRead (front ++ commit parents ops (mark ∷ aliases) ∷ back) → ⊥
+    own_alias parents ops aliases h =
+        let apart = and_parts (not ((mark == mark) || is_among aliases mark)) (are_distinct (mark ∷ aliases)) (own_sound (commit parents ops (mark ∷ aliases)) h).11 in
+        let isnt : ((mark == mark) || is_among aliases mark) ≡ false = not-true ((mark == mark) || is_among aliases mark) apart.0 in
+        let is : ((mark == mark) || is_among aliases mark) ≡ true = or_left (mark == mark) (is_among aliases mark) (eq-eqb mark mark refl) in
+        absurd cc
+
+    pub parent_twice : (p : ℕ) (ops : List FileOp) (aliases : List ℕ) → IsAsRead (front ++ commit (p ∷ p ∷ []) ops aliases ∷ back) → ⊥
+    parent_twice p ops aliases h =
+        let apart = and_parts (not ((p == p) || false)) (not false && true) (own_sound (commit (p ∷ p ∷ []) ops aliases) h).7 in
         let isnt : ((p == p) || false) ≡ false = not-true ((p == p) || false) apart.0 in
         let is : ((p == p) || false) ≡ true = or_left (p == p) false (eq-eqb p p refl) in
         absurd cc
 
-    pub later_parent : (p : ℕ) (ps : List ℕ) (ops : List FileOp) → IsFalse (has_id front (any.Commit p)) → IsAsRead (front ++ commit (p ∷ ps) ops ∷ back) → ⊥
-    later_parent p ps ops isnt h = let there = (own_sound (commit (p ∷ ps) ops) h).6.0 in absurd cc
+    pub later_parent : (p : ℕ) (ps : List ℕ) (ops : List FileOp) (aliases : List ℕ) → IsFalse (has_id front (any.Commit p)) → IsAsRead (front ++ commit (p ∷ ps) ops aliases ∷ back) → ⊥
+    later_parent p ps ops aliases isnt h = let there = (own_sound (commit (p ∷ ps) ops aliases) h).6.0 in absurd cc
 
-    pub root_on_tip : (tip : ℕ) (ops : List FileOp) → at (refs front) branch ≡ Some tip → IsAsRead (front ++ commit [] ops ∷ back) → ⊥
-    root_on_tip tip ops is h = let none = rooted_at [] front back (commit [] ops) h.rooted in let there : has (refs front) branch ≡ true = ap is_some is in absurd cc
+    pub root_on_tip : (tip : ℕ) (ops : List FileOp) (aliases : List ℕ) → at (refs front) branch ≡ Some tip → IsAsRead (front ++ commit [] ops aliases ∷ back) → ⊥
+    root_on_tip tip ops aliases is h = let none = rooted_at [] front back (commit [] ops aliases) h.rooted in let there : has (refs front) branch ≡ true = ap is_some is in absurd cc
 
-    pub no_path : (parents : List ℕ) (path : Bytes) (fault : PathFault) (ops : List FileOp) → path_fault path ≡ Some fault → IsAsRead (front ++ commit parents (Delete path ∷ ops) ∷ back) → ⊥
-    no_path parents path fault ops is h = let (mark_is, fit) = all_at IsFormedEvent front back (commit parents (Delete path ∷ ops)) h.sound.spelled in let none = fit.0 in absurd cc
+    pub no_path : (parents : List ℕ) (path : Bytes) (fault : PathFault) (ops : List FileOp) (aliases : List ℕ) → path_fault path ≡ Some fault → IsAsRead (front ++ commit parents (Delete path ∷ ops) aliases ∷ back) → ⊥
+    no_path parents path fault ops aliases is h = let none = (all_at IsFormedEvent front back (commit parents (Delete path ∷ ops) aliases) h.sound.spelled).1.0 in absurd cc
 
-  pub later_target : (id target : ℕ) (name : Bytes) (tagger : Option Signed) (comment : Bytes) → IsFalse (has_id front (any.Commit target)) → IsAsRead (front ++ Tag id name target tagger comment mark ∷ back) → ⊥
-  later_target id target name tagger comment isnt h = let there = (own_sound (Tag id name target tagger comment mark) h).2 in absurd cc
+  pub later_target : (id target : ℕ) (name : Bytes) (tagger : Option Signed) (comment : Bytes) (mark : Option ℕ) → IsFalse (has_id front (any.Commit target)) → IsAsRead (front ++ Tag id name target tagger comment mark ∷ back) → ⊥
+  later_target id target name tagger comment mark isnt h = let there = (own_sound (Tag id name target tagger comment mark) h).2 in absurd cc
+
+  pub tag_mark_twice : (id target : ℕ) (name : Bytes) (tagger : Option Signed) (comment : Bytes) (mark : ℕ) → IsTrue (is_marked front mark) → IsAsRead (front ++ Tag id name target tagger comment (Some mark) ∷ back) → ⊥
+  tag_mark_twice id target name tagger comment mark there h = let new = (own_sound (Tag id name target tagger comment (Some mark)) h).4 in absurd cc

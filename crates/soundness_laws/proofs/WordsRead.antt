@@ -52,8 +52,14 @@ module _ (line : Bytes) where
   abbrev inline_words : Word
   inline_words = cond (bytes_eq first (codes "M") && is_inline line) word.InlineOperation op_words
 
+  abbrev to_words : Word
+  to_words = cond (bytes_eq first (codes "to")) word.To inline_words
+
+  abbrev alias_words : Word
+  alias_words = cond (bytes_eq line (codes "alias")) word.Alias to_words
+
   abbrev tagger_words : Word
-  tagger_words = cond (bytes_eq first (codes "tagger")) word.Tagger inline_words
+  tagger_words = cond (bytes_eq first (codes "tagger")) word.Tagger alias_words
 
   abbrev merge_words : Word
   merge_words = cond (bytes_eq first (codes "merge")) word.Merge tagger_words
@@ -117,7 +123,9 @@ module _ (line : Bytes) where
       let l = passed_by (bytes_eq first (codes "data")) word.Data from_words w (not_early word.Data w late (λ x. x)) k in
       let m = passed_by (bytes_eq first (codes "from")) word.From merge_words w (not_early word.From w late (λ x. x)) l in
       let n = passed_by (bytes_eq first (codes "merge")) word.Merge tagger_words w (not_early word.Merge w late (λ x. x)) m in
-      passed_by (bytes_eq first (codes "tagger")) word.Tagger inline_words w (not_early word.Tagger w late (λ x. x)) n
+      let o = passed_by (bytes_eq first (codes "tagger")) word.Tagger alias_words w (not_early word.Tagger w late (λ x. x)) n in
+      let p = passed_by (bytes_eq line (codes "alias")) word.Alias to_words w (not_early word.Alias w late (λ x. x)) o in
+      passed_by (bytes_eq first (codes "to")) word.To inline_words w (not_early word.To w late (λ x. x)) p
 
   -- an operation's line without bytes after it
   pub not_inline : word_of line ≡ word.Operation → (bytes_eq (first_word line) (codes "M") && is_inline line) ≡ false

@@ -31,10 +31,10 @@ in_front xs after x lt is =
 -- an event that has no mark
 pub passed_over : (marks : Marks) (events : List PlainEvent) (e : PlainEvent)
     → ((id mark : ℕ) (bytes : List ℕ) → e ≡ Blob id mark bytes → ⊥)
-    → ((id mark : ℕ) (branch : List ℕ) (author committer : Signed) (encoding : Option (List ℕ)) (comment : List ℕ) (parents : List ℕ) (ops : List FileOp) → e ≡ Commit id mark branch author committer encoding comment parents ops aliases → ⊥)
+    → ((id mark : ℕ) (branch : List ℕ) (author committer : Signed) (encoding : Option (List ℕ)) (comment : List ℕ) (parents : List ℕ) (ops : List FileOp) (aliases : List ℕ) → e ≡ Commit id mark branch author committer encoding comment parents ops aliases → ⊥)
     → Records marks events → Records marks (e ∷ events)
 passed_over marks events (Blob id mark bytes) no_blob no_commit reports = absurd (no_blob id mark bytes refl)
-passed_over marks events (Commit id mark branch author committer encoding comment parents ops aliases) no_blob no_commit reports = absurd (no_commit id mark branch author committer encoding comment parents ops refl)
+passed_over marks events (Commit id mark branch author committer encoding comment parents ops aliases) no_blob no_commit reports = absurd (no_commit id mark branch author committer encoding comment parents ops aliases refl)
 passed_over marks events (Tag id name target tagger comment mark) no_blob no_commit reports = record { blobs = reports.blobs; commits = reports.commits }
 passed_over marks events (Reset id branch target) no_blob no_commit reports = record { blobs = reports.blobs; commits = reports.commits }
 passed_over marks events (Pass id line) no_blob no_commit reports = record { blobs = reports.blobs; commits = reports.commits }

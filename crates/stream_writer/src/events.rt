@@ -1,7 +1,9 @@
 //! Events at the end of a text.
-ghost use Rattle.std.specs.Prelude.{◌≡◌, ◌++◌, ℕ, List, OnOk, codes};
+ghost use Rattle.std.specs.Prelude.{◌≡◌, ◌++◌, ℕ, List, OnOk, codes, flat_map};
 ghost use Rattle.plain_model.specs.Text.{
+  alias_text,
   line,
+  mark_text,
   event_text,
   reset_text,
   encoding_text,
@@ -41,6 +43,34 @@ fn push_tagger(
         Some(tagger) => push_signed_line(out, b"tagger ", tagger),
         None => Ok(()),
     }
+}
+
+// The line of a tag's mark, if it has one.
+fn push_mark(out: &mut Text, mark: Option<Mark>) -> Result<(), NoMemory>
+    ensures { OnOk result (out.new ≡ out.old ++ mark_text mark) }
+{
+    match mark {
+        Some(mark) => push_mark_line(out, b"mark ", mark.number()),
+        None => Ok(()),
+    }
+}
+
+// The lines of a further mark of the commit that has the mark.
+fn push_alias(out: &mut Text, mark: Mark, alias: Mark) -> Result<(), NoMemory>
+    ensures { OnOk result (out.new ≡ out.old ++ alias_text mark alias) }
+{
+    out.push_all(b"alias\n")?;
+    push_mark_line(out, b"mark ", alias.number())?;
+    push_mark_line(out, b"to ", mark.number())
+}
+
+fn push_aliases(out: &mut Text, mark: Mark, aliases: &[Mark]) -> Result<(), NoMemory>
+    ensures { OnOk result (out.new ≡ out.old ++ flat_map (alias_text mark) aliases.now) }
+{
+    for alias in aliases {
+        push_alias(out, mark, *alias)?;
+    }
+    Ok(())
 }
 
 fn push_target(
@@ -134,6 +164,7 @@ pub fn push_event(
             comment,
             parents,
             ops,
+            aliases,
             ..
         } => {
             push_reset(out, history, tips, branch.as_slice(), parents.as_slice())?;
@@ -145,16 +176,19 @@ pub fn push_event(
                 comment.as_slice(),
                 parents.as_slice(),
                 ops.as_slice(),
-            )
+            )?;
+            push_aliases(out, *mark, aliases.as_slice())
         }
         PlainEvent::Tag {
             name,
             target,
             tagger,
             comment,
+            mark,
             ..
         } => {
             push_line(out, b"tag ", name.as_slice())?;
+            push_mark(out, *mark)?;
             push_target(out, history, Some(*target))?;
             push_tagger(out, history, tagger)?;
             write_data(comment.as_slice(), out)

@@ -71,6 +71,7 @@ fn commit(
         comment: text(alloc, comment)?,
         parents: commits,
         ops,
+        aliases: Items::new(alloc)?,
     })
 }
 
@@ -125,6 +126,7 @@ fn tag(
     name: &[u8],
     target: u64,
     tagger: Option<Signed>,
+    number: Option<u64>,
 ) -> Result<PlainEvent, Fail> {
     Ok(PlainEvent::Tag {
         id: TagId::new(id),
@@ -132,6 +134,7 @@ fn tag(
         target: CommitId::new(target),
         tagger,
         comment: text(alloc, b"t\n")?,
+        mark: number.map(mark).transpose()?,
     })
 }
 
@@ -217,6 +220,7 @@ fn commits_of_all_kinds(alloc: Global) -> Result<EventList, Fail> {
         comment: text(alloc, b"\xe9\n")?,
         parents: Items::of(alloc, &[CommitId::new(1)])?,
         ops: Items::new(alloc)?,
+        aliases: Items::of(alloc, &[mark(1000)?, mark(6)?])?,
     })?;
     let mut merged = Items::new(alloc)?;
     merged.push(FileOp::DeleteAll)?;
@@ -256,6 +260,12 @@ data 2
 
 from :1
 
+alias
+mark :1000
+to :2
+alias
+mark :6
+to :2
 commit main
 mark :3
 author A <a@x> 300 +0000
@@ -349,8 +359,8 @@ fn other_events_of_all_kinds(alloc: Global) -> Result<EventList, Fail> {
     events.push(reset(alloc, 6, b"main", None)?)?;
     events.push(commit(alloc, 7, 700, b"main", b"e", &[], Items::new(alloc)?)?)?;
     let tagger = plain_signed(alloc, 8)?;
-    events.push(tag(alloc, 8, b"v1", 5, Some(tagger))?)?;
-    events.push(tag(alloc, 9, b"v2", 3, None)?)?;
+    events.push(tag(alloc, 8, b"v1", 5, Some(tagger), Some(70))?)?;
+    events.push(tag(alloc, 9, b"v2", 3, None, None)?)?;
     events.push(pass(alloc, 10, b"checkpoint")?)?;
     Ok(events)
 }
@@ -386,6 +396,7 @@ data 1
 e
 
 tag v1
+mark :70
 from :5
 tagger A <a@x> 8 +0000
 data 2

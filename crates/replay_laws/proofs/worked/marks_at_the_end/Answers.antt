@@ -8,4 +8,5 @@ unfolding cut_at number_of number_within mark_of name_of zone_of when_of when_af
 returns c = record {
   inline = (refl, refl);
   referred = (refl, refl);
+  further_marks = (refl, refl);
 }
