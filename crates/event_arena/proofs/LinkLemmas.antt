@@ -87,7 +87,7 @@ both : (a b : Bool) → not a && b ≡ true → (a ≡ false) × (b ≡ true)
 both true b h = absurd (true≢false (sym h))
 both false b h = (refl, h)
 
--- a parent that occurs once isn't among those before it
+-- a parent that stands once isn't among those before it
 once-before : (ps : List ℕ) (i d : ℕ) → IsTrue (are_distinct ps) → i < length ps → among (get_or ps i d) (take i ps) ≡ false
 once-before [] i d o h = absurd (omega arith)
 once-before (p ∷ ps) zero d o h = refl
@@ -170,3 +170,13 @@ pub linked-step : (es : List PlainEvent) (k : ℕ) (e : PlainEvent) (old new : L
 linked-step es k e old new used more at low grows children linked =
     let p = length-flat-item event_parents es k e at in
     (omega arith, λ c j place. linked c j place ∙ ap (λ t. own_child c e ++ t) (children c j place) ∙ sym (ap (children_of c) (drop-item es k e at)))
+
+pub drop-all : (es : List PlainEvent) → drop (length es) es ≡ []
+drop-all [] = refl
+drop-all (e ∷ es) = drop-all es
+
+pub get-push-empty : (xs : List (List ℕ)) (k : ℕ) → get_or xs k [] ≡ [] → get_or (xs ++ [] ∷ []) k [] ≡ []
+get-push-empty [] zero h = refl
+get-push-empty [] (suc k) h = refl
+get-push-empty (x ∷ xs) zero h = h
+get-push-empty (x ∷ xs) (suc k) h = get-push-empty xs k h

@@ -56,7 +56,21 @@ module _ {A : Type 0} where
     | inr no_it ↦ rw no_it (events-lookup id rows k.1)
   ])
 
+  events-prefix : (id : AnyId) (rows : List (AnyId × Rc PlainEvent A)) → IsKeyed rows →
+      position_or_len (eq-value.it id) (keys_of rows) ≡ position_or_len (λ e. same_id id (id_of e)) (events_of rows)
+  events-prefix id [] k = refl
+  events-prefix id (r ∷ rows) k = rw (row_test id r k.0) (elim (cases_Bool (same_id id (id_of r.1.value))) [
+    | inl yes_it ↦ rw yes_it refl
+    | inr no_it ↦ rw no_it (ap (λ n. 1 + n) (events-prefix id rows k.1))
   ])
+
+  pub events-length : (rows : List (AnyId × Rc PlainEvent A)) → length (events_of rows) ≡ length rows
+  events-length [] = refl
+  events-length (r ∷ rows) = ap suc (events-length rows)
+
+  pub keys-length : (rows : List (AnyId × Rc PlainEvent A)) → length (keys_of rows) ≡ length rows
+  keys-length [] = refl
+  keys-length (r ∷ rows) = ap suc (keys-length rows)
 
   pub events-position : (id : AnyId) (rows : List (AnyId × Rc PlainEvent A)) → IsKeyed rows →
       position (eq-value.it id) (keys_of rows) ≡ place_of id (events_of rows)

@@ -1,5 +1,5 @@
--- Ids, marks and parents that occur once, as in every sound history. (own)
-use Rattle.std.specs.Prelude.{◌≡◌, ◌==◌, ℕ, List, [], ◌∷◌, None, IsTrue}
+-- Ids, marks and parents that stand once, as in every sound history. (own)
+use Rattle.std.specs.Prelude.{◌≡◌, ◌==◌, ℕ, List, [], ◌∷◌, None, map, IsTrue}
 use Rattle.std.specs.List.{AllByRecursion}
 use Rattle.std.specs.Map.{lookup}
 use Rattle.plain_model.specs.declared.id.AnyId.{AnyId}
@@ -13,7 +13,11 @@ abbrev pub AreDistinct : List PlainEvent → Type 0
 AreDistinct [] = Unit {0}
 AreDistinct (e ∷ events) = (find_event (id_of e) events ≡ None) × AreDistinct events
 
--- no mark occurs twice
+-- marks, each with the id of the event that has them
+abbrev pub named : AnyId → List ℕ → List (ℕ × AnyId)
+named id marks = map (λ mark. (mark, id)) marks
+
+-- no mark stands twice
 abbrev pub AreMarkedOnce : List (ℕ × AnyId) → Type 0
 AreMarkedOnce [] = Unit {0}
 AreMarkedOnce (m ∷ marks) = (lookup (λ n. m.0 == n) marks ≡ None) × AreMarkedOnce marks
