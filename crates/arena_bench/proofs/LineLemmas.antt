@@ -48,7 +48,7 @@ sound-append earlier (x ∷ xs) e h s =
 
 -- ---- the trees of a line
 
--- the one file stands there, and nothing else
+-- the one file is there, and nothing else
 abbrev pub OneFile : Option Tree → Type 0
 OneFile o = (entry : Entry) × (o ≡ Some ((codes "f", entry) ∷ []))
 

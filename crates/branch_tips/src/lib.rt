@@ -1,4 +1,4 @@
-//! Where the branches stand while a history is walked from its front.
+//! Where the branches are while a history is walked from its front.
 #![tactic(auto)]
 
 mod tips;

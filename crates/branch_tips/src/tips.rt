@@ -8,7 +8,7 @@ use std::alloc::Global;
 use std::collections::BTreeMap;
 use std::marker::Model;
 
-/// Each branch that has a tip, with the commit on which it stands. A commit and a reset with a target set
+/// Each branch that has a tip, with the commit on which it is. A commit and a reset with a target set
 /// their branch; a reset without one removes it. (git-fast-import, `commit`, `reset`; where it is vague: own.)
 #[derive(Drop)]
 pub struct Tips {
@@ -41,7 +41,7 @@ impl Tips {
         }
     }
 
-    /// The commit on which the branch stands.
+    /// The commit on which the branch is.
     pub fn tip(&self, branch: &[u8]) -> Option<CommitId>
         ensures { result ≡ at self.now branch.now }
     {
@@ -55,7 +55,7 @@ impl Tips {
         self.tip(branch).is_some()
     }
 
-    /// Each branch that has a tip, with the commit on which it stands, in byte order of the branches.
+    /// Each branch that has a tip, with the commit on which it is, in byte order of the branches.
     pub fn entries(&self) -> Result<TipList, NoMemory>
         ensures { IfOk result (λ list. list ≡ self.now) }
     {
@@ -66,7 +66,7 @@ impl Tips {
         Ok(list)
     }
 
-    /// The branch stands on the commit from now on.
+    /// The branch is on the commit from now on.
     pub fn set(&mut self, branch: &[u8], tip: CommitId) -> Result<(), NoMemory>
         ensures ok { OnOk result (self.new ≡ put branch.now tip self.old) }
         ensures err { OnErr result (self.new ≡ self.old) }

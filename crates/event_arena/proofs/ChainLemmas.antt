@@ -105,7 +105,7 @@ link_at-reverse [] k d = refl
 link_at-reverse (x ∷ xs) zero d = rw (reverse-cons x xs) (link_at-push-zero (reverse xs) x d)
 link_at-reverse (x ∷ xs) (suc k) d = rw (reverse-cons x xs) (link_at-push-suc (reverse xs) x d k ∙ link_at-reverse xs k d)
 
--- what stands at the front of a chain
+-- what is at the front of a chain
 chain-step : (back : List Link) (k : ℕ) (d : Link) → AreBack back → k < length back →
     (chain_at back k ≡ (link_at back k d).child ∷ follow (chain_at back) (link_at back k d).next) × IsBelow (length back) (link_at back k d).next
 chain-step [] k d b h = absurd (omega arith)

@@ -125,7 +125,7 @@ set-more keys seen id same x = by (cases_Bool (list_any (eq-value.it id) keys)) 
 
 -- ---- orders
 
--- no id stands twice
+-- no id occurs twice
 abbrev pub AreListedOnce : List AnyId → Type 0
 AreListedOnce [] = Unit {0}
 AreListedOnce (id ∷ ids) = (is_listed id ids ≡ false) × AreListedOnce ids

@@ -17,7 +17,7 @@ use Rattle.event_arena.proofs.MeasureLemmas.{ids-below}
 signed-formed : (n : ℕ) → n ≤ 250000000000 → IsFormedSigned (signed n)
 signed-formed n h = (refl, h, lit≤ tt)
 
--- what stands soundly after the commits
+-- what is soundly after the commits
 after : (rest : List PlainEvent) → AreSoundAfter front rest → AreSoundAfter [] (front ++ rest)
 after rest h = (
   (refl, refl),
@@ -56,7 +56,7 @@ trees c h = elim (cases_Bool (eqb 2 c)) [
 a-mark : (n : ℕ) → 1 ≤ n → n ≤ MAX_MARK → IsMark n
 a-mark n low high = (low, high)
 
--- the fields of the first events are such as lines spell, whatever stands after them
+-- the fields of the first events are such as lines spell, whatever is after them
 spelled : (rest : List PlainEvent) → AllByRecursion IsFormedEvent rest → AllByRecursion IsFormedEvent (front ++ rest)
 spelled rest h = (a-mark 1 (lit≤ tt) (lit≤ tt), ((a-mark 2 (lit≤ tt) (lit≤ tt), tt, tt), ((a-mark 3 (lit≤ tt) (lit≤ tt), tt, (a-mark 30 (lit≤ tt) (lit≤ tt), tt)), ((a-mark 4 (lit≤ tt) (lit≤ tt), tt, tt), ((a-mark 5 (lit≤ tt) (lit≤ tt), tt, tt), h)))))
 

@@ -87,7 +87,7 @@ both : (a b : Bool) → not a && b ≡ true → (a ≡ false) × (b ≡ true)
 both true b h = absurd (true≢false (sym h))
 both false b h = (refl, h)
 
--- a parent that stands once isn't among those before it
+-- a parent that occurs once isn't among those before it
 once-before : (ps : List ℕ) (i d : ℕ) → IsTrue (are_distinct ps) → i < length ps → among (get_or ps i d) (take i ps) ≡ false
 once-before [] i d o h = absurd (omega arith)
 once-before (p ∷ ps) zero d o h = refl

@@ -1,4 +1,4 @@
--- In a sound history ids, marks and parents stand once, and what isn't there has no children.
+-- In a sound history ids, marks and parents occur once, and what isn't there has no children.
 use Rattle.std.proofs.Common.{◌≡◌, ◌∙◌, ℕ, suc, Bool, true, false, cond, not, ◌||◌, ◌&&◌, inl, inr, List, [], ◌∷◌, ◌++◌, Option, Some, None, refl, sym, ap, eqb, arith, append_assoc}
 use Rattle.std.proofs.lemmas.Bool.{cases_Bool, eqb-true, true≢false}
 use Rattle.std.proofs.lemmas.Bool.Decides.{nat_tests}
@@ -153,7 +153,7 @@ is_marked-own (plain.Pass id line) m = refl
 own-marked : (earlier : List PlainEvent) (e : PlainEvent) (m : ℕ) → is_among (event_marks e) m ≡ true → is_marked (earlier ++ e ∷ []) m ≡ true
 own-marked earlier e m own = is_marked-append earlier (e ∷ []) m ∙ ap (λ b. is_marked earlier m || b) (is_marked-own e m ∙ own) ∙ or_true (is_marked earlier m)
 
--- marks of one event stand once before others, of which they are none
+-- marks of one event occur once before others, of which they are none
 marked-append : (marks : List ℕ) (id : AnyId) (others : List (ℕ × AnyId)) → are_distinct marks ≡ true → ((m : ℕ) → is_among marks m ≡ true → lookup (λ n. eqb m n) others ≡ None) →
     AreMarkedOnce others → AreMarkedOnce (map (λ m. (m, id)) marks ++ others)
 marked-append [] id others distinct apart once = once
@@ -258,7 +258,7 @@ no_child c n (plain.Tag id name target tagger comment mark ∷ es) h = no_child 
 no_child c n (plain.Reset id branch target ∷ es) h = no_child c n es h
 no_child c n (plain.Pass id line ∷ es) h = no_child c n es h
 
--- each child stands once
+-- each child occurs once
 pub children-once : (c : ℕ) (es : List PlainEvent) → AreDistinct es → are_distinct (children_of c es) ≡ true
 children-once c [] h = refl
 children-once c (plain.Commit id mark branch author committer encoding comment parents ops aliases ∷ es) h =

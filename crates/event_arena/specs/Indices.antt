@@ -5,7 +5,7 @@ use Rattle.plain_model.specs.declared.id.AnyId.TheVariants as any
 use Rattle.plain_model.specs.declared.event.PlainEvent.{PlainEvent}
 use Rattle.plain_model.specs.Lookups.{children_of, own_child, place_of}
 
--- at the place of each commit of the list stand its children among the others
+-- at the place of each commit of the list are its children among the others
 abbrev pub HasChildren : List (List ℕ) → List PlainEvent → List PlainEvent → Type 0
 HasChildren lists events others = (c k : ℕ) → place_of (any.Commit c) events ≡ Some k → slice_index_or lists k [] ≡ children_of c others
 

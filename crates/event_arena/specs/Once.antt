@@ -1,4 +1,4 @@
--- Ids, marks and parents that stand once, as in every sound history. (own)
+-- Ids, marks and parents that occur once, as in every sound history. (own)
 use Rattle.std.specs.Prelude.{◌≡◌, ◌==◌, ℕ, List, [], ◌∷◌, None, map, IsTrue}
 use Rattle.std.specs.List.{AllByRecursion}
 use Rattle.std.specs.Map.{lookup}
@@ -17,7 +17,7 @@ AreDistinct (e ∷ events) = (find_event (id_of e) events ≡ None) × AreDistin
 abbrev pub named : AnyId → List ℕ → List (ℕ × AnyId)
 named id marks = map (λ mark. (mark, id)) marks
 
--- no mark stands twice
+-- no mark occurs twice
 abbrev pub AreMarkedOnce : List (ℕ × AnyId) → Type 0
 AreMarkedOnce [] = Unit {0}
 AreMarkedOnce (m ∷ marks) = (lookup (λ n. m.0 == n) marks ≡ None) × AreMarkedOnce marks

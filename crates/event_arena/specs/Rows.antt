@@ -8,7 +8,7 @@ use Rattle.plain_model.specs.Lookups.{id_of}
 abbrev pub events_of : {A : Type 0} → List (AnyId × Rc PlainEvent A) → List PlainEvent
 events_of rows = map (λ r. r.1.value) rows
 
--- each event stands under its id
+-- each event is under its id
 abbrev pub IsKeyed : {A : Type 0} → List (AnyId × Rc PlainEvent A) → Type 0
 IsKeyed [] = Unit {0}
 IsKeyed (r ∷ rows) = (r.0 ≡ id_of r.1.value) × IsKeyed rows

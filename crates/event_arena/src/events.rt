@@ -133,7 +133,7 @@ impl Events {
         self.table.event(id)
     }
 
-    /// The event before which so many stand.
+    /// The event before which so many are.
     pub fn nth(&self, place: usize) -> &PlainEvent
         requires { place < length self.now.list }
         ensures event { slice_get self.now.list place ≡ Some result.now }
@@ -151,7 +151,7 @@ impl Events {
         self.table.numbered(number)
     }
 
-    /// How many events stand before the one with the id.
+    /// How many events are before the one with the id.
     pub fn place(&self, id: AnyId) -> Option<usize>
         ensures place { result ≡ place_of id self.now.list }
         ensures within { IfSome result (λ place. place < length self.now.list) }

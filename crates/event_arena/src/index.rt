@@ -77,7 +77,7 @@ fn clear_places(count: usize, links: &mut Links)
 }
 
 /// Links each commit of the table to its parents. It goes from the last one back, and each child is put before
-/// the others, so that children stand in the order of the table.
+/// the others, so that children are in the order of the table.
 pub fn fill_links(table: &EventTable, links: &mut Links)
     requires once { AreParentsOnce table.now }
     requires place_room { length table.now ≤ links.old.place_room }

@@ -1,4 +1,4 @@
-//! The links from each place of a list to the children of the commit that stands there.
+//! The links from each place of a list to the children of the commit that is there.
 ghost use Rattle.std.specs.Iterator.{YieldsFirst, item_count};
 ghost use Rattle.std.specs.Prelude.{
   ◌≡◌,

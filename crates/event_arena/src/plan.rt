@@ -134,7 +134,7 @@ impl Plan {
         self.after.event(id)
     }
 
-    /// The event before which so many stand after.
+    /// The event before which so many are after.
     pub fn nth(&self, place: usize) -> &PlainEvent
         requires { place < length self.now.after }
         ensures event { slice_get self.now.after place ≡ Some result.now }
@@ -143,7 +143,7 @@ impl Plan {
         self.after.nth(place)
     }
 
-    /// How many events stand after before the one with the id.
+    /// How many events are after before the one with the id.
     pub fn place(&self, id: AnyId) -> Option<usize>
         ensures place { result ≡ place_of id self.now.after }
         ensures within { IfSome result (λ place. place < length self.now.after) }
@@ -151,7 +151,7 @@ impl Plan {
         self.after.place(id)
     }
 
-    /// The event before which so many stood before.
+    /// The event before which so many were before.
     pub fn old_nth(&self, place: usize) -> &PlainEvent
         requires { place < length self.now.before }
         ensures event { slice_get self.now.before place ≡ Some result.now }

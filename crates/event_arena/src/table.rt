@@ -126,7 +126,7 @@ impl EventTable {
         event.as_ref()
     }
 
-    /// The event before which so many stand.
+    /// The event before which so many are.
     pub fn nth(&self, place: usize) -> &PlainEvent
         requires { place < length self.now }
         ensures event { slice_get self.now place ≡ Some result.now }
@@ -158,7 +158,7 @@ impl EventTable {
         }
     }
 
-    /// How many events stand before the one with the id.
+    /// How many events are before the one with the id.
     pub fn place(&self, id: AnyId) -> Option<usize>
         ensures place { result ≡ place_of id self.now }
         ensures within { IfSome result (λ place. place < length self.now) }

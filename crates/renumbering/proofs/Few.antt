@@ -1,4 +1,4 @@
--- A history such as reading gives it has no more marks than there are: each is 1 to 4,294,967,295, and stands once.
+-- A history such as reading gives it has no more marks than there are: each is 1 to 4,294,967,295, and occurs once.
 use Rattle.std.proofs.Common.{◌≡◌, ℕ, suc, ◌+◌, ◌<◌, ◌≤◌, Bool, true, false, cond, List, [], ◌∷◌, ◌++◌, length, Some, None, refl, ap, sym, subst, inl, inr, ◌⊎◌, arith, eqb, eqb-true}
 use Rattle.std.specs.Prelude.{map}
 use Rattle.std.specs.List.{AllByRecursion, IsDistinct, list_any}

@@ -29,7 +29,7 @@ record IsAfter (old new : List PlainEvent) (next : ℕ) : Type 0 where
   ids : (id : AnyId) → has_id old id ≡ has_id new id
   below : (m : ℕ) → is_marked new m ≡ true → m < next
 
--- nothing stands before the first event
+-- nothing is before the first event
 first_after : (next : ℕ) → IsAfter [] [] next
 first_after next = record { ids = λ id. refl; below = λ m h. absurd cc }
 
@@ -48,7 +48,7 @@ after_more old new next e b = record { ids = ids; below = λ m h. below m (or_ca
     below m (inl before) = let low = b.below m before in omega arith
     below m (inr own) = (among-from next (event_marks e) m (sym (is_marked-own (marked_from next e) m ∙ ap (λ ms. is_among ms m) (event-from next e)) ∙ own)).1
 
--- a mark that isn't below the next one stands nowhere yet
+-- a mark that isn't below the next one is nowhere yet
 is_new : (old new : List PlainEvent) (next m : ℕ) → IsAfter old new next → next ≤ m → is_marked new m ≡ false
 is_new old new next m b high = false_from_ne_true (is_marked new m) (λ h. let low = b.below m h in absurd (omega arith))
 
@@ -152,7 +152,7 @@ placed_still : (next k : ℕ) (events : List PlainEvent) → ArePlaced k events 
 placed_still next k [] p = tt
 placed_still next k (e ∷ events) p = (ap id_number (id-from next e) ∙ p.0, placed_still (next + length (event_marks e)) (suc k) events p.1)
 
--- the branches stand alike after one event more
+-- the branches are alike after one event more
 tips_more : (old new : List PlainEvent) (next : ℕ) (e : PlainEvent) → refs old ≡ refs new → refs (old ++ e ∷ []) ≡ refs (new ++ marked_from next e ∷ [])
 tips_more old new next e same =
     refs_append [] old (e ∷ [])

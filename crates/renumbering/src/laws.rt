@@ -23,7 +23,7 @@ pub fn nothing_else_changes()
         map (all_marked mark) (renumbered events) ≡ map (all_marked mark) events }
 {}
 
-/// Each commit keeps its tree, with the same bytes in it, and each branch stands where it stood.
+/// Each commit keeps its tree, with the same bytes in it, and each branch is where it was.
 pub fn renumbering_keeps_trees()
     ensures trees { (events : List PlainEvent) (c : ℕ) →
         tree (renumbered events) c ≡ tree events c }
@@ -32,14 +32,14 @@ pub fn renumbering_keeps_trees()
     ensures refs { (events : List PlainEvent) → refs (renumbered events) ≡ refs events }
 {}
 
-/// The same ids stand in the same order, so there are as many events.
+/// The same ids are in the same order, so there are as many events.
 pub fn ids_stay()
     ensures ids { (events : List PlainEvent) →
         map id_of (renumbered events) ≡ map id_of events }
     ensures count { (events : List PlainEvent) → length (renumbered events) ≡ length events }
 {}
 
-/// A sound history stays sound. Its marks stand once, so there are no more than marks.
+/// A sound history stays sound. Its marks occur once, so there are no more than marks.
 pub fn renumbering_keeps_soundness()
     ensures { (events : List PlainEvent) → IsSound events → IsSound (renumbered events) }
 {}

@@ -136,7 +136,7 @@ fn give_all(alloc: Global, events: &Events, plan: &mut Plan) -> Result<(), NoMem
 }
 
 /// The plan that gives the marks 1, 2, 3, .. in the order of the list: to a blob its mark, to a commit its mark and
-/// then its aliases, to a tag its mark where it has one. There are always enough, since marks stand once. An event
+/// then its aliases, to a tag its mark where it has one. There are always enough, since marks occur once. An event
 /// whose marks are right already isn't copied.
 pub fn renumber(alloc: Global, events: &Events) -> Result<Plan, NoMemory>
     ensures before { IfOk result (λ plan. plan.before ≡ events.now.list) }
