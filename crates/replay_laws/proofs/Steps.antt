@@ -273,6 +273,12 @@ module _ (old standing : Standing) (k : Known) (files : Option (TreeOf Shown)) (
 
   -- ---- an operation
 
+  -- what an operation leaves
+  abbrev Operated : OpenCommit → RawOp → FileOp → Type 0
+  Operated c raw op =
+      (new : Option (TreeOf Shown)) × (waiting : Option (Mode × Bytes)) × (with_op (marked_blobs k.events) raw (commit_so_far c files None) ≡ commit_so_far c new waiting)
+      × HasFiles AtLine standing.expected k.events (c.ops ++ op ∷ []) c.parents new waiting
+
   module _ (c : OpenCommit) (h : HasFiles AtLine old.expected k.events c.ops c.parents files None) where
     -- an operation that is a change of files
     changes_files : (op : FileOp) → AllBelow (length k.events + 1) (blobs_of (op ∷ []))

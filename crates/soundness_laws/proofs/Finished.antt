@@ -40,9 +40,33 @@ mark_is n mark fits within = go (mark == 0) refl fits within
     go false e (inl none) within = absurd (let is : (mark == 0) ≡ true = eq-eqb mark 0 none in cc)
     go false e (inr fits) within = fits
 
+-- the aliases of one commit are marks if all are
+aliases_formed : (id : ℕ) (aliases : List (ℕ × ℕ)) → AllByRecursion (λ a. IsMark a.0) aliases → AllByRecursion IsMark (aliases_for id aliases)
+aliases_formed id [] h = tt
+aliases_formed id (a ∷ aliases) h = go (a.1 == id) (aliases_formed id aliases h.1)
+  where
+    go : (t : Bool) → AllByRecursion IsMark (aliases_for id aliases) → AllByRecursion IsMark (alias_marks (cond t (a ∷ filter (λ b. b.1 == id) aliases) (filter (λ b. b.1 == id) aliases)))
+    go true more = (h.0, more)
+    go false more = more
+
+-- all marks of a formed event are marks
+marks_formed : (e : PlainEvent) → IsFormedEvent e → AllByRecursion IsMark (event_marks e)
+marks_formed (Blob id mark bytes) h = (h, tt)
+marks_formed (Commit id mark branch author committer encoding comment parents ops aliases) h = (h.0, h.2)
+marks_formed (Tag id name target tagger comment None) h = tt
+marks_formed (Tag id name target tagger comment (Some mark)) h = (h, tt)
+marks_formed (Reset id branch target) h = tt
+marks_formed (Pass id line) h = tt
+
 -- what reading gives of one event
 abbrev IsReadEvent : List PlainEvent → PlainEvent → Type 0
 IsReadEvent earlier e = IsSoundEvent earlier e × IsRooted earlier e × IsFormedEvent e
+
+-- a commit is rooted where, if it has no parents, its branch has no tip
+rooted_if : (earlier : List PlainEvent) (id mark : ℕ) (branch : Bytes) (author committer : Signed) (encoding : Option Bytes) (comment : Bytes) (parents : List ℕ) (ops : List FileOp) (aliases : List ℕ)
+    → (parents ≡ [] → at (refs earlier) branch ≡ None) → IsRooted earlier (Commit id mark branch author committer encoding comment parents ops aliases)
+rooted_if earlier id mark branch author committer encoding comment [] ops aliases h = ap is_some (h refl)
+rooted_if earlier id mark branch author committer encoding comment (p ∷ ps) ops aliases h = tt
 
 module _ (aliases : List (ℕ × ℕ)) (named : AllByRecursion (λ a. IsMark a.0) aliases) where
   module _ (n : ℕ) (earlier shown : List PlainEvent) (well : AreWell earlier) (ids : (wanted : AnyId) → has_id shown wanted ≡ has_id earlier wanted) (tips : refs shown ≡ refs earlier) where

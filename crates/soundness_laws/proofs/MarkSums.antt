@@ -29,6 +29,10 @@ weight f (e ∷ events) = weigh f (event_marks e) + weight f events
 abbrev pub one : ℕ → ℕ → ℕ
 one m mark = cond (mark == m) 1 0
 
+pub weigh-append : (f : ℕ → ℕ) (a b : List ℕ) → weigh f (a ++ b) ≡ weigh f a + weigh f b
+weigh-append f [] b = omega arith
+weigh-append f (x ∷ a) b = let more = weigh-append f a b in omega arith
+
 pub weight-append : (f : ℕ → ℕ) (a b : List PlainEvent) → weight f (a ++ b) ≡ weight f a + weight f b
 weight-append f [] b = omega arith
 weight-append f (x ∷ a) b = let more = weight-append f a b in omega arith
@@ -58,6 +62,20 @@ none_marked m (e ∷ events) h =
     let here = none_among m (event_marks e) parts.0 in
     let more = none_marked m events parts.1 in
     omega arith
+
+-- and the other way round
+among_none : (m : ℕ) (marks : List ℕ) → weigh (one m) marks ≡ 0 → is_among marks m ≡ false
+among_none m [] h = refl
+among_none m (mark ∷ marks) h = go (mark == m) h (among_none m marks)
+  where
+    go : (b : Bool) → cond b 1 0 + weigh (one m) marks ≡ 0 → (weigh (one m) marks ≡ 0 → is_among marks m ≡ false) → (b || is_among marks m) ≡ false
+    go true h more = absurd (omega arith)
+    go false h more = more (omega arith)
+
+pub marked_none : (m : ℕ) (events : List PlainEvent) → weight (one m) events ≡ 0 → is_marked events m ≡ false
+marked_none m [] h = refl
+marked_none m (e ∷ events) h =
+    marked_step e events m ∙ or_from (is_among (event_marks e) m) (is_marked events m) (among_none m (event_marks e) (omega arith)) (marked_none m events (omega arith))
 
 -- ---- aliases of later commits
 
@@ -97,3 +115,23 @@ late_less f k aliases = let step = late_step f k aliases in omega arith
 -- no mark of the events is there twice
 abbrev pub AreOnce : List PlainEvent → Type 0
 AreOnce events = (m : ℕ) → 0 < m → weight (one m) events ≤ 1
+
+one_own : (m : ℕ) → one m m ≡ 1
+one_own m = ap (λ b. cond b 1 0) (eq-eqb m m refl)
+
+-- so the marks of an event aren't those of earlier ones
+pub marks_new : (earlier : List PlainEvent) (marks : List ℕ) → AllByRecursion IsMark marks → ((m : ℕ) → 0 < m → weight (one m) earlier + weigh (one m) marks ≤ 1) → AllByRecursion (λ m. is_marked earlier m ≡ false) marks
+marks_new earlier [] formed h = tt
+marks_new earlier (mark ∷ marks) formed h =
+    let low = formed.0.0 in
+    let here = h mark (omega arith) in
+    let own = one_own mark in
+    (marked_none mark earlier (omega arith), marks_new earlier marks formed.1 (λ m is. let more = h m is in omega arith))
+
+pub marks_distinct : (marks : List ℕ) → AllByRecursion IsMark marks → ((m : ℕ) → 0 < m → weigh (one m) marks ≤ 1) → are_distinct marks ≡ true
+marks_distinct [] formed h = refl
+marks_distinct (mark ∷ marks) formed h =
+    let low = formed.0.0 in
+    let here = h mark (omega arith) in
+    let own = one_own mark in
+    and_from (not (is_among marks mark)) (are_distinct marks) (ap not (among_none mark marks (omega arith))) (marks_distinct marks formed.1 (λ m is. let more = h m is in omega arith))
