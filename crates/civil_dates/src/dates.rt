@@ -24,8 +24,6 @@ pub fn push_date(seconds: u64, into: &mut Text) -> Result<(), NoMemory>
     ensures { OnOk result (into.new ≡ into.old ++ date_text seconds) }
 {
     let shown = shown_at(seconds);
-    // A text doesn't show its allocator, but an empty one like it gives up its own.
-    let alloc = *into.empty_like().into_items().allocator();
-    let date = format!(in alloc; "{shown}Z")?;
+    let date = format!(in into.alloc(); "{shown}Z")?;
     into.push_all(date.as_bytes())
 }

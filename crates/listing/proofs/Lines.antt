@@ -47,7 +47,7 @@ module _ {X : Type 0} where
   drop_item (y ∷ xs) (suc k) x h = drop_item xs k x h
 
 module _ {X : Type 0} where
-  -- a list of which the first so many items stand
+  -- a list of which the first so many items are
   pub begun_by_one : (xs : List X) (k : ℕ) (x : X) (out new : List X)
       → slice_get xs k ≡ Some x → new ≡ out ++ x ∷ [] → out ++ drop k xs ≡ xs
       → new ++ drop (k + 1) xs ≡ xs

@@ -80,7 +80,7 @@ abbrev pub plain_commit : ℕ → ℕ → Bytes → ℕ → Bytes → List ℕ �
 plain_commit id mark branch seconds comment parents aliases = Commit id mark branch (signed 5) (signed seconds) None comment parents [] aliases
 
 -- a line that is passed through; comments without an LF, empty and of two lines; an alias, and a tag that has a mark,
--- neither of which is shown; a tag without a tagger; a branch that is taken away again, and one that stands before
+-- neither of which is shown; a tag without a tagger; a branch that is taken away again, and one that is before
 -- another that is older
 unfoldable pub rarer : List PlainEvent
 rarer =

@@ -84,7 +84,7 @@ list_text events ids = lines_of list_line events ids
 unfoldable pub index_text : List PlainEvent → List AnyId → Bytes
 index_text events ids = lines_of (index_line events) events ids
 
--- branches with the marks of the commits on which they stand
+-- branches with the marks of the commits on which they are
 abbrev pub branch_lines : List PlainEvent → TreeOf ℕ → Bytes
 branch_lines events tips = flat_map (λ t. line (codes "branch " ++ t.0 ++ codes " " ++ marked (commit_mark events t.1))) tips
 

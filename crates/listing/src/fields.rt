@@ -1,5 +1,5 @@
-//! Fields of lines at the end of a text. Where memory is wanting, here and in the other modules,
-//! it is left open how much of them stands there.
+//! Fields of lines at the end of a text. Where memory runs out, here and in the other modules,
+//! it is left open how much of them is there.
 ghost use Rattle.std.specs.Prelude.{◌≡◌, ◌≤◌, ◌++◌, codes, OnOk, IfSome};
 ghost use Rattle.listing.specs.Listings.{first_line, number_text, tagged_text};
 ghost use Rattle.plain_model.specs.Text.{line, marked};

@@ -70,7 +70,7 @@ pub fn index(events: &Events, set: &[AnyId], into: &mut Text) -> Result<(), NoMe
     Ok(())
 }
 
-// Each branch that has a tip at the end, with the commit on which it stands.
+// Each branch that has a tip at the end, with the commit on which it is.
 fn last_tips(alloc: Global, events: &Events) -> Result<TipList, NoMemory>
     ensures { IfOk result (λ tips. tips ≡ refs events.now.list) }
 {
@@ -105,9 +105,7 @@ fn push_tags(events: &Events, into: &mut Text) -> Result<(), NoMemory>
 pub fn names(events: &Events, into: &mut Text) -> Result<(), NoMemory>
     ensures { OnOk result (into.new ≡ into.old ++ names_text events.now.list) }
 {
-    // A text doesn't show its allocator, but an empty one like it gives up its own.
-    let alloc = *into.empty_like().into_items().allocator();
-    let tips = last_tips(alloc, events)?;
+    let tips = last_tips(into.alloc(), events)?;
     push_branches(events, &tips, into)?;
     push_tags(events, into)
 }

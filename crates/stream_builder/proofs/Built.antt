@@ -77,7 +77,7 @@ begun events old current trees left ops b none empty minds = record {
   within = b.within;
 }
 
--- an event that is no commit stands after the others
+-- an event that is no commit is after the others
 pub beside : (events new : List PlainEvent) (e : PlainEvent) (current : Open) (trees : Trees) (ops : ℕ) → IsBuilt events current trees ops → new ≡ with_event events e
     → nodes (e ∷ []) ≡ [] → ops_in_event e ≡ 0 → IsBuilt new current trees ops
 beside events new e current trees ops b is none no_ops = record {
@@ -98,7 +98,7 @@ merged_first events old new trees left ops count b all_go is fits minds none = r
   within = fits;
 }
 
--- an event without operations is over, and stands after the others
+-- an event without operations is over, and is after the others
 module _ (events new : List PlainEvent) (e : PlainEvent) (trees : Trees) (ops : ℕ) (is : new ≡ with_event events e) (none : nodes (e ∷ []) ≡ []) (no_ops : ops_in_event e ≡ 0) where
   emptied_of : (old : Open) → parents_in old ≡ [] → ops_in old ≡ [] → IsBuilt events old trees ops → IsBuilt new Nothing trees ops
   emptied_of old no_parents empty b =

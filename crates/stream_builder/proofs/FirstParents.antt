@@ -51,7 +51,7 @@ falling k (e ∷ es) a = go e a.0 (falling (suc k) es a.1)
         subst (λ (l : Past). AreFalling k (suc (length es) + k) l) (sym (reverse-append (record { id = id; parents = parents; ops = ops } ∷ []) (nodes es)))
         (oldest k (suc (length es) + k) (past es) (record { id = id; parents = parents; ops = ops }) (next h) is (omega arith))
 
--- ---- what stands at an id
+-- ---- what is at an id
 
 -- an id above all has no tree
 absent : (low high : ℕ) (older : Past) → AreFalling low high older → (c : ℕ) → high ≤ c → tree_in older c ≡ None

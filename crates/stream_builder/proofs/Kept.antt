@@ -41,7 +41,7 @@ module _ (t : Trees) (events : List PlainEvent) (e : PlainEvent) where
       go : (k : KnownTree) → IsEarlier events k → IsEarlier (with_event events e) k
       go k h = (h.0 ∙ sym (same k.commit h.1), let before = h.1 in let more = next_more events e in omega (arith, before, more))
 
-  -- an event that is no commit stands after the others
+  -- an event that is no commit is after the others
   pub one_beside : nodes (e ∷ []) ≡ [] → (parents : List ℕ) (ops : List FileOp) → Minds t events parents ops → Minds t (with_event events e) parents ops
   one_beside none parents ops m =
       let same = tree_beside events e none in
@@ -57,7 +57,7 @@ module _ (t : Trees) (events : List PlainEvent) (e : PlainEvent) where
       go [] same = refl
       go (p ∷ ps) same = same p
 
-  -- a commit stands after the others
+  -- a commit is after the others
   module _ (commit : ℕ) (parents : List ℕ) (ops : List FileOp) (m : Minds t events [] []) (within : HasAtMost t.most (open_tree events parents ops))
       (one : nodes (e ∷ []) ≡ record { id = commit; parents = parents; ops = ops } ∷ []) (is : commit ≡ next_id events) where
     there : (c : ℕ) → tree (with_event events e) c ≡ cond (commit == c) (open_tree events parents ops) (tree events c)

@@ -102,7 +102,7 @@ impl Trees {
         matches!(self.opened, OpenTree::Folded(_))
     }
 
-    // Takes out the tree that stands nearest to a commit, so that it needn't be copied.
+    // Takes out the tree that is nearest to a commit, so that it needn't be copied.
     fn take_nearest(&mut self, drafts: &Drafts, commit: CommitId) -> Option<KnownTree>
         requires { AreEarlier drafts.now self.old.kept.items }
         ensures known { IfSome result (λ k. k.tree ≡ tree drafts.now k.commit) }
@@ -202,7 +202,7 @@ impl Trees {
         mem::replace(&mut self.opened, OpenTree::NotFolded)
     }
 
-    // Keeps a tree after the others; where there are too many, that of the oldest commit goes. Where memory is wanting, the
+    // Keeps a tree after the others; where there are too many, that of the oldest commit goes. Where memory runs out, the
     // tree isn't kept.
     fn put(&mut self, known: KnownTree)
         ensures earlier { (events : List PlainEvent) → AreEarlier events self.old.kept.items →
@@ -215,7 +215,7 @@ impl Trees {
         let _ = self.kept.push(known);
     }
 
-    /// A commit stands after the other events, with its tree, if it was folded.
+    /// A commit is after the other events, with its tree, if it was folded.
     pub fn keep(&mut self, commit: CommitId, tree: OpenTree)
         ensures { (events : List PlainEvent) → (e : PlainEvent) → (parents : List ℕ) →
             (ops : List FileOp) → Minds self.old events [] [] →

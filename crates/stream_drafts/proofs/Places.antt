@@ -79,7 +79,7 @@ module _ (k : ℕ) (es : List PlainEvent) where
       ∙ ap (λ t. first_node (node_at (past es) c) (cond {A = Option Node} t (Some (record { id = id; parents = parents; ops = ops })) None)) (ne_eqb id c (λ same. omega (arith, is, same, later)))
       ∙ none_first (node_at (past es) c)
 
--- what stands at a place is found by its id
+-- what is at a place is found by its id
 pub found_at : (k : ℕ) (es : List PlainEvent) → ArePlaced k es → (i c : ℕ) → c ≡ i + k → node_at (past es) c ≡ node_there (slice_get es i)
 found_at k [] a i c is = refl
 found_at k (e ∷ es) a zero c is =

@@ -110,7 +110,7 @@ impl Drafts {
         self.commits.get(&mark.number()).copied()
     }
 
-    /// The commit on which the branch stands.
+    /// The commit on which the branch is.
     pub fn tip(&self, branch: &[u8]) -> Option<CommitId>
         ensures { result ≡ at (refs self.now) branch.now }
     {
@@ -160,7 +160,7 @@ impl Drafts {
         Ok(id)
     }
 
-    /// Puts a commit at the end. Its branch stands on it from then on.
+    /// Puts a commit at the end. Its branch is on it from then on.
     pub fn push_commit(
         &mut self,
         mark: Option<Mark>,
@@ -202,7 +202,7 @@ impl Drafts {
         Ok(id)
     }
 
-    /// Puts a reset at the end. Its branch stands on its target from then on, or is gone.
+    /// Puts a reset at the end. Its branch is on its target from then on, or is gone.
     pub fn push_reset(
         &mut self,
         branch: Text,

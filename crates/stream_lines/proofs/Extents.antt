@@ -21,7 +21,7 @@ extent_or_not head text = go (extent_in head) refl
     go (Err why) e = inl (why, e, ap (λ r. block_after r text >>= λ x. Ok (x.0, skip_lf x.1)) e)
     go (Ok extent) e = inr (extent, e)
 
--- a line is its first word, a space, and what stands after it
+-- a line is its first word, a space, and what is after it
 line_split : (line text : Bytes) → after_space line ≡ Some text → line ≡ first_word line ++ 32 ∷ text
 line_split [] text e = absurd cc
 line_split (b ∷ bs) text e = go (line_split bs text) (b == 32) refl e

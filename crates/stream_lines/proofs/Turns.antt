@@ -114,7 +114,7 @@ module _ (old : Position) (line : Bytes) (new : Position) (first : IsFirst old l
         (extent_follows line extent spells) spells why h in
         ap known_given end.1 ∙ ap (λ n. Err (fault.BadStream n Truncated)) number_is ∙ ap (λ w. Err (fault.BadStream new.number w)) (sym end.0)
 
--- ---- what a line that is no comment does, where it may stand or not
+-- ---- what a line that is no comment does, where it may be or not
 
 -- the fault of a block tells of the defect of its line
 pub reports_block : (o : Answers) (n : ℕ) {X Y : Type 0} (view : X → Y) (f : FieldFault) (r : Result Y Why)

@@ -47,7 +47,7 @@ unfoldable pub answer : Position → Standing → Known → List Bytes → Outco
 answer p standing known spelled =
     outcome_at stream_within all p.text (rest p) (record { standing = standing; spelled = spelled; known = known })
 
--- the place where the first line ends that stands at another place
+-- the place where the first line ends that is at another place
 pub record IsFirst (old : Position) (line : Bytes) (new : Position) : Type 0 where
   pub text : new.text ≡ old.text
   pub there : line_at (rest old) ≡ Some (line, rest new)

@@ -14,7 +14,7 @@ use stream_grammar::Word;
 pub trait KeepsEvents {
     ghost known: { Self → Known };
 
-    /// Takes a line that may stand where it does. Its fields are judged from left to right, and then the limits.
+    /// Takes a line that may be where it does. Its fields are judged from left to right, and then the limits.
     fn judge(&mut self, alloc: Global, word: Word, line: &[u8]) -> Result<(), LineFault>
         requires { MayTake word (known self.old) }
         ensures { Judges (known self.new) result (judged_within word line.now (known self.old)) };

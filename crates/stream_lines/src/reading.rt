@@ -58,7 +58,7 @@ fn count_lines(text: &[u8]) -> u64
     count_line_ends(text) as u64 + if misses_line_end(text) { 1 } else { 0 }
 }
 
-// A line that is no comment, where the stream stood before it.
+// A line that is no comment, where the stream was before it.
 fn take<K: KeepsEvents>(
     alloc: Global,
     keeper: &mut K,

@@ -20,8 +20,8 @@ fn up_to(known: &[KnownTree], count: usize, commit: CommitId) -> usize
     left
 }
 
-/// The place of the known tree that stands nearest on the line of first parents from a commit back, if one stands on it. It is
-/// found where the known trees stand in the order of their commits; else there may be none, which is a matter of speed alone.
+/// The place of the known tree that is nearest on the line of first parents from a commit back, if one is on it. It is
+/// found where the known trees are in the order of their commits; else there may be none, which is a matter of speed alone.
 pub fn nearest(drafts: &Drafts, known: &[KnownTree], commit: CommitId) -> Option<usize>
     ensures within { IfSome result (λ i. i < length known.now) }
     ensures after { IfSome result (λ i. (d : KnownTree) →

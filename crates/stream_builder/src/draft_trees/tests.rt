@@ -37,7 +37,7 @@ fn push(alloc: Global, drafts: &mut Drafts, parent: u64) -> Result<(), Fail> {
     Ok(())
 }
 
-// The place of the nearest of two known trees to a commit, where 1, 3 and 5 stand on one line, and 2, 4 and 6 on another.
+// The place of the nearest of two known trees to a commit, where 1, 3 and 5 are on one line, and 2, 4 and 6 on another.
 fn place_of(alloc: Global, known: [u64; 2], commit: u64) -> Result<Option<usize>, Fail> {
     let mut drafts = Drafts::new(alloc);
     for parent in [0, 0, 1, 2, 3, 4] {

@@ -80,7 +80,7 @@ fn folded_along(
     Ok(made)
 }
 
-/// The tree of a commit among drafts, folded along its first parents from the tree that is known, if it stands among them,
+/// The tree of a commit among drafts, folded along its first parents from the tree that is known, if it is among them,
 /// and else from the root. There is none where an operation is refused, and where there is no such commit. (git-fast-import,
 /// `from`, file operations.)
 pub fn tree_of(
