@@ -1,8 +1,8 @@
 -- A line of commits is sound, one step after another.
-use Rattle.std.proofs.Common.{◌≡◌, ◌∙◌, ℕ, ◌+◌, ◌*◌, ◌<◌, ◌≤◌, Bool, true, false, ◌||◌, ◌⊎◌, inl, inr, List, [], ◌∷◌, ◌++◌, Option, Some, refl, sym, ap, subst, eqb, arith, append_assoc, reverse, codes, lit≤}
+use Rattle.std.proofs.Common.{◌≡◌, ◌∙◌, ℕ, ◌+◌, ◌*◌, ◌<◌, ◌≤◌, true, false, ◌||◌, ◌⊎◌, inl, inr, List, [], ◌∷◌, ◌++◌, Option, Some, refl, sym, ap, subst, eqb, arith, append_assoc, reverse, codes, lit≤}
 use Rattle.std.proofs.lemmas.Bool.{cases_Bool, true≢false}
 use Rattle.std.proofs.lemmas.Bool.Decides.{nat_tests}
-use Rattle.std.proofs.lemmas.List.{reverse-append}
+use Rattle.std.proofs.lemmas.List.{reverse-append, append-nil}
 use Rattle.std.specs.List.{AllByRecursion}
 use Rattle.std.specs.Prelude.{length, IsSome}
 use Rattle.plain_model.specs.declared.limit.TheConstants.{MAX_MARK}
@@ -18,7 +18,10 @@ use Rattle.plain_model.specs.Lookups.{AreIdsBelow, id_number}
 use Rattle.plain_model.specs.Soundness.{AreSoundAfter, IsCommitOf, IsFormedEvent, IsFormedSigned, IsSound, IsSoundEvent, are_distinct, has_id}
 use Rattle.plain_model.specs.Streams.{is_marked}
 use Rattle.plain_model.specs.Trees.{Tree}
-use Rattle.event_arena.proofs.SoundLemmas.{has_id-append, has_id-find, is_marked-append}
+use Rattle.event_arena.proofs.SoundLemmas.{has_id-find}
+use Rattle.history_laws.proofs.Commits.{nodes_append}
+use Rattle.std.proofs.Math.Bool.{or-false, or-true}
+use Rattle.history_laws.proofs.Ids.{has_id-append, is_marked-append}
 use Rattle.arena_bench.specs.Lines.{blob, commit, operation, parents_at, who}
 
 -- ---- tests and lists
@@ -28,18 +31,6 @@ differ a b h = grind (arith, nat_tests)
 
 self : (n : ℕ) → eqb n n ≡ true
 self n = grind (arith, nat_tests)
-
-or_false : (b : Bool) → b || false ≡ b
-or_false true = refl
-or_false false = refl
-
-or_true : (b : Bool) → b || true ≡ true
-or_true true = refl
-or_true false = refl
-
-append-nil : {X : Type 0} (xs : List X) → xs ++ [] ≡ xs
-append-nil [] = refl
-append-nil (x ∷ xs) = ap (λ ys. x ∷ ys) (append-nil xs)
 
 sound-append : (earlier xs : List PlainEvent) (e : PlainEvent) → AreSoundAfter earlier xs → IsSoundEvent (earlier ++ xs) e → AreSoundAfter earlier (xs ++ e ∷ [])
 sound-append earlier [] e h s = (subst (λ es. IsSoundEvent es e) (append-nil earlier) s, tt)
@@ -52,22 +43,13 @@ sound-append earlier (x ∷ xs) e h s =
 abbrev pub OneFile : Option Tree → Type 0
 OneFile o = (entry : Entry) × (o ≡ Some ((codes "f", entry) ∷ []))
 
-nodes-append : (xs ys : List PlainEvent) → nodes (xs ++ ys) ≡ nodes xs ++ nodes ys
-nodes-append [] ys = refl
-nodes-append (plain.Commit id mark branch author committer encoding comment parents ops aliases ∷ xs) ys =
-    ap (λ ns. record { id = id; parents = parents; ops = ops } ∷ ns) (nodes-append xs ys)
-nodes-append (plain.Blob id mark bytes ∷ xs) ys = nodes-append xs ys
-nodes-append (plain.Tag id name target tagger comment mark ∷ xs) ys = nodes-append xs ys
-nodes-append (plain.Reset id branch target ∷ xs) ys = nodes-append xs ys
-nodes-append (plain.Pass id line ∷ xs) ys = nodes-append xs ys
-
 node_at : ℕ → Node
 node_at step = record { id = 2 * step + 2; parents = parents_at step; ops = operation step ∷ [] }
 
 past-more : (step : ℕ) (events : List PlainEvent) → past ((events ++ blob step ∷ []) ++ commit step ∷ []) ≡ node_at step ∷ past events
 unfolding node_at
 past-more step events =
-    ap reverse (nodes-append (events ++ blob step ∷ []) (commit step ∷ []) ∙ ap (λ ns. ns ++ node_at step ∷ []) (nodes-append events (blob step ∷ []) ∙ append-nil (nodes events)))
+    ap reverse (nodes_append (events ++ blob step ∷ []) (commit step ∷ []) ∙ ap (λ ns. ns ++ node_at step ∷ []) (nodes_append events (blob step ∷ []) ∙ append-nil (nodes events)))
     ∙ reverse-append (nodes events) (node_at step ∷ [])
 
 one-op : (step : ℕ) (o : Option Tree) → (o ≡ Some []) ⊎ OneFile o → OneFile (folded (operation step ∷ []) o)
@@ -146,7 +128,7 @@ module _ (step : ℕ) (events : List PlainEvent) (h : IsLine step events) where
 
       named : has_id (events ++ blob step ∷ []) (any.Blob (2 * step + 1)) ≡ true
       named = has_id-append events (blob step ∷ []) (any.Blob (2 * step + 1))
-          ∙ ap (λ t. has_id events (any.Blob (2 * step + 1)) || (t || false)) (self (2 * step + 1)) ∙ or_true (has_id events (any.Blob (2 * step + 1)))
+          ∙ ap (λ t. has_id events (any.Blob (2 * step + 1)) || (t || false)) (self (2 * step + 1)) ∙ or-true (has_id events (any.Blob (2 * step + 1)))
 
   no-later : (id : AnyId) → 2 * (step + 1) < id_number id → has_id (mid ++ commit step ∷ []) id ≡ false
   unfolding mid
@@ -167,7 +149,7 @@ module _ (step : ℕ) (events : List PlainEvent) (h : IsLine step events) where
       let same : 2 * (step + 1) ≡ 2 * step + 2 = omega arith in
       ap (λ n. has_id (mid ++ commit step ∷ []) (any.Commit n)) same
       ∙ has_id-append mid (commit step ∷ []) (any.Commit (2 * step + 2))
-      ∙ ap (λ t. has_id mid (any.Commit (2 * step + 2)) || (t || false)) (self (2 * step + 2)) ∙ or_true (has_id mid (any.Commit (2 * step + 2)))
+      ∙ ap (λ t. has_id mid (any.Commit (2 * step + 2)) || (t || false)) (self (2 * step + 2)) ∙ or-true (has_id mid (any.Commit (2 * step + 2)))
 
   tree-of : (c : ℕ) → has_id (mid ++ commit step ∷ []) (any.Commit c) ≡ true → OneFile (tree (mid ++ commit step ∷ []) c)
   unfolding mid node_at
@@ -183,8 +165,8 @@ module _ (step : ℕ) (events : List PlainEvent) (h : IsLine step events) where
       older : eqb (2 * step + 2) c ≡ false → has_id ((events ++ blob step ∷ []) ++ commit step ∷ []) (any.Commit c) ≡ has_id events (any.Commit c)
       older no_it =
           has_id-append (events ++ blob step ∷ []) (commit step ∷ []) (any.Commit c)
-          ∙ ap (λ t. has_id (events ++ blob step ∷ []) (any.Commit c) || (t || false)) no_it ∙ or_false (has_id (events ++ blob step ∷ []) (any.Commit c))
-          ∙ has_id-append events (blob step ∷ []) (any.Commit c) ∙ or_false (has_id events (any.Commit c))
+          ∙ ap (λ t. has_id (events ++ blob step ∷ []) (any.Commit c) || (t || false)) no_it ∙ or-false (has_id (events ++ blob step ∷ []) (any.Commit c))
+          ∙ has_id-append events (blob step ∷ []) (any.Commit c) ∙ or-false (has_id events (any.Commit c))
 
   pub line-more : IsLine (step + 1) ((events ++ blob step ∷ []) ++ commit step ∷ [])
   unfolding mid

@@ -1,5 +1,5 @@
 -- The entries of an ordered map against the plain list of tips.
-use Rattle.std.proofs.Common.{◌≡◌, ℕ, Bool, true, false, cond, not, List, [], ◌∷◌, refl, sym, ap, subst, ◌∙◌, Some, bytes_eq, true≢false, Vec}
+use Rattle.std.proofs.Common.{◌≡◌, ℕ, Bool, true, false, cond, not, List, [], ◌∷◌, refl, sym, ap, subst, ◌∙◌, Some, bytes_eq, Vec}
 use Rattle.std.specs.Ordering.{nat_cmp, is_eq, match_ordering}
 use Rattle.std.specs.declared.cmp.Ordering.{Ordering}
 use Rattle.std.specs.declared.cmp.Ordering.TheVariants.{Less, Equal, Greater}
@@ -11,15 +11,11 @@ use Rattle.std.specs.Cmp.Lexicographic.{slice_cmp, texts_ties}
 use Rattle.std.specs.FinMap.{slice_cmp-IsAntisymmetric, nat_cmp-IsAntisymmetric}
 use Rattle.plain_model.specs.Paths.{Bytes}
 use Rattle.plain_model.specs.Trees.{TreeOf, at, put, where_path}
+use Rattle.history_laws.proofs.TreeLaws.{tied}
 use Rattle.branch_tips.specs.Entries.{tips_in, AreInOrder}
 
 abbrev by_bytes : Bytes → Bytes → Ordering
 by_bytes = slice_cmp nat_cmp
-
-tied : (o : Ordering) → is_eq o ≡ true → o ≡ Equal
-tied Less h = absurd (true≢false (sym h))
-tied Equal h = refl
-tied Greater h = absurd (true≢false (sym h))
 
 less_is_no_tie : (o : Ordering) → o ≡ Less → is_eq o ≡ false
 less_is_no_tie Less h = refl

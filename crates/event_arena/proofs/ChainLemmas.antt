@@ -4,6 +4,7 @@ use Rattle.std.proofs.lemmas.List.{reverse-append, length-reverse}
 use Rattle.std.proofs.lemmas.Bool.{cases_Bool}
 use Rattle.std.proofs.lemmas.Bool.Decides.{nat_tests}
 use Rattle.std.proofs.Math.ListN.{set}
+use Rattle.history_laws.proofs.Ids.{eqb_turned}
 use Rattle.event_arena.specs.declared.links.Link.{Link}
 use Rattle.event_arena.specs.Chains.{follow, chain_at, IsBelow, AreBack, AllBelow}
 
@@ -139,12 +140,12 @@ pub added : (links new : List Link) (heads : List (Option ℕ)) (place at : ℕ)
     ≡ set (map (follow (chain_at (reverse links))) heads) place (l.child ∷ get_or (map (follow (chain_at (reverse links))) heads) place []))
 added links new heads place at l is at_is next w below back =
     let longer : length new ≡ suc (length links) = ap length is ∙ length_push' links l in
-    let turned : reverse new ≡ l ∷ reverse links = ap reverse is ∙ reverse-push links l in
+    let eqb_turned : reverse new ≡ l ∷ reverse links = ap reverse is ∙ reverse-push links l in
     let same_length = length-reverse links in
     let below' : AllBelow (length (reverse links)) heads = rw same_length below in (
       rw (longer, at_is) (all-below-set (suc (length links)) heads place (Some (length links)) (all-below-more (length links) (suc (length links)) (omega arith) heads below) (omega arith)),
-      rw turned (rw next (below-get (length (reverse links)) heads place below'), back),
-      rw (turned, at_is, ← same_length) (heads-set l (reverse links) heads place below' w next),
+      rw eqb_turned (rw next (below-get (length (reverse links)) heads place below'), back),
+      rw (eqb_turned, at_is, ← same_length) (heads-set l (reverse links) heads place below' w next),
     )
   where
     length_push' : (ys : List Link) (x : Link) → length (ys ++ x ∷ []) ≡ suc (length ys)

@@ -16,13 +16,15 @@ use Rattle.plain_model.specs.declared.event.PlainEvent.{PlainEvent}
 use Rattle.plain_model.specs.declared.event.PlainEvent.TheVariants as plain
 use Rattle.plain_model.specs.contracts.id.AnyIdPartialEq.TheImpl.{eq-value}
 use Rattle.plain_model.specs.Lookups.{find_event, id_of, is_listed, same_id}
+use Rattle.history_laws.proofs.Ids.{same_id-refl, same_id-true, same_id-comm}
+use Rattle.std.proofs.Math.Bool.{or-false, or-true}
 use Rattle.event_arena.specs.declared.field.Field.{Field}
 use Rattle.event_arena.specs.declared.field.Field.TheVariants as field
 use Rattle.event_arena.specs.declared.field.Role.{Role}
 use Rattle.event_arena.specs.declared.field.Role.TheVariants.{Author, Committer, Tagger}
 use Rattle.event_arena.specs.Changes.{IsOrderOf, changed, in_order, put_event, with_aliases, with_comment, with_field, with_label, with_mark, with_ops, with_parents, with_signed, with_target, without_all}
 use Rattle.event_arena.specs.Rows.{IsKeyed, events_of}
-use Rattle.event_arena.proofs.Ids.{key_eq, same_id-comm, same_id-refl, same_id-true}
+use Rattle.event_arena.proofs.Ids.{key_eq}
 use Rattle.event_arena.proofs.SpentLemmas.{cons-absent, find-id}
 
 -- a changed event is put in its own place
@@ -97,10 +99,6 @@ is_listed-append (x ∷ ids) more id = elim (cases_Bool (same_id id x)) [
   | inr no_it ↦ rw no_it (is_listed-append ids more id)
 ]
 
-or_false : (b : Bool) → b || false ≡ b
-or_false true = refl
-or_false false = refl
-
 -- a set to which an id is added
 pub set-more : (keys seen : List AnyId) (id : AnyId) → ((x : AnyId) → is_listed x keys ≡ is_listed x seen) → (x : AnyId) →
     is_listed x (insert_key eq-value.it keys id) ≡ is_listed x (seen ++ id ∷ [])
@@ -114,13 +112,13 @@ set-more keys seen id same x = by (cases_Bool (list_any (eq-value.it id) keys)) 
 
     by : (list_any (eq-value.it id) keys ≡ true) ⊎ (list_any (eq-value.it id) keys ≡ false) → is_listed x (insert_key eq-value.it keys id) ≡ is_listed x seen || (same_id x id || false)
     by (inl yes_it) = rw yes_it (elim (cases_Bool (same_id x id)) [
-      | inl one ↦ rw one (same x ∙ same_one one ∙ there yes_it ∙ sym (or_true (is_listed x seen)))
-      | inr other ↦ rw other (same x ∙ sym (or_false (is_listed x seen)))
+      | inl one ↦ rw one (same x ∙ same_one one ∙ there yes_it ∙ sym (or-true (is_listed x seen)))
+      | inr other ↦ rw other (same x ∙ sym (or-false (is_listed x seen)))
     ])
       where
-        or_true : (b : Bool) → b || true ≡ true
-        or_true true = refl
-        or_true false = refl
+        or-true : (b : Bool) → b || true ≡ true
+        or-true true = refl
+        or-true false = refl
     by (inr no_it) = rw no_it (is_listed-append keys (id ∷ []) x ∙ ap (λ b. b || (same_id x id || false)) (same x))
 
 -- ---- orders

@@ -11,9 +11,10 @@ use Rattle.plain_model.specs.declared.id.AnyId.TheVariants as any
 use Rattle.plain_model.specs.declared.event.PlainEvent.{PlainEvent}
 use Rattle.plain_model.specs.Lookups.{children_of, event_parents, id_of, own_child, place_of, same_id}
 use Rattle.plain_model.specs.Soundness.{are_distinct}
+use Rattle.history_laws.proofs.Ids.{same_id-true}
+use Rattle.std.proofs.Math.Bool.{or_assoc, or-false}
 use Rattle.event_arena.specs.Indices.{HasChildren, IsLinked, IsLinkedEvent}
 use Rattle.event_arena.specs.Once.{AreParentsOnce}
-use Rattle.event_arena.proofs.Ids.{same_id-true}
 use Rattle.event_arena.proofs.ListLemmas.{drop-item, length-flat-item}
 
 -- ---- places
@@ -59,18 +60,10 @@ same_number a b h = cc
 abbrev among : ℕ → List ℕ → Bool
 among c ps = list_any (λ p. eqb p c) ps
 
-or_false : (b : Bool) → b || false ≡ b
-or_false true = refl
-or_false false = refl
-
-or_assoc : (a b c : Bool) → a || (b || c) ≡ (a || b) || c
-or_assoc true b c = refl
-or_assoc false b c = refl
-
 among-more : (c : ℕ) (ps : List ℕ) (i d : ℕ) → i < length ps → among c (take (suc i) ps) ≡ among c (take i ps) || eqb (get_or ps i d) c
 among-more c [] i d h = absurd (omega arith)
-among-more c (p ∷ ps) zero d h = or_false (eqb p c)
-among-more c (p ∷ ps) (suc i) d h = ap (λ b. eqb p c || b) (among-more c ps i d (omega arith)) ∙ or_assoc (eqb p c) (among c (take i ps)) (eqb (get_or ps i d) c)
+among-more c (p ∷ ps) zero d h = or-false (eqb p c)
+among-more c (p ∷ ps) (suc i) d h = ap (λ b. eqb p c || b) (among-more c ps i d (omega arith)) ∙ sym (or_assoc (eqb p c) (among c (take i ps)) (eqb (get_or ps i d) c))
 
 self : (n : ℕ) → eqb n n ≡ true
 self n = grind (arith, nat_tests)
@@ -131,7 +124,7 @@ linked-more child ps i p q events old mid once h is at within linked c k place =
       (ap (λ t. child ∷ t) (linked c q (ap (λ n. place_of (any.Commit n) events) (sym e) ∙ at) ∙ rw before refl))
   | inr no_it ↦
       let apart : q ≡ k → ⊥ = λ e. true≢false (sym (self p) ∙ ap (λ n. eqb p n) (same_number p c (one_place (any.Commit p) (any.Commit c) events k (at ∙ ap Some e) place)) ∙ no_it) in
-      let same : among c (take (suc i) ps) ≡ among c (take i ps) = among-more c ps i p h ∙ rw (← is, no_it) (or_false (among c (take i ps))) in
+      let same : among c (take (suc i) ps) ≡ among c (take i ps) = among-more c ps i p h ∙ rw (← is, no_it) (or-false (among c (take i ps))) in
       rw same (set-there mid q k (child ∷ get_or mid q []) apart ∙ linked c k place)
 ]
 
@@ -142,7 +135,7 @@ pub linked-skip : (child : ℕ) (ps : List ℕ) (i p : ℕ) (events : List Plain
 linked-skip child ps i p events old mid h is at linked c k place = elim (cases_Bool (eqb p c)) [
   | inl it ↦ absurd (none-some k (sym at ∙ ap (λ n. place_of (any.Commit n) events) (eqb-true p c it) ∙ place))
   | inr no_it ↦
-      let same : among c (take (suc i) ps) ≡ among c (take i ps) = among-more c ps i p h ∙ rw (← is, no_it) (or_false (among c (take i ps))) in
+      let same : among c (take (suc i) ps) ≡ among c (take i ps) = among-more c ps i p h ∙ rw (← is, no_it) (or-false (among c (take i ps))) in
       rw same (linked c k place)
 ]
 
@@ -170,13 +163,3 @@ pub linked-step : (es : List PlainEvent) (k : ℕ) (e : PlainEvent) (old new : L
 linked-step es k e old new used more at low grows children linked =
     let p = length-flat-item event_parents es k e at in
     (omega arith, λ c j place. linked c j place ∙ ap (λ t. own_child c e ++ t) (children c j place) ∙ sym (ap (children_of c) (drop-item es k e at)))
-
-pub drop-all : (es : List PlainEvent) → drop (length es) es ≡ []
-drop-all [] = refl
-drop-all (e ∷ es) = drop-all es
-
-pub get-push-empty : (xs : List (List ℕ)) (k : ℕ) → get_or xs k [] ≡ [] → get_or (xs ++ [] ∷ []) k [] ≡ []
-get-push-empty [] zero h = refl
-get-push-empty [] (suc k) h = refl
-get-push-empty (x ∷ xs) zero h = h
-get-push-empty (x ∷ xs) (suc k) h = get-push-empty xs k h

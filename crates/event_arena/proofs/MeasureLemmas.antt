@@ -10,8 +10,8 @@ use Rattle.plain_model.specs.declared.event.PlainEvent.{PlainEvent}
 use Rattle.plain_model.specs.Lookups.{AreIdsBelow, event_parents, find_event, id_number, id_of, marks_of, next_number, own_marks, referents_of, same_id}
 use Rattle.plain_model.specs.declared.event.PlainEvent.TheVariants as plain
 use Rattle.plain_model.specs.declared.id.AnyId.TheVariants as any
+use Rattle.history_laws.proofs.Ids.{same_id-refl, same_id-true}
 use Rattle.event_arena.specs.Needs.{event_need, need}
-use Rattle.event_arena.proofs.Ids.{same_id-refl, same_id-true}
 use Rattle.event_arena.proofs.ListLemmas.{flat-take-item, length-flat-take, length-take-item}
 
 -- ---- room

@@ -1,7 +1,6 @@
 -- Ids and marks that occur once.
 use Rattle.std.proofs.Common.{◌≡◌, ◌∙◌, ℕ, zero, ◌+◌, ◌<◌, ◌≤◌, false, inl, inr, List, [], ◌∷◌, ◌++◌, Some, None, refl, ap, sym, subst, eqb, length, take, drop, get_or, append_assoc, arith, length-append, suc}
 use Rattle.std.proofs.lemmas.Bool.{cases_Bool}
-use Rattle.std.proofs.lemmas.Bool.Decides.{nat_tests}
 use Rattle.std.proofs.lemmas.List.{length-map, map-append, take-append-drop}
 use Rattle.std.proofs.lemmas.Option.{none-some, same_Some}
 use Rattle.std.specs.Map.{lookup}
@@ -9,8 +8,8 @@ use Rattle.std.specs.Prelude.{flat_map, slice_get}
 use Rattle.plain_model.specs.declared.id.AnyId.{AnyId}
 use Rattle.plain_model.specs.declared.event.PlainEvent.{PlainEvent}
 use Rattle.plain_model.specs.Lookups.{find_event, id_of, marks_of, own_marks, same_id}
+use Rattle.history_laws.proofs.Ids.{same_id-refl, same_id-true, same_id-comm, eqb_turned}
 use Rattle.event_arena.specs.Once.{AreDistinct, AreMarkedOnce, named}
-use Rattle.event_arena.proofs.Ids.{same_id-comm, same_id-refl, same_id-true}
 use Rattle.event_arena.proofs.ListLemmas.{flat-split, flat-take-item, take-more}
 use Rattle.event_arena.proofs.SpentLemmas.{absent-cons}
 
@@ -38,13 +37,10 @@ found-at (x ∷ es) (suc k) e once h =
 
 -- ---- marks
 
-turned : (a b : ℕ) → eqb a b ≡ eqb b a
-turned a b = grind (arith, nat_tests)
-
 not-in : (xs ys : List (ℕ × AnyId)) (m : ℕ) (i : AnyId) (k : ℕ) → lookup (λ n. eqb k n) (xs ++ (m, i) ∷ ys) ≡ None → eqb m k ≡ false
 not-in [] ys m i k h = elim (cases_Bool (eqb k m)) [
   | inl it ↦ absurd (none-some i (sym h ∙ rw it refl))
-  | inr no_it ↦ turned m k ∙ no_it
+  | inr no_it ↦ eqb_turned m k ∙ no_it
 ]
 not-in (x ∷ xs) ys m i k h = elim (cases_Bool (eqb k x.0)) [
   | inl it ↦ absurd (none-some x.1 (sym h ∙ rw it refl))

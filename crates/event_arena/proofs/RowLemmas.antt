@@ -15,10 +15,11 @@ use Rattle.plain_model.specs.declared.event.PlainEvent.{PlainEvent}
 use Rattle.plain_model.specs.declared.id.AnyId.{AnyId}
 use Rattle.plain_model.specs.contracts.id.AnyIdPartialEq.TheImpl.{eq-value}
 use Rattle.plain_model.specs.Lookups.{event_at, find_event, id_of, place_of, same_id}
+use Rattle.history_laws.proofs.Ids.{same_id-true}
 use Rattle.event_arena.specs.Changes.{put_event, without, put_after}
 use Rattle.event_arena.specs.Once.{AreDistinct}
 use Rattle.event_arena.specs.Rows.{events_of, IsKeyed}
-use Rattle.event_arena.proofs.Ids.{key_eq, same_id-true}
+use Rattle.event_arena.proofs.Ids.{key_eq}
 
 position-cons : {X : Type 0} (p : X → Bool) (x : X) (xs : List X) → position p (x ∷ xs) ≡ cond (p x) (Some 0) (option_map suc (position p xs))
 position-cons p x xs = elim (cases_Bool (p x)) [
@@ -55,22 +56,6 @@ module _ {A : Type 0} where
     | inl yes_it ↦ rw yes_it refl
     | inr no_it ↦ rw no_it (events-lookup id rows k.1)
   ])
-
-  events-prefix : (id : AnyId) (rows : List (AnyId × Rc PlainEvent A)) → IsKeyed rows →
-      position_or_len (eq-value.it id) (keys_of rows) ≡ position_or_len (λ e. same_id id (id_of e)) (events_of rows)
-  events-prefix id [] k = refl
-  events-prefix id (r ∷ rows) k = rw (row_test id r k.0) (elim (cases_Bool (same_id id (id_of r.1.value))) [
-    | inl yes_it ↦ rw yes_it refl
-    | inr no_it ↦ rw no_it (ap (λ n. 1 + n) (events-prefix id rows k.1))
-  ])
-
-  pub events-length : (rows : List (AnyId × Rc PlainEvent A)) → length (events_of rows) ≡ length rows
-  events-length [] = refl
-  events-length (r ∷ rows) = ap suc (events-length rows)
-
-  pub keys-length : (rows : List (AnyId × Rc PlainEvent A)) → length (keys_of rows) ≡ length rows
-  keys-length [] = refl
-  keys-length (r ∷ rows) = ap suc (keys-length rows)
 
   pub events-position : (id : AnyId) (rows : List (AnyId × Rc PlainEvent A)) → IsKeyed rows →
       position (eq-value.it id) (keys_of rows) ≡ place_of id (events_of rows)

@@ -13,37 +13,15 @@ use Rattle.plain_model.specs.declared.event.PlainEvent.TheVariants as plain
 use Rattle.plain_model.specs.Lookups.{children_of, event_marks, event_parents, find_event, id_of, marks_of, own_child, own_marks, place_of, same_id}
 use Rattle.plain_model.specs.Soundness.{AreSoundAfter, IsCommitOf, IsSound, IsSoundEvent, are_distinct, has_id}
 use Rattle.plain_model.specs.Streams.{is_among, is_marked}
+use Rattle.history_laws.proofs.Ids.{has_id-cons, has_id-append, event_new, same_id-refl, same_id-true, eqb_turned, is_marked-append}
+use Rattle.std.proofs.Math.Bool.{or_assoc, or-false, or-true}
 use Rattle.event_arena.specs.Once.{AreDistinct, AreMarkedOnce, AreParentsOnce, OccursOnce}
-use Rattle.event_arena.proofs.Ids.{same_id-refl, same_id-true}
 use Rattle.event_arena.proofs.SpentLemmas.{absent-cons, cons-absent}
-
-turned : (a b : ℕ) → eqb a b ≡ eqb b a
-turned a b = grind (arith, nat_tests)
 
 self : (n : ℕ) → eqb n n ≡ true
 self n = grind (arith, nat_tests)
 
-or_assoc : (a b c : Bool) → a || (b || c) ≡ (a || b) || c
-or_assoc true b c = refl
-or_assoc false b c = refl
-
-or_false : (b : Bool) → b || false ≡ b
-or_false true = refl
-or_false false = refl
-
-or_true : (b : Bool) → b || true ≡ true
-or_true true = refl
-or_true false = refl
-
 -- ---- ids
-
-pub has_id-cons : (e : PlainEvent) (es : List PlainEvent) (id : AnyId) → has_id (e ∷ es) id ≡ same_id id (id_of e) || has_id es id
-has_id-cons (plain.Blob i mark bytes) es (any.Blob b) = ap (λ t. t || has_id es (any.Blob b)) (turned i b)
-has_id-cons (plain.Commit i mark branch author committer encoding comment parents ops aliases) es (any.Commit c) = ap (λ t. t || has_id es (any.Commit c)) (turned i c)
-has_id-cons (plain.Tag i name target tagger comment mark) es (any.Tag t) = ap (λ b. b || has_id es (any.Tag t)) (turned i t)
-has_id-cons (plain.Reset i branch target) es (any.Reset r) = ap (λ t. t || has_id es (any.Reset r)) (turned i r)
-has_id-cons (plain.Pass i line) es (any.Pass p) = ap (λ t. t || has_id es (any.Pass p)) (turned i p)
-has_id-cons _ es _ = refl
 
 pub has_id-find : (es : List PlainEvent) (id : AnyId) → has_id es id ≡ is_some (find_event id es)
 has_id-find [] id = refl
@@ -53,24 +31,11 @@ has_id-find (e ∷ es) id = has_id-cons e es id ∙ ap (λ b. same_id id (id_of 
     either true o = refl
     either false o = refl
 
-pub has_id-append : (xs ys : List PlainEvent) (id : AnyId) → has_id (xs ++ ys) id ≡ has_id xs id || has_id ys id
-has_id-append [] ys id = refl
-has_id-append (x ∷ xs) ys id =
-    has_id-cons x (xs ++ ys) id ∙ ap (λ b. same_id id (id_of x) || b) (has_id-append xs ys id)
-    ∙ or_assoc (same_id id (id_of x)) (has_id xs id) (has_id ys id) ∙ ap (λ b. b || has_id ys id) (sym (has_id-cons x xs id))
-
-event-new : (earlier : List PlainEvent) (e : PlainEvent) → IsSoundEvent earlier e → has_id earlier (id_of e) ≡ false
-event-new earlier (plain.Blob id mark bytes) h = h.0
-event-new earlier (plain.Commit id mark branch author committer encoding comment parents ops aliases) h = h.0
-event-new earlier (plain.Tag id name target tagger comment mark) h = h.0
-event-new earlier (plain.Reset id branch target) h = h.0
-event-new earlier (plain.Pass id line) h = h.0
-
 -- what is earlier isn't later
 apart : (earlier events : List PlainEvent) → AreSoundAfter earlier events → (id : AnyId) → has_id earlier id ≡ true → find_event id events ≡ None
 apart earlier [] h id there = refl
 apart earlier (e ∷ es) h id there = elim (cases_Bool (same_id id (id_of e))) [
-  | inl it ↦ absurd (true≢false (sym there ∙ ap (has_id earlier) (same_id-true id (id_of e) it) ∙ event-new earlier e h.0))
+  | inl it ↦ absurd (true≢false (sym there ∙ ap (has_id earlier) (same_id-true id (id_of e) it) ∙ event_new earlier e h.0))
   | inr no_it ↦ cons-absent id e es no_it (apart (earlier ++ e ∷ []) es h.1 id (has_id-append earlier (e ∷ []) id ∙ ap (λ b. b || has_id (e ∷ []) id) there))
 ]
 
@@ -81,26 +46,9 @@ distinct earlier (e ∷ es) h = (apart (earlier ++ e ∷ []) es h.1 (id_of e) ow
     own : has_id (earlier ++ e ∷ []) (id_of e) ≡ true
     own = has_id-append earlier (e ∷ []) (id_of e)
         ∙ ap (λ b. has_id earlier (id_of e) || b) (has_id-cons e [] (id_of e) ∙ ap (λ b. b || false) (same_id-refl (id_of e)))
-        ∙ or_true (has_id earlier (id_of e))
+        ∙ or-true (has_id earlier (id_of e))
 
 -- ---- marks
-
-or_inner : (a b c : Bool) → a || (b || c) ≡ (a || (b || false)) || c
-or_inner true b c = refl
-or_inner false b c = or_assoc b false c
-
-is_marked-cons : (e : PlainEvent) (es : List PlainEvent) (m : ℕ) → is_marked (e ∷ es) m ≡ is_marked (e ∷ []) m || is_marked es m
-is_marked-cons (plain.Blob id mark bytes) es m = or_assoc (eqb mark m) false (is_marked es m)
-is_marked-cons (plain.Commit id mark branch author committer encoding comment parents ops aliases) es m = or_inner (eqb mark m) (is_among aliases m) (is_marked es m)
-is_marked-cons (plain.Tag id name target tagger comment mark) es m = or_assoc (is_among (option_to_list mark) m) false (is_marked es m)
-is_marked-cons (plain.Reset id branch target) es m = refl
-is_marked-cons (plain.Pass id line) es m = refl
-
-pub is_marked-append : (xs ys : List PlainEvent) (m : ℕ) → is_marked (xs ++ ys) m ≡ is_marked xs m || is_marked ys m
-is_marked-append [] ys m = refl
-is_marked-append (x ∷ xs) ys m =
-    is_marked-cons x (xs ++ ys) m ∙ ap (λ b. is_marked (x ∷ []) m || b) (is_marked-append xs ys m)
-    ∙ or_assoc (is_marked (x ∷ []) m) (is_marked xs m) (is_marked ys m) ∙ ap (λ b. b || is_marked ys m) (sym (is_marked-cons x xs m))
 
 lookup-none : (xs ys : List (ℕ × AnyId)) (m : ℕ) → lookup (λ n. eqb m n) xs ≡ None → lookup (λ n. eqb m n) ys ≡ None → lookup (λ n. eqb m n) (xs ++ ys) ≡ None
 lookup-none [] ys m h i = i
@@ -145,13 +93,13 @@ unmarked earlier (e ∷ es) h m there =
 -- the marks of one event
 pub is_marked-own : (e : PlainEvent) (m : ℕ) → is_marked (e ∷ []) m ≡ is_among (event_marks e) m
 is_marked-own (plain.Blob id mark bytes) m = refl
-is_marked-own (plain.Commit id mark branch author committer encoding comment parents ops aliases) m = ap (λ b. eqb mark m || b) (or_false (is_among aliases m))
-is_marked-own (plain.Tag id name target tagger comment mark) m = or_false (is_among (option_to_list mark) m)
+is_marked-own (plain.Commit id mark branch author committer encoding comment parents ops aliases) m = ap (λ b. eqb mark m || b) (or-false (is_among aliases m))
+is_marked-own (plain.Tag id name target tagger comment mark) m = or-false (is_among (option_to_list mark) m)
 is_marked-own (plain.Reset id branch target) m = refl
 is_marked-own (plain.Pass id line) m = refl
 
 own-marked : (earlier : List PlainEvent) (e : PlainEvent) (m : ℕ) → is_among (event_marks e) m ≡ true → is_marked (earlier ++ e ∷ []) m ≡ true
-own-marked earlier e m own = is_marked-append earlier (e ∷ []) m ∙ ap (λ b. is_marked earlier m || b) (is_marked-own e m ∙ own) ∙ or_true (is_marked earlier m)
+own-marked earlier e m own = is_marked-append earlier (e ∷ []) m ∙ ap (λ b. is_marked earlier m || b) (is_marked-own e m ∙ own) ∙ or-true (is_marked earlier m)
 
 -- marks of one event occur once before others, of which they are none
 marked-append : (marks : List ℕ) (id : AnyId) (others : List (ℕ × AnyId)) → are_distinct marks ≡ true → ((m : ℕ) → is_among marks m ≡ true → lookup (λ n. eqb m n) others ≡ None) →
@@ -160,7 +108,7 @@ marked-append [] id others distinct apart once = once
 marked-append (m ∷ marks) id others distinct apart once =
     let parts = both (is_among marks m) (are_distinct marks) distinct in (
       lookup-none (map (λ n. (n, id)) marks) others m (absent marks parts.0) (apart m (ap (λ b. b || is_among marks m) (self m))),
-      marked-append marks id others parts.1 (λ n among. apart n (ap (λ b. eqb m n || b) among ∙ or_true (eqb m n))) once,
+      marked-append marks id others parts.1 (λ n among. apart n (ap (λ b. eqb m n || b) among ∙ or-true (eqb m n))) once,
     )
   where
     both : (a b : Bool) → not a && b ≡ true → (a ≡ false) × (b ≡ true)
@@ -171,7 +119,7 @@ marked-append (m ∷ marks) id others distinct apart once =
     absent [] h = refl
     absent (n ∷ ms) h = elim (cases_Bool (eqb n m)) [
       | inl it ↦ absurd (true≢false (sym (rw it refl) ∙ h))
-      | inr no_it ↦ rw (turned m n, no_it) (absent ms (rw no_it at h))
+      | inr no_it ↦ rw (eqb_turned m n, no_it) (absent ms (rw no_it at h))
     ]
 
 marked-once : (earlier events : List PlainEvent) → AreSoundAfter earlier events → AreMarkedOnce (marks_of events)
@@ -250,7 +198,7 @@ no_child c n (plain.Commit id mark branch author committer encoding comment pare
     let rest = absent-cons (any.Commit n) e es h in
     let later = no_child c n es rest.1 in
     elim (cases_Bool (list_any (λ p. eqb p c) parents)) [
-      | inl it ↦ rw it (rw (turned id n, rest.0) later)
+      | inl it ↦ rw it (rw (eqb_turned id n, rest.0) later)
       | inr no_it ↦ rw no_it later
     ]
 no_child c n (plain.Blob id mark bytes ∷ es) h = no_child c n es h

@@ -6,9 +6,9 @@ use Rattle.std.specs.Prelude.{Result, Ok, Err, OnOk, OnErr, option_to_list}
 use Rattle.plain_model.specs.declared.id.AnyId.{AnyId}
 use Rattle.plain_model.specs.declared.event.PlainEvent.{PlainEvent}
 use Rattle.plain_model.specs.Lookups.{find_event, id_of, same_id}
+use Rattle.history_laws.proofs.Ids.{same_id-true}
 use Rattle.event_arena.specs.Changes.{changed, in_order, put_after, without}
 use Rattle.event_arena.specs.Spent.{AddsNone, AddsOnly}
-use Rattle.event_arena.proofs.Ids.{same_id-true}
 
 -- an id that isn't there is neither the first event's nor a later one's
 pub absent-cons : (id : AnyId) (e : PlainEvent) (es : List PlainEvent) → find_event id (e ∷ es) ≡ None →

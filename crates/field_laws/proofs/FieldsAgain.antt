@@ -48,7 +48,7 @@ person_again who (clean, time, digits) =
 
 -- ---- operations
 
-last_path_again : (path : Bytes) → IsPath path → last_path_in (Some (last_path path)) ≡ Ok path
+pub last_path_again : (path : Bytes) → IsPath path → last_path_in (Some (last_path path)) ≡ Ok path
 unfolding last_path_in
 last_path_again path h =
     ok_then (path_in Last (last_path path)) (λ p. path_of p.0) (path, length (last_path path)) (Ok path)
@@ -60,7 +60,7 @@ last_path_again path h =
 abbrev modify : Mode → RawContent → Bytes → Result RawOp Why
 modify mode content path = Ok (Modify mode content path)
 
-abbrev both : Bytes → Bytes → Result (Bytes × Bytes) Why
+abbrev pub both : Bytes → Bytes → Result (Bytes × Bytes) Why
 both source target = Ok (source, target)
 
 abbrev deleted : Bytes → Result RawOp Why
@@ -74,7 +74,7 @@ renamed source target = Ok (Rename source target)
 
 -- ---- what is put at a path
 
-hex_isnt : (d other : ℕ) → is_hex other ≡ false → is_hex d ≡ true → (d == other) ≡ false
+pub hex_isnt : (d other : ℕ) → is_hex other ≡ false → is_hex d ≡ true → (d == other) ≡ false
 hex_isnt d other n h = ne_eqb d other (λ e. absurd (let both : is_hex other ≡ true = subst (λ b. is_hex b ≡ true) e h in cc))
 
 -- the digits of an id
@@ -119,7 +119,7 @@ content_again Link Inline path i h = refl
 content_again Gitlink Inline path i h = absurd i
 
 -- what is put has no space
-spaceless : (content : RawContent) → ContentFits content → has_no_space (raw_content_text content) ≡ true
+pub spaceless : (content : RawContent) → ContentFits content → has_no_space (raw_content_text content) ≡ true
 spaceless (Marked mark) h = all_pass is_digit (λ b. not (b == 32)) digit_isnt (decimal mark) (mark_numeral mark h).all
 spaceless (Object digits) h =
     let a = and_parts ((length digits == 40) && list_all is_hex digits) (not (list_all (λ b. b == 48) digits)) h in

@@ -1,5 +1,5 @@
 -- People and dates are read exactly where the text spells them.
-use Rattle.std.proofs.Common.{◌≡◌, ◌⊎◌, inl, inr, ℕ, ◌+◌, ◌-◌, ◌≤◌, ◌<◌, Bool, true, false, cond, not, [], ◌∷◌, ◌++◌, length, take, drop, get_or, Option, Some, None, Ok, refl, sym, ap, subst, ◌∙◌, arith, eqb-true, eq-eqb, ne_eqb, leb-true, take_at, length-append, append_assoc, codes}
+use Rattle.std.proofs.Common.{◌≡◌, ◌⊎◌, inl, inr, ℕ, ◌+◌, ◌-◌, ◌≤◌, Bool, true, false, cond, not, [], ◌∷◌, ◌++◌, length, take, drop, get_or, Some, None, Ok, refl, sym, ap, subst, ◌∙◌, arith, eqb-true, eq-eqb, ne_eqb, leb-true, take_at, length-append, codes}
 use Rattle.std.specs.Prelude.{◌==◌, ◌&&◌, ◌||◌, nat_le}
 use Rattle.std.specs.List.{list_all}
 use Rattle.std.proofs.lemmas.Bool.{and_parts, and_from, or_cases, or_left, or_right, cond-true}
@@ -12,7 +12,7 @@ use Rattle.plain_model.specs.declared.person.When.{When}
 use Rattle.plain_model.specs.Paths.{Bytes}
 use Rattle.plain_model.specs.Numbers.{is_digit, value_after, IsNumeral}
 use Rattle.plain_model.specs.People.{is_clean_byte, is_clean, IsNamePart, IsZone, IsSigned}
-use Rattle.plain_model.specs.Parts.{◌>>=◌, rest_after, cut_at, line_at, number_within, name_of, zone_of, when_of, when_after, person_parts}
+use Rattle.plain_model.specs.Parts.{◌>>=◌, rest_after, cut_at, number_within, name_of, zone_of, when_of, when_after, person_parts}
 use Rattle.plain_model.specs.declared.fault.Why.TheVariants.{BadPerson, BadWhen}
 use Rattle.plain_model.specs.Fields.{or_defect, signed, person_in}
 use Rattle.plain_model.specs.Fields.{◌>>=◌ as ◌then_field◌}
@@ -79,7 +79,7 @@ zone_is seconds (sign ∷ zone) w e =
     } in
     subst (λ (x : When). (seconds ≡ x.seconds) × IsZone (sign ∷ zone) x.minus x.offset) is (refl, own)
 
-digit_at_most : (d : ℕ) → is_digit d ≡ true → d ≤ 57
+pub digit_at_most : (d : ℕ) → is_digit d ≡ true → d ≤ 57
 digit_at_most d h = leb-true d 57 (and_parts (nat_le 48 d) (nat_le d 57) h).1
 
 -- four digits say at most 9999

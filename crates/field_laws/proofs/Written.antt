@@ -1,5 +1,5 @@
 -- Each field that is written is spelled as it is read, whatever follows.
-use Rattle.std.proofs.Common.{◌≡◌, inl, inr, ℕ, ◌+◌, ◌-◌, ◌*◌, ◌/◌, ◌%◌, ◌^◌, ◌≤◌, ◌<◌, Bool, true, false, cond, not, [], ◌∷◌, ◌++◌, length, refl, sym, ap, subst, ◌∙◌, arith, append_assoc, length-append, leb-true, lt-ltb, ne_eqb, codes}
+use Rattle.std.proofs.Common.{◌≡◌, inl, inr, ℕ, ◌+◌, ◌-◌, ◌*◌, ◌/◌, ◌%◌, ◌^◌, ◌≤◌, ◌<◌, Bool, true, false, cond, not, [], ◌∷◌, ◌++◌, length, refl, sym, ap, ◌∙◌, arith, append_assoc, length-append, leb-true, lt-ltb, ne_eqb, codes}
 use Rattle.std.specs.Prelude.{◌==◌, ◌&&◌, ◌||◌, nat_le, nat_lt, decimal, IsTrue}
 use Rattle.std.specs.List.{list_all, list_any}
 use Rattle.std.proofs.lemmas.Bool.{and_parts, and_from, or_from, cond-true, cond-false, not-true}
@@ -10,11 +10,11 @@ use Rattle.plain_model.specs.declared.person.Signed.{Signed}
 use Rattle.plain_model.specs.Paths.{Bytes, IsPath}
 use Rattle.plain_model.specs.Marks.{IsMark}
 use Rattle.plain_model.specs.Names.{is_name_byte, is_name}
-use Rattle.plain_model.specs.Numbers.{IsNumeral, decimal_of, is_digit}
+use Rattle.plain_model.specs.Numbers.{IsNumeral, is_digit}
 use Rattle.plain_model.specs.People.{is_clean, IsNamePart, IsZone, IsSigned}
 use Rattle.plain_model.specs.Parts.{has_no_lf, IsLine, begins}
-use Rattle.plain_model.specs.Text.{line, data_block, zone, person, begins_quoted, quoted, last_path}
-use Rattle.field_laws.proofs.Decimals.{digit, numeral_of, value_push}
+use Rattle.plain_model.specs.Text.{line, zone, person, begins_quoted, quoted, last_path}
+use Rattle.field_laws.proofs.Decimals.{digit, value_push}
 use Rattle.field_laws.proofs.Lines.{eqb_turned}
 use Rattle.field_laws.proofs.Persons.{all_pass}
 
@@ -45,7 +45,7 @@ greater_plain : (b : ℕ) → 11 ≤ b → not (b == 10) ≡ true
 greater_plain b h = ap not (ne_eqb b 10 (λ e. absurd (omega arith)))
 
 -- digits have no LF
-plain_digits : (ds : Bytes) → list_all is_digit ds ≡ true → has_no_lf ds ≡ true
+pub plain_digits : (ds : Bytes) → list_all is_digit ds ≡ true → has_no_lf ds ≡ true
 plain_digits ds h = all_pass is_digit (λ b. not (b == 10)) (λ b d. greater_plain b (let low = leb-true 48 b (and_parts (nat_le 48 b) (nat_le b 57) d).0 in omega arith)) ds h
 
 -- the digits that are written have no LF

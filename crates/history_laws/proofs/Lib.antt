@@ -1,4 +1,7 @@
-mod LineLaws
+pub mod Commits
+pub mod Ids
+pub mod LineLaws
+pub mod Lists
 pub mod PathLaws
 mod Rows
 pub mod TreeLaws

@@ -10,7 +10,7 @@ use Rattle.plain_model.specs.Histories.{Node, Past, if_ok, folded, begun, tree_i
 use Rattle.history_laws.specs.FirstParents.{line_from, first_line, ops_along}
 
 -- one list of operations after another
-apply_more : (a b : List FileOp) (t : Tree) → apply_all (a ++ b) t ≡ (apply_all a t >>= apply_all b)
+pub apply_more : (a b : List FileOp) (t : Tree) → apply_all (a ++ b) t ≡ (apply_all a t >>= apply_all b)
 apply_more [] b t = refl
 apply_more (op ∷ a) b t = go (apply op t) (λ u. apply_more a b u)
   where
@@ -19,7 +19,7 @@ apply_more (op ∷ a) b t = go (apply op t) (λ u. apply_more a b u)
     go (Err e) f = refl
 
 -- the same, from a tree that may not be there
-folded_more : (a b : List FileOp) (o : Option Tree) → folded (a ++ b) o ≡ folded b (folded a o)
+pub folded_more : (a b : List FileOp) (o : Option Tree) → folded (a ++ b) o ≡ folded b (folded a o)
 folded_more a b None = refl
 folded_more a b (Some t) = ap if_ok (apply_more a b t) ∙ go (apply_all a t)
   where

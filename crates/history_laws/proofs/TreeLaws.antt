@@ -22,7 +22,7 @@ abbrev pub by_bytes : Bytes → Bytes → Ordering
 by_bytes = slice_cmp nat_cmp
 
 -- a comparison that says equal
-tied : (r : Ordering) → is_eq r ≡ true → r ≡ Equal
+pub tied : (r : Ordering) → is_eq r ≡ true → r ≡ Equal
 tied Less h = absurd (true≢false (sym h))
 tied Equal h = refl
 tied Greater h = absurd (true≢false (sym h))

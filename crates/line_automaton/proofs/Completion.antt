@@ -26,7 +26,7 @@ HoldsNoLf (At n (After inside) s) = Unit {0}
 HoldsNoLf (At n Ended s) = Unit {0}
 HoldsNoLf (Stopped n why) = Unit {0}
 
-has_no_lf-push : (text : Bytes) (b : ℕ) → has_no_lf text ≡ true → is_lf b ≡ false → has_no_lf (text ++ b ∷ []) ≡ true
+pub has_no_lf-push : (text : Bytes) (b : ℕ) → has_no_lf text ≡ true → is_lf b ≡ false → has_no_lf (text ++ b ∷ []) ≡ true
 has_no_lf-push [] b h e = and_from (not (is_lf b)) true (ap not e) refl
 has_no_lf-push (x ∷ xs) b h e =
     let p = and_parts (not (is_lf x)) (has_no_lf xs) h in

@@ -1,14 +1,14 @@
 -- The worked histories are sound, and their ids are low.
-use Rattle.std.proofs.Common.{◌≡◌, ℕ, ◌≤◌, ◌<◌, inl, inr, List, [], ◌∷◌, ap, refl, sym, subst, true, eqb, lit≤, rules}
+use Rattle.std.proofs.Common.{ℕ, ◌≤◌, ◌<◌, inl, inr, List, [], ◌∷◌, refl, sym, subst, true, eqb, lit≤, rules}
 use Rattle.std.proofs.lemmas.Bool.{cases_Bool, eqb-true, true≢false}
 use Rattle.std.specs.List.{AllByRecursion}
 use Rattle.std.specs.Prelude.{IsSome}
 use Rattle.plain_model.specs.declared.event.PlainEvent.{PlainEvent}
-use Rattle.plain_model.specs.declared.id.AnyId.{AnyId}
 use Rattle.plain_model.specs.declared.id.AnyId.TheVariants as any
 use Rattle.plain_model.specs.Histories.{tree}
 use Rattle.plain_model.specs.Lookups.{AreIdsBelow, id_number, id_of, same_id}
 use Rattle.plain_model.specs.Soundness.{IsCommitOf, IsFormedSigned, IsSound}
+use Rattle.history_laws.proofs.Ids.{same_id-true}
 use Rattle.listing.specs.Examples.{exported, rarer, signed}
 
 formed : (n : ℕ) → n ≤ 250000000000 → IsFormedSigned (signed n)
@@ -111,14 +111,6 @@ rarer_sound = record {
 }
 
 -- ---- ids
-
-same_id-true : (a b : AnyId) → same_id a b ≡ true → a ≡ b
-same_id-true (any.Blob a) (any.Blob b) h = ap any.Blob (eqb-true a b h)
-same_id-true (any.Commit a) (any.Commit b) h = ap any.Commit (eqb-true a b h)
-same_id-true (any.Tag a) (any.Tag b) h = ap any.Tag (eqb-true a b h)
-same_id-true (any.Reset a) (any.Reset b) h = ap any.Reset (eqb-true a b h)
-same_id-true (any.Pass a) (any.Pass b) h = ap any.Pass (eqb-true a b h)
-same_id-true _ _ h = absurd (true≢false (sym h))
 
 low : (bound : ℕ) (events : List PlainEvent) → AllByRecursion (λ e. id_number (id_of e) < bound) events → AreIdsBelow bound events
 low bound [] all id there = absurd (true≢false (sym there))

@@ -1,7 +1,6 @@
 -- Events of a sound history, found by their ids.
-use Rattle.std.proofs.Common.{◌≡◌, ℕ, zero, suc, ◌≤◌, inl, inr, List, [], ◌∷◌, ◌++◌, Option, Some, None, refl, eqb, arith}
+use Rattle.std.proofs.Common.{◌≡◌, ℕ, zero, suc, ◌≤◌, inl, inr, List, [], ◌∷◌, ◌++◌, Option, Some, None, refl, eqb}
 use Rattle.std.proofs.lemmas.Bool.{cases_Bool}
-use Rattle.std.proofs.lemmas.Bool.Decides.{nat_tests}
 use Rattle.std.specs.Prelude.{IfSome, map, option_map, slice_get, unwrap_or}
 use Rattle.plain_model.specs.declared.id.AnyId.{AnyId}
 use Rattle.plain_model.specs.declared.id.AnyId.TheVariants as any
@@ -12,10 +11,8 @@ use Rattle.plain_model.specs.Snapshots.{commit_mark}
 use Rattle.plain_model.specs.declared.limit.TheConstants.{MAX_SECONDS}
 use Rattle.plain_model.specs.declared.person.Signed.{Signed}
 use Rattle.plain_model.specs.Soundness.{AreSoundAfter, IsFormedSigned, IsSoundEvent}
+use Rattle.history_laws.proofs.Ids.{eqb_turned}
 use Rattle.listing.specs.Finding.{IsDated, own_commit_mark}
-
-turned : (a b : ℕ) → eqb a b ≡ eqb b a
-turned a b = grind (arith, nat_tests)
 
 -- ---- dates and marks
 
@@ -43,8 +40,8 @@ pub mark_found : (events : List PlainEvent) (c : ℕ)
     → commit_mark events c ≡ unwrap_or (option_map own_commit_mark (find_event (any.Commit c) events)) 0
 mark_found [] c = refl
 mark_found (plain.Commit id mark branch author committer encoding comment parents ops aliases ∷ es) c = elim (cases_Bool (eqb c id)) [
-  | inl it ↦ rw (turned id c, it) refl
-  | inr no_it ↦ rw (turned id c, no_it) (mark_found es c)
+  | inl it ↦ rw (eqb_turned id c, it) refl
+  | inr no_it ↦ rw (eqb_turned id c, no_it) (mark_found es c)
 ]
 mark_found (plain.Blob id mark bytes ∷ es) c = mark_found es c
 mark_found (plain.Tag id name target tagger comment mark ∷ es) c = mark_found es c

@@ -2,13 +2,13 @@
 use Rattle.std.proofs.Common.{◌≡◌, ◌∙◌, ℕ, zero, suc, ◌+◌, ◌<◌, ◌≤◌, Bool, true, false, List, [], ◌∷◌, ◌++◌, Some, None, refl, sym, ap, length, get_or, take, drop, arith, zero-le, ◌-◌, add-one, append_assoc}
 use Rattle.std.proofs.Math.ListN.{drop_of_length-le}
 use Rattle.std.proofs.lemmas.List.{append-nil}
-use Rattle.std.proofs.lemmas.Option.{none-some, same_Some}
 use Rattle.std.specs.Prelude.{◌==◌, flat_map, replicate, slice_get}
 use Rattle.memchr.specs.Find.{IsFirstByte, is_byte}
 use Rattle.plain_model.specs.declared.event.PlainEvent.{PlainEvent}
 use Rattle.plain_model.specs.declared.event.PlainEvent.TheVariants.{Blob, Commit, Tag, Reset, Pass}
 use Rattle.plain_model.specs.Snapshots.{refs_after}
 use Rattle.plain_model.specs.Trees.{TreeOf}
+use Rattle.event_arena.proofs.ListLemmas.{drop-item}
 use Rattle.listing.specs.Listings.{first_line}
 
 not_passed : (t : Bool) → (t ≡ true → ⊥) → t ≡ false
@@ -40,19 +40,12 @@ first_whole text h =
     sym (whole text) ∙ up_to text (length text) (omega arith) nowhere (λ lt. absurd (omega arith))
 
 module _ {X : Type 0} where
-  -- an item begins what is left
-  pub drop_item : (xs : List X) (k : ℕ) (x : X) → slice_get xs k ≡ Some x → drop k xs ≡ x ∷ drop (suc k) xs
-  drop_item [] k x h = absurd (none-some x h)
-  drop_item (y ∷ xs) zero x h = ap (λ z. z ∷ xs) (sym (same_Some x y (sym h)))
-  drop_item (y ∷ xs) (suc k) x h = drop_item xs k x h
-
-module _ {X : Type 0} where
   -- a list of which the first so many items are
   pub begun_by_one : (xs : List X) (k : ℕ) (x : X) (out new : List X)
       → slice_get xs k ≡ Some x → new ≡ out ++ x ∷ [] → out ++ drop k xs ≡ xs
       → new ++ drop (k + 1) xs ≡ xs
   begun_by_one xs k x out new at is before =
-      let here = ap (λ rest. out ++ rest) (sym (drop_item xs k x at)) in
+      let here = ap (λ rest. out ++ rest) (sym (drop-item xs k x at)) in
       rw (add-one, is) (append_assoc out (x ∷ []) (drop (suc k) xs) ∙ here ∙ before)
 
   pub begun_by_all : (xs : List X) (k : ℕ) (out : List X) → length xs ≤ k → out ++ drop k xs ≡ xs → out ≡ xs
@@ -63,7 +56,7 @@ module _ {X Y : Type 0} (f : X → List Y) where
   pub to_come : (xs : List X) (k : ℕ) (x : X) (out new : List Y) → slice_get xs k ≡ Some x → new ≡ out ++ f x
       → new ++ flat_map f (drop (k + 1) xs) ≡ out ++ flat_map f (drop k xs)
   to_come xs k x out new at is =
-      let here = ap (λ rest. out ++ flat_map f rest) (sym (drop_item xs k x at)) in
+      let here = ap (λ rest. out ++ flat_map f rest) (sym (drop-item xs k x at)) in
       rw (add-one, is) (append_assoc out (f x) (flat_map f (drop (suc k) xs)) ∙ here)
 
   pub none_to_come : (xs : List X) (k : ℕ) (out : List Y) → length xs ≤ k → out ++ flat_map f (drop k xs) ≡ out
@@ -89,7 +82,7 @@ noted tips (Pass id bytes) events = refl
 pub noted_at : (events : List PlainEvent) (k : ℕ) (e : PlainEvent) (tips new : TreeOf ℕ)
     → slice_get events k ≡ Some e → new ≡ refs_after tips (e ∷ [])
     → refs_after new (drop (k + 1) events) ≡ refs_after tips (drop k events)
-noted_at events k e tips new at is = rw (add-one, is, drop_item events k e at) (sym (noted tips e (drop (suc k) events)))
+noted_at events k e tips new at is = rw (add-one, is, drop-item events k e at) (sym (noted tips e (drop (suc k) events)))
 
 pub all_noted : (events : List PlainEvent) (k : ℕ) (tips : TreeOf ℕ) → length events ≤ k → refs_after tips (drop k events) ≡ tips
 all_noted events k tips all = ap (refs_after tips) (drop_of_length-le events all)

@@ -15,7 +15,7 @@ use Rattle.plain_model.specs.Snapshots.{Shown, ShownContent, blob_bytes, map_tre
 use Rattle.plain_model.specs.Snapshots.ShownContent.{ShownBytes}
 use Rattle.plain_model.specs.Soundness.{has_id}
 use Rattle.plain_model.specs.Trees.{TreeOf, put}
-use Rattle.event_arena.proofs.SoundLemmas.{has_id-cons}
+use Rattle.history_laws.proofs.Ids.{has_id-cons}
 use Rattle.renumbering.specs.Renumbered.{all_marked, marked_from, marks_from, renumbered_from}
 use Rattle.renumbering.proofs.Marks.{event-from, id-from, length-event, length-own, marked-twice, numbers-from}
 

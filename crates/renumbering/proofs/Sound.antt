@@ -13,12 +13,14 @@ use Rattle.plain_model.specs.declared.operation.FileOp.TheVariants.{Modify, Dele
 use Rattle.plain_model.specs.declared.event.PlainEvent.{PlainEvent}
 use Rattle.plain_model.specs.declared.event.PlainEvent.TheVariants.{Blob, Commit, Tag, Reset, Pass}
 use Rattle.plain_model.specs.Snapshots.{refs, refs_after}
-use Rattle.plain_model.specs.Trees.{TreeOf, has, put}
+use Rattle.plain_model.specs.Trees.{TreeOf, has}
 use Rattle.plain_model.specs.Lookups.{event_marks, id_number, marks_of, own_marks}
 use Rattle.plain_model.specs.Soundness.{AreSoundAfter, IsCommitOf, IsFormedEvent, IsSound, IsSoundEvent, RefersBack, has_id}
 use Rattle.plain_model.specs.Streams.{is_among, is_marked}
-use Rattle.event_arena.proofs.SoundLemmas.{has_id-append, is_marked-append, is_marked-own}
+use Rattle.event_arena.proofs.SoundLemmas.{is_marked-own}
 use Rattle.round_trip_laws.specs.AsRead.{ArePlaced, IsRooted, AreRootedAfter, IsAsRead}
+use Rattle.history_laws.proofs.Commits.{refs_append}
+use Rattle.history_laws.proofs.Ids.{has_id-append, is_marked-append}
 use Rattle.renumbering.specs.Renumbered.{marked_from, marks_from, renumbered, renumbered_from}
 use Rattle.renumbering.proofs.Few.{few_marks}
 use Rattle.renumbering.proofs.Kept.{has_id_same, tree_same, refs_same}
@@ -137,16 +139,6 @@ sound_again events h = record {
 }
 
 -- ---- such as reading gives it
-
--- the branches after two parts
-refs_append : (t : TreeOf ℕ) (xs ys : List PlainEvent) → refs_after t (xs ++ ys) ≡ refs_after (refs_after t xs) ys
-refs_append t [] ys = refl
-refs_append t (Blob id mark bytes ∷ xs) ys = refs_append t xs ys
-refs_append t (Commit id mark branch author committer encoding comment parents ops aliases ∷ xs) ys = refs_append (put branch id t) xs ys
-refs_append t (Tag id name target tagger comment mark ∷ xs) ys = refs_append t xs ys
-refs_append t (Reset id branch None ∷ xs) ys = refs_append _ xs ys
-refs_append t (Reset id branch (Some c) ∷ xs) ys = refs_append (put branch c t) xs ys
-refs_append t (Pass id line ∷ xs) ys = refs_append t xs ys
 
 placed_still : (next k : ℕ) (events : List PlainEvent) → ArePlaced k events → ArePlaced k (renumbered_from next events)
 placed_still next k [] p = tt

@@ -14,11 +14,11 @@ use Rattle.event_arena.specs.Changes.{changed, with_aliases}
 use Rattle.event_arena.specs.Graphs.{Change}
 use Rattle.event_arena.specs.Once.{AreDistinct}
 use Rattle.event_arena.proofs.ChangeLemmas.{id-with_field}
-use Rattle.event_arena.proofs.Ids.{same_id-refl}
 use Rattle.event_arena.proofs.ListLemmas.{take-all, take-item, drop-item, flat-take-item}
 use Rattle.event_arena.proofs.OnceLemmas.{distinct-absent, marks-room}
 use Rattle.event_arena.proofs.SoundLemmas.{has_id-find}
 use Rattle.event_arena.proofs.SpentLemmas.{absent-cons}
+use Rattle.history_laws.proofs.Ids.{same_id-refl}
 use Rattle.renumbering.specs.Renumbered.{marked_from, renumbered, renumbered_from}
 use Rattle.renumbering.proofs.Few.{few_marks}
 use Rattle.renumbering.proofs.Kept.{has_id_same}

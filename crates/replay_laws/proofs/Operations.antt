@@ -27,6 +27,7 @@ use Rattle.stream_grammar.specs.declared.lines.Word.{Word}
 use Rattle.stream_grammar.specs.declared.lines.Word.TheVariants as word
 use Rattle.stream_grammar.specs.Known.{OpenCommit, next_id, ensure, placed, tree_now, has_source, modify_after, paths_after, op_after}
 use Rattle.stream_grammar.specs.Lines.{text_of, is_inline, is_operation, has_text, word_of}
+use Rattle.field_laws.proofs.FieldSteps.{bind_ok, or_defect_is, same_Ok}
 
 -- ---- what is read without a defect
 
@@ -34,22 +35,9 @@ use Rattle.stream_grammar.specs.Lines.{text_of, is_inline, is_operation, has_tex
 bytes_same : (xs ys : Bytes) → bytes_eq xs ys ≡ true → xs ≡ ys
 bytes_same xs ys h = (bytes_eq-Decides xs ys).0 h
 
--- a first field that has no defect
-pub bind_ok : {A B : Type 0} (r : Result A Why) (f : A → Result B Why) (y : B) → (r >>= f) ≡ Ok y → (x : A) × (r ≡ Ok x) × (f x ≡ Ok y)
-bind_ok (Ok x) f y h = (x, refl, h)
-bind_ok (Err why) f y h = absurd cc
-
 -- the next field after it
 pub bind_to : {A B : Type 0} (r : Result A Why) (f : A → Result B Why) {x : A} {y : Result B Why} → r ≡ Ok x → f x ≡ y → (r >>= f) ≡ y
 bind_to r f e h = ap (λ q. q >>= f) e ∙ h
-
-pub ok_same : {A : Type 0} (x y : A) → ◌≡◌ {A = Result A Why} (Ok x) (Ok y) → x ≡ y
-ok_same x y h = ap (λ (r : Result _ Why). elim r [ Ok z ↦ z | Err why ↦ x ]) h
-
--- what was found
-pub or_defect_ok : {A : Type 0} (why : Why) (o : Option A) (x : A) → or_defect why o ≡ Ok x → o ≡ Some x
-or_defect_ok why None x h = absurd cc
-or_defect_ok why (Some y) x h = ap (λ z. Some z) (ok_same y x h)
 
 -- ---- an operation and its line
 
@@ -104,12 +92,12 @@ modify_with events text mode (Marked mark) path fields content m p b c = go (blo
   where
     go : (o : Option ℕ) → blob_marked events mark ≡ o → or_defect UnknownMark (option_map OfBlob o) ≡ Ok content → ModifyAlike events text (Modify mode content path)
     go None x y = absurd cc
-    go (Some id) x y = (rawop.Modify mode (Marked mark) path, m, (id, x, ap (λ c. Modify mode c path) (sym (ok_same (OfBlob id) content y))), λ w. absurd cc)
-modify_with events text mode (Object digits) path fields content m p b c = (rawop.Modify mode (Object digits) path, m, ap (λ c. Modify mode c path) (sym (ok_same (OfObject digits) content p)), λ w. absurd cc)
+    go (Some id) x y = (rawop.Modify mode (Marked mark) path, m, (id, x, ap (λ c. Modify mode c path) (sym (same_Ok (OfBlob id) content y))), λ w. absurd cc)
+modify_with events text mode (Object digits) path fields content m p b c = (rawop.Modify mode (Object digits) path, m, ap (λ c. Modify mode c path) (sym (same_Ok (OfObject digits) content p)), λ w. absurd cc)
 modify_with events text mode Inline path fields content m p b c = (
   rawop.Modify mode Inline path,
   m,
-  ap (λ c. Modify mode c path) (sym (ok_same (OfBlob (next_id events)) content p)),
+  ap (λ c. Modify mode c path) (sym (same_Ok (OfBlob (next_id events)) content p)),
   λ w. ap (λ (o : Option Bytes). bytes_eq (first_word (elim o [ None ↦ [] | Some t ↦ t ])) (codes "inline")) b ∙ inline_alone mode (first_word fields) c,
 )
 
@@ -122,8 +110,8 @@ modify_alike events text op h =
     let d = bind_ok (placed events c.0) _ op c.2 in
     let e = bind_ok (last_path_in (after_space b.0)) _ op d.2 in
     let read : modify_in text ≡ Ok (rawop.Modify a.0 c.0 e.0) = bind_to _ _ a.1 (bind_to _ _ b.1 (bind_to _ _ c.1 (bind_to _ _ e.1 refl))) in
-    subst (ModifyAlike events text) (ok_same (Modify a.0 d.0 e.0) op e.2)
-    (modify_with events text a.0 c.0 e.0 b.0 d.0 read d.1 (or_defect_ok BadMark (after_space text) b.0 b.1) c.1)
+    subst (ModifyAlike events text) (same_Ok (Modify a.0 d.0 e.0) op e.2)
+    (modify_with events text a.0 c.0 e.0 b.0 d.0 read d.1 (or_defect_is BadMark (after_space text) b.0 b.1) c.1)
 
 -- `SOURCE TARGET` is read alike
 paths_alike : (tree : Option Tree) (text : Bytes) (p : Bytes × Bytes) → paths_after tree text ≡ Ok p → paths_in text ≡ Ok p
@@ -141,7 +129,7 @@ ReadAlike events line op =
 -- a part of a line is there
 there : (o : Option Bytes) (why : Why) (text : Bytes) → or_defect why o ≡ Ok text → elim o [ None ↦ [] | Some t ↦ t ] ≡ text
 there None why text h = absurd cc
-there (Some t) why text h = ok_same t text h
+there (Some t) why text h = same_Ok t text h
 
 modify_line : (events : List PlainEvent) (line : Bytes) (op : FileOp) → (or_defect BadMode (after_space line) >>= λ text. modify_after events text) ≡ Ok op
     → (raw : RawOp) × ((or_defect BadMode (after_space line) >>= λ text. modify_in text) ≡ Ok raw) × GoesWith events raw op × (waits raw ≡ true → is_inline line ≡ true)
@@ -154,7 +142,7 @@ delete_line : (line : Bytes) (op : FileOp) → (last_path_in (after_space line) 
     → (path : Bytes) × ((last_path_in (after_space line) >>= λ p. Ok (rawop.Delete p)) ≡ Ok (rawop.Delete path)) × (op ≡ Delete path)
 delete_line line op h =
     let a = bind_ok (last_path_in (after_space line)) _ op h in
-    (a.0, bind_to _ _ a.1 refl, sym (ok_same (Delete a.0) op a.2))
+    (a.0, bind_to _ _ a.1 refl, sym (same_Ok (Delete a.0) op a.2))
 
 -- an operation with a source and a target
 paths_line : (f : Bytes → Bytes → FileOp) (g : Bytes → Bytes → RawOp) (tree : Option Tree) (line : Bytes) (op : FileOp)
@@ -163,7 +151,7 @@ paths_line : (f : Bytes → Bytes → FileOp) (g : Bytes → Bytes → RawOp) (t
 paths_line f g tree line op h =
     let a = bind_ok (or_defect BadPath (after_space line)) _ op h in
     let b = bind_ok (paths_after tree a.0) _ op a.2 in
-    (b.0, bind_to _ _ a.1 (bind_to _ _ (paths_alike tree a.0 b.0 b.1) refl), sym (ok_same (f b.0.0 b.0.1) op b.2))
+    (b.0, bind_to _ _ a.1 (bind_to _ _ (paths_alike tree a.0 b.0 b.1) refl), sym (same_Ok (f b.0.0 b.0.1) op b.2))
 
 -- The line of an operation is read alike.
 pub op_alike : (events : List PlainEvent) (c : OpenCommit) (line : Bytes) (op : FileOp) → (is_operation (first_word line) || bytes_eq line (codes "deleteall")) ≡ true → op_after events c line ≡ Ok op → ReadAlike events line op
@@ -189,7 +177,7 @@ op_alike events c line op is h = go (bytes_eq line (codes "deleteall")) refl is
     clears : line ≡ codes "deleteall" → ReadAlike events line op
     clears e =
         let k : op_after events c (codes "deleteall") ≡ Ok op = ap (op_after events c) (sym e) ∙ h in
-        (rawop.DeleteAll, ap op_in e, sym (ok_same DeleteAll op k), λ q. absurd cc)
+        (rawop.DeleteAll, ap op_in e, sym (same_Ok DeleteAll op k), λ q. absurd cc)
 
     go : (b : Bool) → bytes_eq line (codes "deleteall") ≡ b → (is_operation (first_word line) || b) ≡ true → ReadAlike events line op
     go true x w = clears (bytes_same line (codes "deleteall") x)

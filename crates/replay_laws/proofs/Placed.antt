@@ -7,12 +7,12 @@ use Rattle.std.proofs.lemmas.List.{reverse-append}
 use Rattle.plain_model.specs.declared.event.PlainEvent.{PlainEvent}
 use Rattle.plain_model.specs.declared.event.PlainEvent.TheVariants.{Blob, Commit, Tag, Reset, Pass}
 use Rattle.plain_model.specs.Paths.{Bytes}
-use Rattle.plain_model.specs.Trees.{TreeOf, put}
-use Rattle.plain_model.specs.Histories.{Node, Past, nodes, past, tree_in, knows}
+use Rattle.plain_model.specs.Histories.{Past, nodes, past, tree_in, knows}
 use Rattle.plain_model.specs.Lookups.{greatest_mark, greatest_of, top_mark}
-use Rattle.plain_model.specs.Snapshots.{ShownTag, blob_bytes, shown, map_tree, shown_tree, refs, refs_after}
+use Rattle.plain_model.specs.Snapshots.{ShownTag, blob_bytes, shown, map_tree, shown_tree, refs}
 use Rattle.plain_model.specs.Streams.{blob_marked, commit_marked, is_among}
 use Rattle.stream_grammar.specs.Known.{alias_marks}
+use Rattle.history_laws.proofs.Commits.{unknown_both}
 use Rattle.replay_laws.specs.Replay.{Numbered, Replayed, bytes_marked, number_marked, commit_numbered, files_of}
 
 abbrev pub event_id : PlainEvent → ℕ
@@ -195,13 +195,6 @@ unknown_tree (n ∷ older) c h =
     let parts = or_parts (n.id == c) (knows older c) h in
     cond-false (n.id == c) _ (tree_in older c) parts.0 ∙ unknown_tree older c parts.1
 
--- what neither of two pasts knows
-unknown_both : (a b : Past) (c : ℕ) → knows a c ≡ false → knows b c ≡ false → knows (a ++ b) c ≡ false
-unknown_both [] b c h k = k
-unknown_both (n ∷ a) b c h k =
-    let parts = or_parts (n.id == c) (knows a c) h in
-    ap (λ x. x || knows (a ++ b) c) parts.0 ∙ unknown_both a b c parts.1 k
-
 -- the order doesn't count
 unknown_reverse : (a : Past) (c : ℕ) → knows a c ≡ false → knows (reverse a) c ≡ false
 unknown_reverse [] c h = refl
@@ -219,25 +212,6 @@ files_alike w c = files_among w w c ∙ go (knows (nodes w) c) refl
     go false h = ap (option_map (map_tree (shown w))) (sym (unknown_tree (past w) c (unknown_reverse (nodes w) c h)))
 
 -- ---- one more event
-
--- nothing after a list
-pub nothing_more : {A : Type 0} (xs : List A) → xs ++ [] ≡ xs
-nothing_more [] = refl
-nothing_more (x ∷ xs) = ap (λ l. x ∷ l) (nothing_more xs)
-
-pub nodes_append : (a b : List PlainEvent) → nodes (a ++ b) ≡ nodes a ++ nodes b
-nodes_append [] b = refl
-nodes_append (Commit id mark branch author committer encoding comment parents ops aliases ∷ a) b = ap (λ (l : List Node). record { id = id; parents = parents; ops = ops } ∷ l) (nodes_append a b)
-nodes_append (_ ∷ a) b = nodes_append a b
-
-pub refs_append : (t : TreeOf ℕ) (a b : List PlainEvent) → refs_after t (a ++ b) ≡ refs_after (refs_after t a) b
-refs_append t [] b = refl
-refs_append t (Blob id mark bytes ∷ a) b = refs_append t a b
-refs_append t (Commit id mark branch author committer encoding comment parents ops aliases ∷ a) b = refs_append (put branch id t) a b
-refs_append t (Tag id name target tagger comment mark ∷ a) b = refs_append t a b
-refs_append t (Reset id branch None ∷ a) b = refs_append _ a b
-refs_append t (Reset id branch (Some c) ∷ a) b = refs_append (put branch c t) a b
-refs_append t (Pass id line ∷ a) b = refs_append t a b
 
 pub commits_append : (w a b : List PlainEvent) → commits_seen w (a ++ b) ≡ commits_seen w a ++ commits_seen w b
 commits_append w [] b = refl

@@ -13,11 +13,12 @@ use Rattle.plain_model.specs.Trees.{TreeOf, at}
 use Rattle.plain_model.specs.Snapshots.{Shown, shown_tree, refs}
 use Rattle.plain_model.specs.Streams.{commit_marked}
 use Rattle.stream_grammar.specs.Known.{commit_with, is_left_out_ref, ref_in}
-use Rattle.replay_laws.specs.Replay.{first_files, further_marked, number_marked, number_with, commit_named}
+use Rattle.history_laws.proofs.Commits.{all_at}
+use Rattle.field_laws.proofs.FieldSteps.{bind_ok, or_defect_is}
+use Rattle.replay_laws.specs.Replay.{first_files, further_marked, number_with, commit_named}
 use Rattle.history_laws.proofs.TreeMapping.{changed_from}
-use Rattle.replay_laws.proofs.Placed.{seen_of, seen_with, commits_seen, commit_place, files_alike, number_alike}
-use Rattle.replay_laws.proofs.SoFar.{AllBelow, IsRead, IsSoFar, all_at, files_now}
-use Rattle.replay_laws.proofs.Operations.{bind_ok, or_defect_ok}
+use Rattle.replay_laws.proofs.Placed.{seen_of, seen_with, commit_place, files_alike, number_alike}
+use Rattle.replay_laws.proofs.SoFar.{AllBelow, IsRead, IsSoFar, files_now}
 
 -- ---- references
 
@@ -58,7 +59,7 @@ module _ (events : List PlainEvent) (aliases : List (ℕ × ℕ)) (r : IsRead ev
       → (elim (mark_in text) [ Ok mark ↦ number_with (seen_with events aliases) mark | Err why ↦ None ] ≡ Some commit) × (commit < length events + 1)
   marked_alike text commit h =
       let a = bind_ok (mark_in text) _ commit h in
-      let found = or_defect_ok UnknownMark (commit_with events aliases a.0) commit a.2 in (
+      let found = or_defect_is UnknownMark (commit_with events aliases a.0) commit a.2 in (
         ap (λ (r : Result ℕ Why). elim r [ Ok mark ↦ number_with (seen_with events aliases) mark | Err why ↦ None ]) a.1 ∙ mark_names_alike a.0 ∙ found,
         mark_names_below a.0 commit found,
       )
@@ -71,7 +72,7 @@ module _ (events : List PlainEvent) (aliases : List (ℕ × ℕ)) (r : IsRead ev
       go true b c x = absurd cc
       go false true c x = absurd cc
       go false false true x = marked_alike text commit x
-      go false false false x = let found = or_defect_ok UnknownRef (at (refs events) text) commit x in (found, all_at (λ v. v < length events + 1) (refs events) text commit s.tips found)
+      go false false false x = let found = or_defect_is UnknownRef (at (refs events) text) commit x in (found, all_at (λ v. v < length events + 1) (refs events) text commit s.tips found)
 
 -- ---- the beginning of an event
 

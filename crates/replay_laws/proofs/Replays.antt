@@ -18,6 +18,7 @@ use Rattle.stream_grammar.specs.declared.lines.Word.TheVariants as word
 use Rattle.stream_grammar.specs.Known.{Known, Open, closed, history_of}
 use Rattle.stream_grammar.specs.Known.Open.{Nothing, ABlob, ACommit, ATag, AReset, AnAlias}
 use Rattle.stream_grammar.specs.Lines.{State, stream, is_comment, word_of, must_go_on, after_word, next_by, next_of, judged, word_step, line_step, data_arrived, is_inline_expected, history_read, history_in}
+use Rattle.field_laws.proofs.FieldSteps.{bind_ok, same_Ok}
 use Rattle.replay_laws.specs.Replay.{Reading, Replaying, replaying, ended, after_line, after_data, shown_of, replay_read, replay_in}
 use Rattle.replay_laws.specs.Replay.{word_step as replay_step, with_blob, with_inline}
 use Rattle.replay_laws.specs.Replay.Reading.{NoEvent, InBlob, InCommit, InTag, InReset, InAlias}
@@ -25,7 +26,7 @@ use Rattle.replay_laws.proofs.InStep.{Place, place_after, reads_alike}
 use Rattle.replay_laws.proofs.InStep.Place.{AtLine, AtBlock, AtEnd}
 use Rattle.replay_laws.proofs.Placed.{seen_with}
 use Rattle.replay_laws.proofs.SoFar.{IsRead}
-use Rattle.replay_laws.proofs.Operations.{bind_ok, bind_to, ok_same}
+use Rattle.replay_laws.proofs.Operations.{bind_to}
 use Rattle.replay_laws.proofs.Standings.{no_wait, data_expected, no_end, still_before}
 use Rattle.replay_laws.proofs.Twins.{reading_of, Waits, HasFiles, Goes, Became, settled, ends_alike, arrives}
 use Rattle.replay_laws.proofs.Steps.{place_of, line_goes}
@@ -83,13 +84,13 @@ not_waiting old standing word.Other d h e = no_wait old standing word.Other refl
 next_place : (w : Word) (line : Bytes) (next : Next) → next_of w line ≡ Ok next → place_of w ≡ place_after next
 next_place word.Data line next h =
     let a = bind_ok (extent_in line) _ next h in
-    extent a.0 ∙ ap place_after (ok_same (next_by a.0) next a.2)
+    extent a.0 ∙ ap place_after (same_Ok (next_by a.0) next a.2)
   where
     extent : (e : Extent) → AtBlock ≡ place_after (next_by e)
     extent (Counted n) = refl
     extent (Delimited d) = refl
-next_place word.Done line next h = ap place_after (ok_same Over next h)
-next_place _ line next h = ap place_after (ok_same More next h)
+next_place word.Done line next h = ap place_after (same_Ok Over next h)
+next_place _ line next h = ap place_after (same_Ok More next h)
 
 -- the states that go together
 abbrev IsTwin : Place → State → Replaying → Type 0
@@ -110,7 +111,7 @@ module _ (old : Standing) (k : Known) (files : Option (TreeOf Shown)) (waiting :
   ]
     where
       of_data : after_word old word.Data ≡ Ok standing → judged word.Data line k ≡ Ok known → Became AtBlock standing known (replay_of old k files waiting)
-      of_data x y = subst (λ q. Became AtBlock standing q (replay_of old k files waiting)) (ok_same k known y) (files, waiting, refl, refl, s, data_goes old standing k.events k.current files waiting x g)
+      of_data x y = subst (λ q. Became AtBlock standing q (replay_of old k files waiting)) (same_Ok k known y) (files, waiting, refl, refl, s, data_goes old standing k.events k.current files waiting x g)
 
   -- the replay makes the step that the grammar makes
   abbrev StepsTo : State → Next → Result (Replaying × Next) Why → Type 0
@@ -123,7 +124,7 @@ module _ (old : Standing) (k : Known) (files : Option (TreeOf Shown)) (waiting :
       let a = bind_ok (after_word old w) _ (new, next) e in
       let b = bind_ok (next_of w line) _ (new, next) a.2 in
       let c = bind_ok (judged w line k) _ (new, next) b.2 in
-      let made : ◌≡◌ {A = State × Next} (record { standing = a.0; spelled = line ∷ spelled; known = c.0 }, b.0) (new, next) = ok_same _ _ c.2 in
+      let made : ◌≡◌ {A = State × Next} (record { standing = a.0; spelled = line ∷ spelled; known = c.0 }, b.0) (new, next) = same_Ok _ _ c.2 in
       let other : Replaying = record (after_line w line (replay_of old k files waiting)) { standing = a.0 } in
       let goes : IsTwin (place_after b.0) (record { standing = a.0; spelled = line ∷ spelled; known = c.0 }) other =
       (refl, subst (λ p. Became p a.0 c.0 (after_line w line (replay_of old k files waiting))) (next_place w line b.0 b.1) (goes_on a.0 line w refl a.1 c.0 c.1)) in
@@ -140,7 +141,7 @@ module _ (old : Standing) (k : Known) (files : Option (TreeOf Shown)) (waiting :
       go : (b : Bool) → cond b (Ok (here, More)) (word_step true here line (word_of line)) ≡ Ok (new, next)
           → StepsTo new next (cond b (Ok (replay_of old k files waiting, More)) (replay_step (replay_of old k files waiting) line (word_of line)))
       go true x =
-          let made : ◌≡◌ {A = State × Next} (here, More) (new, next) = ok_same _ _ x in
+          let made : ◌≡◌ {A = State × Next} (here, More) (new, next) = same_Ok _ _ x in
           subst (λ (m : State × Next). StepsTo m.0 m.1 (Ok (replay_of old k files waiting, More))) made
           (replay_of old k files waiting, refl, (refl, (files, waiting, refl, refl, s, g)))
       go false x = word_steps spelled line new next x

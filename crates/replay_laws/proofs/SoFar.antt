@@ -1,12 +1,7 @@
 -- What a history so far keeps, and what one more event changes of what is replayed.
-use Rattle.std.proofs.Common.{◌≡◌, ℕ, ◌+◌, ◌<◌, ◌≤◌, Bool, true, false, cond, List, [], ◌∷◌, ◌++◌, length, reverse, refl, sym, ap, subst, ◌∙◌, Option, Some, None, Result, Ok, Err, arith, eq-eqb, ne_eqb, length-append, max}
+use Rattle.std.proofs.Common.{◌≡◌, ℕ, ◌+◌, ◌<◌, ◌≤◌, List, [], ◌∷◌, ◌++◌, length, reverse, refl, sym, ap, subst, ◌∙◌, Option, Some, None, Result, Ok, Err, arith, eq-eqb, ne_eqb, length-append, max}
 use Rattle.std.specs.Prelude.{◌==◌, not, bytes_eq}
 use Rattle.std.specs.List.{AllByRecursion}
-use Rattle.std.specs.Ordering.{nat_cmp, eq_by_cmp}
-use Rattle.std.specs.declared.cmp.Ordering.{Ordering}
-use Rattle.std.specs.declared.cmp.Ordering.TheVariants.{Less, Equal, Greater}
-use Rattle.std.specs.Cmp.Lexicographic.{slice_cmp}
-use Rattle.std.specs.FinMap.Entries.{by_order}
 use Rattle.std.proofs.lemmas.Bool.{cond-false}
 use Rattle.std.proofs.lemmas.List.{reverse-append}
 use Rattle.plain_model.specs.declared.operation.Content.TheVariants.{Blob as OfBlob, Object}
@@ -17,15 +12,17 @@ use Rattle.plain_model.specs.declared.person.Signed.{Signed}
 use Rattle.plain_model.specs.declared.event.PlainEvent.{PlainEvent}
 use Rattle.plain_model.specs.declared.event.PlainEvent.TheVariants.{Blob, Commit, Tag, Reset, Pass}
 use Rattle.plain_model.specs.Paths.{Bytes}
-use Rattle.plain_model.specs.Trees.{TreeOf, Change, Refusal, at, put, where_path, meaning, change, change_all, ◌>>=◌}
+use Rattle.plain_model.specs.Trees.{TreeOf, Change, Refusal, meaning, change, change_all, ◌>>=◌}
 use Rattle.plain_model.specs.Trees.Change.{Put, Remove}
 use Rattle.plain_model.specs.Histories.{Node, Past, nodes, past}
 use Rattle.plain_model.specs.Lookups.{top_mark, greatest_mark}
 use Rattle.plain_model.specs.Snapshots.{Shown, blob_bytes, shown, shown_tree, refs, refs_after}
 use Rattle.plain_model.specs.Snapshots.ShownContent.{ShownBytes, ShownObject}
+use Rattle.history_laws.proofs.Commits.{nodes_append, refs_append, all_put, all_where}
+use Rattle.history_laws.proofs.Lists.{all_imply, all_join}
 use Rattle.replay_laws.specs.Replay.{Numbered, if_kept, changed_files}
 use Rattle.history_laws.proofs.TreeMapping.{map_change, if_ok_of, changed_from, begun_of, changes_seen, seen, seen_here, seen_other, seen_alike}
-use Rattle.replay_laws.proofs.Placed.{ArePlaced, IsBare, event_id, placed_more, marked_blobs, commits_seen, tags_seen, unmarked_in, seen_of, nodes_append, refs_append, commits_append, blobs_append, tags_append, unmarked_append, greatest_more, bytes_still}
+use Rattle.replay_laws.proofs.Placed.{ArePlaced, IsBare, event_id, placed_more, marked_blobs, commits_seen, tags_seen, unmarked_in, seen_of, commits_append, blobs_append, tags_append, unmarked_append, greatest_more, bytes_still}
 
 -- ---- what the commits refer to
 
@@ -52,11 +49,6 @@ pub record NodeBelow (n : ℕ) (c : Node) : Type 0 where
 abbrev pub TipsBelow : ℕ → TreeOf ℕ → Type 0
 TipsBelow n tips = AllByRecursion (λ (e : Bytes × ℕ). e.1 < n) tips
 
--- what follows from what holds
-pub all_imply : {A : Type 0} (P Q : A → Type 0) → ((x : A) → P x → Q x) → (xs : List A) → AllByRecursion P xs → AllByRecursion Q xs
-all_imply P Q f [] a = tt
-all_imply P Q f (x ∷ xs) a = (f x a.0, all_imply P Q f xs a.1)
-
 -- a greater bound
 pub all_up : (m n : ℕ) → m ≤ n → (xs : List ℕ) → AllBelow m xs → AllBelow n xs
 all_up m n h = all_imply (λ x. x < m) (λ x. x < n) (λ x k. omega arith)
@@ -64,11 +56,6 @@ all_up m n h = all_imply (λ x. x < m) (λ x. x < n) (λ x k. omega arith)
 -- a greater bound of what commits refer to
 pub nodes_up : (m n : ℕ) → m ≤ n → (cs : List Node) → AllByRecursion (NodeBelow m) cs → AllByRecursion (NodeBelow n) cs
 nodes_up m n h = all_imply (NodeBelow m) (NodeBelow n) (λ c k. record { own = let own = k.own in omega arith; parents = all_up m n h c.parents k.parents; blobs = all_up m n h (blobs_of c.ops) k.blobs })
-
--- what holds of two lists holds of both together
-pub all_join : {A : Type 0} (P : A → Type 0) (xs ys : List A) → AllByRecursion P xs → AllByRecursion P ys → AllByRecursion P (xs ++ ys)
-all_join P [] ys a b = b
-all_join P (x ∷ xs) ys a b = (a.0, all_join P xs ys a.1 b)
 
 -- what holds of a list holds of it reversed
 all_reverse : {A : Type 0} (P : A → Type 0) (xs : List A) → AllByRecursion P xs → AllByRecursion P (reverse xs)
@@ -86,34 +73,6 @@ changes_same w v (Rename source target ∷ ops) a = ap (λ (cs : List (Change Sh
 changes_same w v (DeleteAll ∷ ops) a = ap (λ (cs : List (Change Shown)). map_change (shown w) (meaning DeleteAll) ∷ cs) (changes_same w v ops a)
 
 -- ---- tips
-
--- what holds of all entries holds after a put of such a one
-all_put : (P : ℕ → Type 0) (k : Bytes) (v : ℕ) (t : TreeOf ℕ) → P v → AllByRecursion (λ e. P e.1) t → AllByRecursion (λ e. P e.1) (put k v t)
-all_put P k v [] h a = (h, tt)
-all_put P k v (e ∷ t) h a = go (slice_cmp nat_cmp k e.0) (all_put P k v t h a.1)
-  where
-    go : (r : Ordering) → AllByRecursion (λ e. P e.1) (put k v t) → AllByRecursion (λ e. P e.1) (by_order r ((k, v) ∷ e ∷ t) ((e.0, v) ∷ t) (e ∷ put k v t))
-    go Less b = (h, a)
-    go Equal b = (h, a.1)
-    go Greater b = (a.0, b)
-
--- what holds of all entries holds of those that pass a test
-all_where : (P : ℕ → Type 0) (test : Bytes → Bool) (t : TreeOf ℕ) → AllByRecursion (λ e. P e.1) t → AllByRecursion (λ e. P e.1) (where_path test t)
-all_where P test [] a = tt
-all_where P test (e ∷ t) a = go (test e.0) (all_where P test t a.1)
-  where
-    go : (b : Bool) → AllByRecursion (λ e. P e.1) (where_path test t) → AllByRecursion (λ e. P e.1) (cond b (e ∷ where_path test t) (where_path test t))
-    go true r = (a.0, r)
-    go false r = r
-
--- what holds of all entries holds of the one that is found
-pub all_at : (P : ℕ → Type 0) (t : TreeOf ℕ) (q : Bytes) (v : ℕ) → AllByRecursion (λ e. P e.1) t → at t q ≡ Some v → P v
-all_at P [] q v a h = absurd cc
-all_at P (e ∷ t) q v a h = go (eq_by_cmp (slice_cmp nat_cmp) q e.0) h (λ x. all_at P t q v a.1 x)
-  where
-    go : (b : Bool) → cond b (Some e.1) (at t q) ≡ Some v → (at t q ≡ Some v → P v) → P v
-    go true x f = let is : e.1 ≡ v = cc in subst P is a.0
-    go false x f = f x
 
 -- ---- the files after operations
 

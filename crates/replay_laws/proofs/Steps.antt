@@ -27,6 +27,8 @@ use Rattle.stream_grammar.specs.declared.lines.Word.TheVariants as word
 use Rattle.stream_grammar.specs.Known.{Known, OpenCommit, Open, closed, is_known_mark, next_id, ensure, ref_in, op_after, with_parent}
 use Rattle.stream_grammar.specs.Known.Open.{Nothing, ABlob, ACommit, ATag, AReset, AnAlias}
 use Rattle.stream_grammar.specs.Lines.{aliased, text_of, word_of, after_word, judged, begun_with, commit_on, with_mark, with_commit, with_from, with_tagger, with_operation, is_left_out_feature, passed, changed}
+use Rattle.history_laws.proofs.Lists.{all_join}
+use Rattle.field_laws.proofs.FieldSteps.{bind_ok, same_Ok}
 use Rattle.replay_laws.specs.Replay.{Replayed, CommitSoFar, Reading, Replaying, files_of, first_files, commit_named, with_change, changed_files, entry, with_op, with_merge, in_commit, if_read, if_named, after_line, after_operation}
 use Rattle.replay_laws.specs.Replay.{begun as begun_replay, passed as passed_replay, commit_on as commit_from, with_mark as mark_read, with_from as from_read, with_tagger as tagger_read, changed as changed_replay, aliased as aliased_replay}
 use Rattle.replay_laws.specs.Replay.Reading.{NoEvent, InBlob, InCommit, InTag, InReset, InAlias}
@@ -34,8 +36,8 @@ use Rattle.replay_laws.proofs.InStep.{Place}
 use Rattle.replay_laws.proofs.InStep.Place.{AtLine, AtBlock, AtEnd}
 use Rattle.history_laws.proofs.TreeMapping.{map_change, changed_from}
 use Rattle.replay_laws.proofs.Placed.{seen_with, greatest_alias, marked_blobs, commits_seen, blob_place, files_alike}
-use Rattle.replay_laws.proofs.SoFar.{AllBelow, IsRead, blobs_of, all_join, files_now, files_more, read_more}
-use Rattle.replay_laws.proofs.Operations.{bind_ok, ok_same, GoesWith, waits, op_alike, IsOperation, operation_line, inline_line}
+use Rattle.replay_laws.proofs.SoFar.{AllBelow, IsRead, blobs_of, files_now, files_more, read_more}
+use Rattle.replay_laws.proofs.Operations.{GoesWith, waits, op_alike, IsOperation, operation_line, inline_line}
 use Rattle.replay_laws.proofs.Standings.{is_before, still_before, from_before, merge_expected, operation_expected, inline_expected}
 use Rattle.replay_laws.proofs.Twins.{commit_so_far, reading_of, HasFiles, CommitGoes, Goes, Became, EndsAlike, ends_alike, pass_with, blobs_more}
 use Rattle.replay_laws.proofs.References.{named_alike, no_ops, begins_alike, tip_below}
@@ -333,7 +335,7 @@ module _ (old standing : Standing) (k : Known) (files : Option (TreeOf Shown)) (
       -- no commit is being read
       nothing : (o : Open) (t : Replaying) → ((f : CommitSoFar → CommitSoFar) → changed_replay t (in_commit f) ≡ t) → Became AtLine standing (record k { current = o }) t → ◌≡◌ {A = Result Known Why} (Ok (record k { current = o })) (Ok known)
           → Became AtLine standing known (after_operation line t)
-      nothing o t same b x = subst (λ q. Became AtLine standing q (after_operation line t)) (ok_same (record k { current = o }) known x) (read (op_in line))
+      nothing o t same b x = subst (λ q. Became AtLine standing q (after_operation line t)) (same_Ok (record k { current = o }) known x) (read (op_in line))
         where
           read : (r : Result RawOp Why) → Became AtLine standing (record k { current = o }) (if_read t r (λ raw. changed_replay t (in_commit (with_op t.replayed.blobs raw))))
           read (Ok raw) = subst (Became AtLine standing (record k { current = o })) (sym (same (with_op t.replayed.blobs raw))) b
@@ -345,7 +347,7 @@ module _ (old standing : Standing) (k : Known) (files : Option (TreeOf Shown)) (
       go (ABlob mark) h x = nothing (ABlob mark) _ (λ f. refl) (None, None, refl, refl, s, tt) x
       go (ACommit c) h x =
           let a = bind_ok (op_after k.events c line) _ known x in
-          subst (λ q. Became AtLine standing q (after_operation line (record { standing = old; replayed = seen_with k.events k.aliases; reading = InCommit (commit_so_far c files None) }))) (ok_same _ known a.2)
+          subst (λ q. Became AtLine standing q (after_operation line (record { standing = old; replayed = seen_with k.events k.aliases; reading = InCommit (commit_so_far c files None) }))) (same_Ok _ known a.2)
           (commit c h a.0 a.1)
       go (ATag name target tagger own) h x = nothing (ATag name target tagger own) _ (λ f. refl) (None, None, refl, refl, s, tt) x
       go (AnAlias mark) h x = nothing (AnAlias mark) _ (λ f. refl) (None, None, refl, refl, s, tt) x
@@ -365,7 +367,7 @@ module _ (old standing : Standing) (k : Known) (files : Option (TreeOf Shown)) (
   -- what is known is this
   known_is : (known new : Known) (p : Place) {r : Replayed} {q : Reading} → ◌≡◌ {A = Result Known Why} (Ok new) (Ok known)
       → Became p standing new (record { standing = old; replayed = r; reading = q }) → Became p standing known (record { standing = old; replayed = r; reading = q })
-  known_is known new p {r = r} {q = q} e b = subst (λ x. Became p standing x (record { standing = old; replayed = r; reading = q })) (ok_same new known e) b
+  known_is known new p {r = r} {q = q} e b = subst (λ x. Became p standing x (record { standing = old; replayed = r; reading = q })) (same_Ok new known e) b
 
   -- what was read goes with what is known after the line, too
   pub line_goes : (w : Word) → word_of line ≡ w → (w ≡ word.Data → ⊥) → after_word old w ≡ Ok standing → (known : Known) → judged w line k ≡ Ok known → Became (place_of w) standing known (after_line w line state)

@@ -20,12 +20,14 @@ use Rattle.stream_grammar.specs.declared.lines.Standing.{Standing}
 use Rattle.stream_grammar.specs.Known.{Known, OpenCommit, Open, alias_marks, closed, closed_commit, with_data, with_event, next_id}
 use Rattle.stream_grammar.specs.Known.Open.{Nothing, ABlob, ACommit, ATag, AReset, AnAlias}
 use Rattle.stream_grammar.specs.Lines.{is_inline_expected}
+use Rattle.history_laws.proofs.Lists.{all_join}
+use Rattle.std.proofs.lemmas.List.{append-nil}
 use Rattle.replay_laws.specs.Replay.{Replayed, CommitSoFar, Reading, Replaying, unmarked_with, with_blob, with_tag, with_reset, with_commit as put_commit, ended, changed_files, with_inline, entry, after_data}
 use Rattle.replay_laws.specs.Replay.Reading.{NoEvent, InBlob, InCommit, InTag, InReset, InAlias}
 use Rattle.replay_laws.proofs.InStep.{Place}
 use Rattle.replay_laws.proofs.InStep.Place.{AtLine, AtBlock, AtEnd}
-use Rattle.replay_laws.proofs.Placed.{seen_of, seen_with, with_further, greatest_turned, marked_blobs, commits_seen, tags_seen, unmarked_in, nothing_more, bytes_new}
-use Rattle.replay_laws.proofs.SoFar.{AllBelow, IsRead, IsSoFar, read_more, blobs_of, all_join, all_up, files_now, files_more, files_kept, length_more, seen_more, so_far_more, new_tree}
+use Rattle.replay_laws.proofs.Placed.{seen_of, seen_with, with_further, greatest_turned, marked_blobs, commits_seen, tags_seen, unmarked_in, bytes_new}
+use Rattle.replay_laws.proofs.SoFar.{AllBelow, IsRead, IsSoFar, read_more, blobs_of, all_up, files_now, files_more, files_kept, length_more, seen_more, new_tree}
 use Rattle.replay_laws.proofs.Standings.{is_before}
 
 -- ---- what goes together
@@ -108,14 +110,14 @@ max_0 n = omega arith
 -- an event that is only counted, and whatever it does to tips and tags
 module _ (events : List PlainEvent) (s : IsSoFar events) where
   unmarked_same : unmarked_in events ++ [] ≡ unmarked_in events
-  unmarked_same = nothing_more (unmarked_in events)
+  unmarked_same = append-nil (unmarked_in events)
 
   pub pass_more : (line : Bytes) → seen_of (with_event events (plain.Pass (next_id events) line)) ≡ record (seen_of events) { count = length events + 1 }
   pass_more line = seen_more events s (plain.Pass (next_id events) line) refl ∙ (λ i. record {
     count = length events + 1;
-    blobs = nothing_more (marked_blobs events) i;
-    commits = nothing_more (commits_seen events events) i;
-    tags = nothing_more (tags_seen events) i;
+    blobs = append-nil (marked_blobs events) i;
+    commits = append-nil (commits_seen events events) i;
+    tags = append-nil (tags_seen events) i;
     tips = refs events;
     aliases = [];
     unmarked = unmarked_same i;
@@ -125,9 +127,9 @@ module _ (events : List PlainEvent) (s : IsSoFar events) where
   reset_more : (branch : Bytes) (target : Option ℕ) → seen_of (with_event events (plain.Reset (next_id events) branch target)) ≡ with_reset (seen_of events) branch target
   reset_more branch None = seen_more events s (plain.Reset (next_id events) branch None) refl ∙ (λ i. record {
     count = length events + 1;
-    blobs = nothing_more (marked_blobs events) i;
-    commits = nothing_more (commits_seen events events) i;
-    tags = nothing_more (tags_seen events) i;
+    blobs = append-nil (marked_blobs events) i;
+    commits = append-nil (commits_seen events events) i;
+    tags = append-nil (tags_seen events) i;
     tips = where_path (λ b. not (bytes_eq branch b)) (refs events);
     aliases = [];
     unmarked = unmarked_same i;
@@ -135,9 +137,9 @@ module _ (events : List PlainEvent) (s : IsSoFar events) where
   })
   reset_more branch (Some c) = seen_more events s (plain.Reset (next_id events) branch (Some c)) refl ∙ (λ i. record {
     count = length events + 1;
-    blobs = nothing_more (marked_blobs events) i;
-    commits = nothing_more (commits_seen events events) i;
-    tags = nothing_more (tags_seen events) i;
+    blobs = append-nil (marked_blobs events) i;
+    commits = append-nil (commits_seen events events) i;
+    tags = append-nil (tags_seen events) i;
     tips = put branch c (refs events);
     aliases = [];
     unmarked = unmarked_same i;
@@ -148,8 +150,8 @@ module _ (events : List PlainEvent) (s : IsSoFar events) where
       → seen_of (with_event events (plain.Tag (next_id events) name target tagger comment mark)) ≡ with_tag (seen_of events) (record { name = name; target = target; tagger = tagger; comment = comment; mark = mark })
   tag_more name target tagger comment mark = seen_more events s (plain.Tag (next_id events) name target tagger comment mark) refl ∙ (λ i. record {
     count = length events + 1;
-    blobs = nothing_more (marked_blobs events) i;
-    commits = nothing_more (commits_seen events events) i;
+    blobs = append-nil (marked_blobs events) i;
+    commits = append-nil (commits_seen events events) i;
     tags = tags_seen events ++ record { name = name; target = target; tagger = tagger; comment = comment; mark = mark } ∷ [];
     tips = refs events;
     aliases = [];
@@ -169,8 +171,8 @@ module _ (events : List PlainEvent) (s : IsSoFar events) where
   blob_more mark bytes = seen_more events s (plain.Blob (next_id events) mark bytes) refl ∙ (λ i. record {
     count = length events + 1;
     blobs = marked_blobs events ++ (mark, bytes) ∷ [];
-    commits = nothing_more (commits_seen events events) i;
-    tags = nothing_more (tags_seen events) i;
+    commits = append-nil (commits_seen events events) i;
+    tags = append-nil (tags_seen events) i;
     tips = refs events;
     aliases = [];
     unmarked = unmarked_more mark i;
@@ -187,7 +189,7 @@ module _ (events : List PlainEvent) (s : IsSoFar events) where
     commit_more : seen_of (with_event events that_commit) ≡ put_commit (seen_of events) (commit_so_far c files None) (Some committer)
     commit_more = seen_more events s that_commit refl ∙ (λ i. record {
       count = length events + 1;
-      blobs = nothing_more (marked_blobs events) i;
+      blobs = append-nil (marked_blobs events) i;
       commits = commits_seen events events ++ record {
         number = length events + 1;
         commit = record {
@@ -202,7 +204,7 @@ module _ (events : List PlainEvent) (s : IsSoFar events) where
           aliases = [];
         };
       } ∷ [];
-      tags = nothing_more (tags_seen events) i;
+      tags = append-nil (tags_seen events) i;
       tips = put c.branch (length events + 1) (refs events);
       aliases = [];
       unmarked = unmarked_more c.mark i;

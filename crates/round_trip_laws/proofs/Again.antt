@@ -17,13 +17,14 @@ use Rattle.plain_model.specs.Soundness.{AreSoundAfter, IsCommitOf, IsFormedEvent
 use Rattle.plain_model.specs.Streams.{commit_marked, is_among, is_marked}
 use Rattle.plain_model.specs.Marks.{IsMark}
 use Rattle.plain_model.specs.Text.{line, alias_text, event_text, text_from, end_text, is_feature_done, text as text_of_history}
-use Rattle.plain_model.specs.Trees.{TreeOf, put, has}
+use Rattle.plain_model.specs.Trees.{TreeOf, has}
 use Rattle.stream_grammar.specs.declared.lines.Expected.{Expected}
 use Rattle.stream_grammar.specs.declared.lines.Expected.TheVariants as expected
 use Rattle.stream_grammar.specs.declared.lines.Word.TheVariants as word
 use Rattle.stream_grammar.specs.Known.{next_id, alias_marks, with_aliases, with_marks, history_of}
 use Rattle.stream_grammar.specs.Known.Open.{Nothing}
 use Rattle.stream_grammar.specs.Lines.{history_in, must_go_on}
+use Rattle.history_laws.proofs.Commits.{refs_append}
 use Rattle.round_trip_laws.specs.AsRead.{ArePlaced, IsRooted, AreRootedAfter, IsAsRead}
 use Rattle.round_trip_laws.proofs.Points.{point, Gives, line_ends, text_ends}
 use Rattle.round_trip_laws.proofs.WrittenLines.{is_between, is_known, done_leads}
@@ -195,16 +196,6 @@ aliases_go done seen mark c (a ∷ aliases) rest history is_mark found fresh apa
 
 -- ---- all events
 
--- branches after two parts
-refs_parts : (t : TreeOf ℕ) (a b : List PlainEvent) → refs_after t (a ++ b) ≡ refs_after (refs_after t a) b
-refs_parts t [] b = refl
-refs_parts t (Blob id mark bytes ∷ a) b = refs_parts t a b
-refs_parts t (Commit id mark branch author committer encoding comment parents ops aliases ∷ a) b = refs_parts (put branch id t) a b
-refs_parts t (Tag id name target tagger comment mark ∷ a) b = refs_parts t a b
-refs_parts t (Reset id branch None ∷ a) b = refs_parts _ a b
-refs_parts t (Reset id branch (Some c) ∷ a) b = refs_parts (put branch c t) a b
-refs_parts t (Pass id line ∷ a) b = refs_parts t a b
-
 -- one more commit without aliases
 marked_more : (done : List PlainEvent) (id mark : ℕ) (branch : Bytes) (author committer : Signed) (encoding : Option Bytes) (comment : Bytes) (parents : List ℕ) (ops : List FileOp) (m : ℕ)
     → is_marked done m ≡ false → (mark == m) ≡ false → is_marked (done ++ Commit id mark branch author committer encoding comment parents ops [] ∷ []) m ≡ false
@@ -262,7 +253,7 @@ events_go whole front (e ∷ later) formed placed trees s =
     let next = events_go whole (front ++ e ∷ []) later formed placed trees (next_walked whole front e later s) in
     let after = text_from whole (refs_after (refs front) (e ∷ [])) later ++ end_text whole in
     let on : GivesAfter (bare front ++ bare_event e ∷ []) (pairs front ++ own_pairs e) after whole =
-    subst (λ (tips : TreeOf ℕ). GivesAfter (bare front ++ bare_event e ∷ []) (pairs front ++ own_pairs e) (text_from whole tips later ++ end_text whole) whole) (refs_parts [] front (e ∷ []))
+    subst (λ (tips : TreeOf ℕ). GivesAfter (bare front ++ bare_event e ∷ []) (pairs front ++ own_pairs e) (text_from whole tips later ++ end_text whole) whole) (refs_append [] front (e ∷ []))
     (subst (λ (l : List (ℕ × ℕ)). GivesAfter (bare front ++ bare_event e ∷ []) l (text_from whole (refs (front ++ e ∷ [])) later ++ end_text whole) whole) (pairs_append front (e ∷ []) ∙ ap (λ (l : List (ℕ × ℕ)). pairs front ++ l) (append-nil (own_pairs e)))
     (subst (λ (l : List PlainEvent). GivesAfter l (pairs (front ++ e ∷ [])) (text_from whole (refs (front ++ e ∷ [])) later ++ end_text whole) whole) (bare_append front (e ∷ [])) next)) in
     subst (λ (text : Bytes). GivesAfter (bare front) (pairs front) text whole)

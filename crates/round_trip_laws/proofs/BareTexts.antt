@@ -1,6 +1,6 @@
 -- What is written of a history: its text without aliases, with the lines of each commit's aliases after it; and the
 -- history that both parts give again.
-use Rattle.std.proofs.Common.{◌≡◌, ℕ, suc, ◌+◌, ◌<◌, Bool, true, false, List, [], ◌∷◌, ◌++◌, Option, Some, None, length, map, flat_map, refl, sym, ap, subst, ◌∙◌, arith, append_assoc, append-nil, eq-eqb, ne_eqb, codes}
+use Rattle.std.proofs.Common.{◌≡◌, ℕ, suc, ◌+◌, ◌<◌, false, List, [], ◌∷◌, ◌++◌, Option, Some, None, map, flat_map, refl, sym, ap, subst, ◌∙◌, arith, append_assoc, append-nil, eq-eqb, ne_eqb, codes}
 use Rattle.std.specs.Prelude.{◌==◌, filter}
 use Rattle.std.specs.List.{AllByRecursion}
 use Rattle.std.proofs.lemmas.Bool.{cond-true, cond-false}
@@ -15,11 +15,12 @@ use Rattle.plain_model.specs.declared.raw.RawContent.TheVariants as spelled
 use Rattle.plain_model.specs.declared.raw.RawOp.TheVariants as rawop
 use Rattle.plain_model.specs.Paths.{Bytes}
 use Rattle.plain_model.specs.Snapshots.{commit_mark}
-use Rattle.plain_model.specs.Text.{alias_text, blob_mark_in, data_block, encoding_text, event_text, line, mark_text, marked, op_text, parents_text, person, raw_op_text, raw_op, raw_content, reset_text, tagger_text, target_text}
+use Rattle.plain_model.specs.Text.{alias_text, data_block, encoding_text, event_text, line, mark_text, marked, op_text, parents_text, person, raw_op_text, reset_text, tagger_text, target_text}
 use Rattle.plain_model.specs.Trees.{TreeOf}
 use Rattle.stream_grammar.specs.Known.{alias_marks, aliases_for, with_aliases}
+use Rattle.field_laws.proofs.FieldsAgain.{both}
 use Rattle.round_trip_laws.specs.AsRead.{ArePlaced}
-use Rattle.round_trip_laws.proofs.Bare.{bare, bare_event, own_pairs, pairs, mark_bare, blob_mark_bare}
+use Rattle.round_trip_laws.proofs.Bare.{bare, bare_event, pairs, mark_bare, blob_mark_bare}
 
 -- ---- texts
 

@@ -1,5 +1,5 @@
 -- What an id names is found again by its mark, and a commit has the tree that it had.
-use Rattle.std.proofs.Common.{◌≡◌, inl, inr, ℕ, suc, ◌<◌, Bool, true, false, cond, List, [], ◌∷◌, ◌++◌, Option, Some, None, Result, Ok, Err, refl, sym, ap, subst, ◌∙◌, arith, reverse, ◌⊎◌, eq-eqb, ne_eqb, append_assoc, eqb-true, option_to_list}
+use Rattle.std.proofs.Common.{◌≡◌, inl, inr, ℕ, suc, ◌<◌, Bool, true, false, cond, List, [], ◌∷◌, ◌++◌, Option, Some, None, refl, sym, ap, subst, ◌∙◌, arith, reverse, ◌⊎◌, eq-eqb, ne_eqb, append_assoc, eqb-true, option_to_list}
 use Rattle.std.specs.Prelude.{◌==◌, ◌||◌}
 use Rattle.std.proofs.lemmas.Bool.{cond-true, or_from, or_parts, cond-false}
 use Rattle.std.proofs.lemmas.Option.{none-some}
@@ -10,13 +10,13 @@ use Rattle.plain_model.specs.declared.event.PlainEvent.{PlainEvent}
 use Rattle.plain_model.specs.declared.event.PlainEvent.TheVariants.{Blob, Commit, Tag, Reset, Pass}
 use Rattle.plain_model.specs.declared.person.Signed.{Signed}
 use Rattle.plain_model.specs.Paths.{Bytes}
-use Rattle.plain_model.specs.Trees.{Tree, Refusal, apply, apply_all, ◌>>=◌}
-use Rattle.plain_model.specs.Histories.{Node, Past, nodes, past, tree, tree_in, begun, folded, if_ok, knows}
+use Rattle.plain_model.specs.Histories.{Node, Past, nodes, past, tree, tree_in, begun, folded, knows}
 use Rattle.plain_model.specs.Soundness.{IsFormedEvent, IsSoundEvent, has_id}
 use Rattle.plain_model.specs.Streams.{is_among, is_marked, blob_marked, commit_marked}
 use Rattle.plain_model.specs.Snapshots.{commit_mark}
 use Rattle.plain_model.specs.Text.{blob_mark_in}
 use Rattle.plain_model.specs.Marks.{IsMark}
+use Rattle.history_laws.proofs.Commits.{nodes_append, unknown_both}
 use Rattle.round_trip_laws.specs.AsRead.{ArePlaced}
 
 -- ---- ids of two parts
@@ -244,27 +244,12 @@ place_other k c (Tag id name target tagger comment mark ∷ events) a h = place_
 place_other k c (Reset id branch target ∷ events) a h = place_other (suc k) c events a.1 (omega arith)
 place_other k c (Pass id line ∷ events) a h = place_other (suc k) c events a.1 (omega arith)
 
--- commits of two parts
-nodes_parts : (a b : List PlainEvent) → nodes (a ++ b) ≡ nodes a ++ nodes b
-nodes_parts [] b = refl
-nodes_parts (Commit id mark branch author committer encoding comment parents ops aliases ∷ a) b = ap (λ (l : List Node). record { id = id; parents = parents; ops = ops } ∷ l) (nodes_parts a b)
-nodes_parts (Blob id mark bytes ∷ a) b = nodes_parts a b
-nodes_parts (Tag id name target tagger comment mark ∷ a) b = nodes_parts a b
-nodes_parts (Reset id branch target ∷ a) b = nodes_parts a b
-nodes_parts (Pass id line ∷ a) b = nodes_parts a b
-
 -- a commit that the later part doesn't know
 tree_skips : (later older : Past) (c : ℕ) → knows later c ≡ false → tree_in (later ++ older) c ≡ tree_in older c
 tree_skips [] older c h = refl
 tree_skips (n ∷ later) older c h =
     let parts = or_parts (n.id == c) (knows later c) h in
     cond-false (n.id == c) (folded n.ops (begun (tree_in (later ++ older)) n.parents)) (tree_in (later ++ older) c) parts.0 ∙ tree_skips later older c parts.1
-
-knows_parts : (a b : Past) (c : ℕ) → knows a c ≡ false → knows b c ≡ false → knows (a ++ b) c ≡ false
-knows_parts [] b c h k = k
-knows_parts (n ∷ a) b c h k =
-    let parts = or_parts (n.id == c) (knows a c) h in
-    or_from (n.id == c) (knows (a ++ b) c) parts.0 (knows_parts a b c parts.1 k)
 
 -- what isn't an id of a commit isn't known
 unknown : (events : List PlainEvent) (c : ℕ) → has_id events (any.Commit c) ≡ false → knows (past events) c ≡ false
@@ -273,7 +258,7 @@ unknown (Commit id mark branch author committer encoding comment parents ops ali
     let own : Node = record { id = id; parents = parents; ops = ops } in
     let parts = or_parts (id == c) (has_id events (any.Commit c)) h in
     ap (λ (p : Past). knows p c) (reverse-append (own ∷ []) (nodes events))
-    ∙ knows_parts (past events) (own ∷ []) c (unknown events c parts.1) (or_from (id == c) false parts.0 refl)
+    ∙ unknown_both (past events) (own ∷ []) c (unknown events c parts.1) (or_from (id == c) false parts.0 refl)
 unknown (Blob id mark bytes ∷ events) c h = unknown events c h
 unknown (Tag id name target tagger comment mark ∷ events) c h = unknown events c h
 unknown (Reset id branch target ∷ events) c h = unknown events c h
@@ -284,22 +269,9 @@ pub own_tree : (done more : List PlainEvent) (id mark : ℕ) (branch : Bytes) (a
     → tree (done ++ Commit id mark branch author committer encoding comment parents ops [] ∷ more) id ≡ folded ops (begun (tree done) parents)
 own_tree done more id mark branch author committer encoding comment parents ops h =
     let own : Node = record { id = id; parents = parents; ops = ops } in
-    ap (λ (l : List Node). tree_in (reverse l) id) (nodes_parts done (Commit id mark branch author committer encoding comment parents ops [] ∷ more))
+    ap (λ (l : List Node). tree_in (reverse l) id) (nodes_append done (Commit id mark branch author committer encoding comment parents ops [] ∷ more))
     ∙ ap (λ (p : Past). tree_in p id) (reverse-append (nodes done) (own ∷ nodes more) ∙ ap (λ (p : Past). p ++ past done) (reverse-append (own ∷ []) (nodes more)) ∙ append_assoc (past more) (own ∷ []) (past done))
     ∙ tree_skips (past more) (own ∷ past done) id (unknown more id h)
     ∙ cond-true (id == id) (folded ops (begun (tree_in (past done)) parents)) (tree_in (past done) id) (eq-eqb id id refl)
 
 -- ---- operations
-
--- operations one after another, from a tree if there is one
-pub folded_parts : (front back : List FileOp) (o : Option Tree) → folded (front ++ back) o ≡ folded back (folded front o)
-folded_parts front back None = refl
-folded_parts front back (Some t) = go front t
-  where
-    go : (front : List FileOp) (t : Tree) → if_ok (apply_all (front ++ back) t) ≡ folded back (if_ok (apply_all front t))
-    go [] t = refl
-    go (op ∷ front) t = step (apply op t) (go front)
-      where
-        step : (r : Result Tree Refusal) → ((t : Tree) → if_ok (apply_all (front ++ back) t) ≡ folded back (if_ok (apply_all front t))) → if_ok (r >>= apply_all (front ++ back)) ≡ folded back (if_ok (r >>= apply_all front))
-        step (Ok t) f = f t
-        step (Err why) f = refl

@@ -9,3 +9,4 @@ pub mod Again
 pub mod Rows
 mod Bare
 mod BareTexts
+pub mod PlacedIds

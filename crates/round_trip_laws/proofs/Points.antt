@@ -1,7 +1,6 @@
 -- A text that is read on from a place between two lines: after a line, or after a line and its block of data.
 use Rattle.std.proofs.Common.{◌≡◌, ℕ, ◌+◌, Bool, true, false, cond, List, [], ◌∷◌, ◌++◌, length, take, drop, Some, Ok, refl, sym, ap, subst, ◌∙◌, arith, append_assoc, length-append, le-leb, take_at, drop_at, codes, None, not, ◌==◌, ne_eqb, leb-true}
 use Rattle.std.specs.Prelude.{nat_le}
-use Rattle.std.specs.List.{list_all}
 use Rattle.std.proofs.lemmas.Bool.{cond-true, cond-false, and_parts}
 use Rattle.plain_model.specs.declared.event.PlainEvent.{PlainEvent}
 use Rattle.plain_model.specs.Fields.{◌>>=◌, extent_by, extent_in, data_text, block_at}
@@ -14,8 +13,7 @@ use Rattle.field_laws.proofs.FieldSteps.{ok_then}
 use Rattle.field_laws.proofs.Lines.{line_read}
 use Rattle.field_laws.proofs.Numerals.{numeral_read}
 use Rattle.field_laws.proofs.Decimals.{numeral_of}
-use Rattle.field_laws.proofs.Written.{line_written}
-use Rattle.field_laws.proofs.Persons.{all_pass}
+use Rattle.field_laws.proofs.Written.{line_written, plain_digits}
 use Rattle.line_automaton.specs.Machine.{Next, outcome_from, all}
 use Rattle.line_automaton.specs.Machine.Next.{More, Block, Over}
 use Rattle.line_automaton.specs.Machine.Mode.{InLine}
@@ -104,10 +102,6 @@ text_ends p history free e n spelled =
 digit_plain : (b : ℕ) → is_digit b ≡ true → not (b == 10) ≡ true
 digit_plain b d = ap not (ne_eqb b 10 (λ e. absurd (let low = leb-true 48 b (and_parts (nat_le 48 b) (nat_le b 57) d).0 in omega arith)))
 
--- the digits of a number have no LF
-pub digits_plain : (digits : Bytes) → list_all is_digit digits ≡ true → has_no_lf digits ≡ true
-digits_plain digits h = all_pass is_digit (λ b. not (b == 10)) digit_plain digits h
-
 -- the line before a block says how far it goes
 pub extent_again : (n : ℕ) → extent_in (codes "data " ++ decimal_of n) ≡ Ok (Counted n)
 unfolding extent_in data_text
@@ -131,7 +125,7 @@ module _ (p : Point) (standing : Standing) (bytes : Bytes) (stands : after_word 
 
   head_leads : Leads p data_head word.Data (Block (length bytes)) before_block
   head_leads = record {
-    plain = digits_plain (decimal_of (length bytes)) (numeral_of (length bytes)).all;
+    plain = plain_digits (decimal_of (length bytes)) (numeral_of (length bytes)).all;
     no_comment = refl;
     word_is = refl;
     stands = stands;

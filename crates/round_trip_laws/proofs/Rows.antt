@@ -20,7 +20,7 @@ unfolding cut_at number_of number_within mark_of name_of zone_of when_of when_af
 is_read = refl
 
 -- each of the three commits has a tree
-three_trees : (a b c : Bool) (x y z : Tree) → (c || (b || (a || false))) ≡ true → IsSome (cond a (Some x) (cond b (Some y) (cond c (Some z) None)))
+pub three_trees : (a b c : Bool) (x y z : Tree) → (c || (b || (a || false))) ≡ true → IsSome (cond a (Some x) (cond b (Some y) (cond c (Some z) None)))
 three_trees true b c x y z h = refl
 three_trees false true c x y z h = refl
 three_trees false false true x y z h = refl

@@ -22,11 +22,12 @@ use Rattle.stream_grammar.specs.declared.lines.Expected.TheVariants as expected
 use Rattle.stream_grammar.specs.declared.lines.Word.TheVariants as word
 use Rattle.stream_grammar.specs.Known.{Open, OpenCommit, next_id, with_parent}
 use Rattle.stream_grammar.specs.Known.Open.{ACommit}
+use Rattle.history_laws.proofs.LineLaws.{folded_more}
 use Rattle.round_trip_laws.proofs.Points.{Point, point, Gives, line_goes, data_goes}
 use Rattle.round_trip_laws.proofs.WrittenLines.{is_known, may_end, commit_leads, commit_mark_leads, author_leads, committer_leads, encoding_leads, commit_from_leads, merge_leads, empty_leads}
 use Rattle.round_trip_laws.proofs.WrittenOps.{op_leads}
 use Rattle.round_trip_laws.proofs.WrittenEvents.{IsAfter, GivesAfter, promise_more}
-use Rattle.round_trip_laws.proofs.FoundAgain.{AreFound, folded_parts}
+use Rattle.round_trip_laws.proofs.FoundAgain.{AreFound}
 
 -- ---- parents that are apart
 
@@ -85,7 +86,7 @@ module _ (whole done : List PlainEvent) (aliases : List (ℕ × ℕ)) (found : A
   ops_go parents front (op ∷ ops) rest refers formed t k = λ d may.
       let b = begun (tree done) parents in
       let next = ops_go parents (front ++ op ∷ []) ops rest refers.1 formed.1
-      (subst IsSome (folded_parts (op ∷ []) ops (folded front b) ∙ ap (folded ops) (sym (folded_parts front (op ∷ []) b))) t)
+      (subst IsSome (folded_more (op ∷ []) ops (folded front b) ∙ ap (folded ops) (sym (folded_more front (op ∷ []) b))) t)
       (subst (λ (l : List FileOp). GivesAfterOps parents l rest) (sym (append_assoc front (op ∷ []) ops)) k) in
       subst (λ (text : Bytes). Gives (at_commit d parents front) text history) (sym (append_assoc (op_text whole op) (ops_text ops) rest))
       (line_goes (at_commit d parents front) (at_commit expected.CommitOperation parents (front ++ op ∷ [])) (raw_op_text (raw_op whole op)) (ops_text ops ++ rest) word.Operation history

@@ -1,5 +1,5 @@
 -- Each line that is written leads on, by its own rule.
-use Rattle.std.proofs.Common.{◌≡◌, inl, inr, ℕ, ◌≤◌, Bool, true, false, not, List, [], ◌∷◌, ◌++◌, length, Some, None, Ok, Err, refl, ap, ◌∙◌, arith, codes, decimal, leb-true, option_to_list, Option, nat_le, ne_eqb, ◌⊎◌}
+use Rattle.std.proofs.Common.{◌≡◌, inl, inr, ℕ, Bool, true, false, not, List, [], ◌∷◌, ◌++◌, length, Some, None, Ok, Err, refl, ap, ◌∙◌, arith, codes, decimal, option_to_list, Option, ne_eqb, ◌⊎◌}
 use Rattle.std.specs.Prelude.{◌==◌, ◌&&◌, ◌||◌, IsTrue}
 use Rattle.std.specs.List.{list_all, list_any}
 use Rattle.std.specs.Map.{lookup}
@@ -19,7 +19,7 @@ use Rattle.plain_model.specs.Snapshots.{refs}
 use Rattle.plain_model.specs.Soundness.{IsFormedSigned}
 use Rattle.plain_model.specs.People.{IsNamePart, IsZone, is_clean}
 use Rattle.plain_model.specs.Parts.{has_no_lf}
-use Rattle.field_laws.proofs.Written.{plain_name, plain_mark, mark_numeral, SignedFits, person_written, plain_join}
+use Rattle.field_laws.proofs.Written.{plain_name, plain_mark, mark_numeral, SignedFits, person_written, plain_join, plain_digits}
 use Rattle.field_laws.proofs.FieldSteps.{ok_then, or_defect_found}
 use Rattle.field_laws.proofs.FieldsAgain.{mark_again, person_again}
 use Rattle.line_automaton.specs.Machine.Next.{More, Over}
@@ -31,7 +31,8 @@ use Rattle.stream_grammar.specs.declared.lines.Word.TheVariants as word
 use Rattle.stream_grammar.specs.Known.{Open, OpenCommit, alias_marks, commit_with, ref_in, with_parent, is_left_out_ref, ensure, closed}
 use Rattle.stream_grammar.specs.Known.Open.{Nothing, ABlob, ACommit, ATag, AReset, AnAlias}
 use Rattle.stream_grammar.specs.Lines.{judged, aliased, gone_on, with_from, with_mark, begun_with, commit_on, follows}
-use Rattle.round_trip_laws.proofs.Points.{Point, point, Leads, digits_plain}
+use Rattle.field_laws.proofs.Persons.{digit_at_most}
+use Rattle.round_trip_laws.proofs.Points.{Point, point, Leads}
 
 -- ---- between events
 
@@ -186,10 +187,6 @@ none_of_digits test h (b ∷ bs) e =
     let parts = and_parts (is_digit b) (list_all is_digit bs) e in
     or_from (test b) (list_any test bs) (h b parts.0) (none_of_digits test h bs parts.1)
 
--- a digit is below 58
-digit_below : (b : ℕ) → is_digit b ≡ true → b ≤ 57
-digit_below b d = leb-true b 57 (and_parts (nat_le 48 b) (nat_le b 57) d).1
-
 and_false : (t : Bool) → (t && false) ≡ false
 and_false true = refl
 and_false false = refl
@@ -199,7 +196,7 @@ mark_kept : (mark : ℕ) → IsMark mark → is_left_out_ref (marked mark) ≡ f
 mark_kept mark h =
     let digits = decimal mark in
     or_from (list_any (λ b. (b == 94) || (b == 126)) (marked mark)) (((length (marked mark) == 40) || (length (marked mark) == 64)) && list_all is_any_hex (marked mark))
-    (none_of_digits (λ b. (b == 94) || (b == 126)) (λ b d. let low = digit_below b d in or_from (b == 94) (b == 126) (ne_eqb b 94 (λ e. absurd (omega arith))) (ne_eqb b 126 (λ e. absurd (omega arith)))) digits (mark_numeral mark h).all)
+    (none_of_digits (λ b. (b == 94) || (b == 126)) (λ b d. let low = digit_at_most b d in or_from (b == 94) (b == 126) (ne_eqb b 94 (λ e. absurd (omega arith))) (ne_eqb b 126 (λ e. absurd (omega arith)))) digits (mark_numeral mark h).all)
     (and_false ((length (marked mark) == 40) || (length (marked mark) == 64)))
 
 -- the commit that its mark names
@@ -264,8 +261,8 @@ zone_plain : (text : Bytes) (minus : Bool) (offset : ℕ) → IsZone text minus 
 zone_plain text minus offset z = ap has_no_lf z.is ∙ go z.signed
   where
     go : ((z.sign ≡ 43) × (minus ≡ false)) ⊎ ((z.sign ≡ 45) × (minus ≡ true)) → has_no_lf (z.sign ∷ z.digits) ≡ true
-    go (inl e) = ap (λ b. has_no_lf (b ∷ z.digits)) e.0 ∙ digits_plain z.digits z.numeral.all
-    go (inr e) = ap (λ b. has_no_lf (b ∷ z.digits)) e.0 ∙ digits_plain z.digits z.numeral.all
+    go (inl e) = ap (λ b. has_no_lf (b ∷ z.digits)) e.0 ∙ plain_digits z.digits z.numeral.all
+    go (inr e) = ap (λ b. has_no_lf (b ∷ z.digits)) e.0 ∙ plain_digits z.digits z.numeral.all
 
 -- who and when have no LF
 person_plain : (who : Signed) → IsFormedSigned who → has_no_lf (person who) ≡ true
@@ -275,7 +272,7 @@ person_plain who h =
     ap has_no_lf s.is
     ∙ plain_join s.part (60 ∷ (who.person.email ++ 62 ∷ 32 ∷ (s.digits ++ 32 ∷ s.zone))) (part_plain s.part who.person.name s.name fits.plain_name)
     (plain_join who.person.email (62 ∷ 32 ∷ (s.digits ++ 32 ∷ s.zone)) fits.plain_email
-    (plain_join s.digits (32 ∷ s.zone) (digits_plain s.digits s.seconds.all) (zone_plain s.zone who.when.minus who.when.offset s.offset)))
+    (plain_join s.digits (32 ∷ s.zone) (plain_digits s.digits s.seconds.all) (zone_plain s.zone who.when.minus who.when.offset s.offset)))
 
 -- a line of who and when
 module _ (wants : Bool) (done : List PlainEvent) (aliases : List (ℕ × ℕ)) (who : Signed) (formed : IsFormedSigned who) where

@@ -1,5 +1,5 @@
 -- The line of an operation leads on to that operation.
-use Rattle.std.proofs.Common.{◌≡◌, ℕ, Bool, true, false, cond, not, List, [], ◌∷◌, ◌++◌, length, drop, Option, Some, None, Result, Ok, refl, sym, ap, subst, ◌∙◌, codes, flat_map, append_assoc, append-nil, ne_eqb, option_map, drop_at, decimal}
+use Rattle.std.proofs.Common.{◌≡◌, ℕ, Bool, true, false, cond, not, List, [], ◌∷◌, ◌++◌, length, drop, Option, Some, None, Result, Ok, refl, ap, ◌∙◌, codes, flat_map, append_assoc, option_map, drop_at}
 use Rattle.std.specs.Prelude.{◌==◌, ◌&&◌, ◌||◌, bytes_eq, IsSome}
 use Rattle.std.specs.List.{list_all, list_any}
 use Rattle.std.proofs.lemmas.Bool.{and_from, and_parts, or_parts}
@@ -12,7 +12,7 @@ use Rattle.plain_model.specs.declared.operation.Content.{Content}
 use Rattle.plain_model.specs.declared.operation.Content.TheVariants.{Blob as OfBlob, Object}
 use Rattle.plain_model.specs.declared.operation.FileOp.{FileOp}
 use Rattle.plain_model.specs.declared.operation.FileOp.TheVariants.{Modify, Delete, Copy, Rename, DeleteAll}
-use Rattle.plain_model.specs.declared.raw.Place.TheVariants.{Last, Source}
+use Rattle.plain_model.specs.declared.raw.Place.TheVariants.{Source}
 use Rattle.plain_model.specs.declared.raw.RawContent.{RawContent}
 use Rattle.plain_model.specs.declared.raw.RawContent.TheVariants as spelled
 use Rattle.plain_model.specs.declared.raw.RawOp.TheVariants as rawop
@@ -25,13 +25,12 @@ use Rattle.plain_model.specs.Soundness.{IsFormedContent, IsFormedOp, RefersBack,
 use Rattle.plain_model.specs.Text.{LF, quoted_byte, quoted, begins_quoted, last_path, source_path, raw_content_text, raw_op_text, raw_content, raw_op}
 use Rattle.plain_model.specs.Parts.{has_no_lf}
 use Rattle.plain_model.specs.Objects.{is_hex, is_object}
-use Rattle.plain_model.specs.Numbers.{is_digit}
-use Rattle.field_laws.proofs.Words.{after_space-space, first_word-space, has_no_space}
+use Rattle.field_laws.proofs.Words.{after_space-space, first_word-space}
 use Rattle.field_laws.proofs.FieldSteps.{ok_then}
-use Rattle.field_laws.proofs.Persons.{all_pass, digit_isnt}
-use Rattle.field_laws.proofs.FieldsAgain.{content_again}
+use Rattle.field_laws.proofs.Persons.{all_pass}
+use Rattle.field_laws.proofs.FieldsAgain.{content_again, last_path_again, hex_isnt, spaceless, both}
 use Rattle.field_laws.proofs.PathsAgain.{path_again}
-use Rattle.field_laws.proofs.Written.{plain_join, plain_mark, mark_numeral}
+use Rattle.field_laws.proofs.Written.{plain_join, plain_mark}
 use Rattle.line_automaton.specs.Machine.Next.{More}
 use Rattle.stream_grammar.specs.declared.lines.Expected.{Expected}
 use Rattle.stream_grammar.specs.declared.lines.Expected.TheVariants as expected
@@ -90,18 +89,10 @@ two_plain source target = plain_join (source_path source ++ codes " ") (last_pat
 
 -- ---- what is put
 
-hex_isnt : (d other : ℕ) → is_hex other ≡ false → is_hex d ≡ true → (d == other) ≡ false
-hex_isnt d other n h = ne_eqb d other (λ e. absurd (let both : is_hex other ≡ true = subst (λ b. is_hex b ≡ true) e h in cc))
-
 digits_of : (digits : Bytes) → is_object digits ≡ true → list_all is_hex digits ≡ true
 digits_of digits h =
     let a = and_parts ((length digits == 40) && list_all is_hex digits) (not (list_all (λ b. b == 48) digits)) h in
     (and_parts (length digits == 40) (list_all is_hex digits) a.0).1
-
-spaceless : (content : RawContent) → ContentFits content → has_no_space (raw_content_text content) ≡ true
-spaceless (spelled.Marked mark) h = all_pass is_digit (λ b. not (b == 32)) digit_isnt (decimal mark) (mark_numeral mark h).all
-spaceless (spelled.Object digits) h = all_pass is_hex (λ b. not (b == 32)) (λ b e. ap not (hex_isnt b 32 refl e)) digits (digits_of digits h)
-spaceless spelled.Inline h = refl
 
 content_plain : (content : RawContent) → ContentFits content → has_no_lf (raw_content_text content) ≡ true
 content_plain (spelled.Marked mark) h = plain_mark mark h
@@ -142,20 +133,8 @@ module _ (whole done : List PlainEvent) (found : AreFound whole done) where
   no_inline (OfBlob b) h = refl
   no_inline (Object digits) h = digits_no_inline digits (digits_of digits h)
 
-last_again : (path : Bytes) → IsPath path → last_path_in (Some (last_path path)) ≡ Ok path
-unfolding last_path_in
-last_again path h =
-    ok_then (path_in Last (last_path path)) (λ p. path_of p.0) (path, length (last_path path)) (Ok path)
-    (ap (path_in Last) (sym (append-nil (last_path path))) ∙ path_again Last path [] h refl) refl
-  where
-    path_of : Bytes → Result Bytes Why
-    path_of p = Ok p
-
 abbrev modified : Mode → Content → Bytes → Result FileOp Why
 modified mode content path = Ok (Modify mode content path)
-
-abbrev both : Bytes → Bytes → Result (Bytes × Bytes) Why
-both source target = Ok (source, target)
 
 -- the fields after a mode
 module _ (done : List PlainEvent) (mode : Mode) (raw : RawContent) (content : Content) (path : Bytes)
@@ -175,7 +154,7 @@ module _ (done : List PlainEvent) (mode : Mode) (raw : RawContent) (content : Co
       ok_then (content_in mode (first_word fields)) (λ r. placed done r >>= λ c. last_path_in (after_space fields) >>= λ p. modified mode c p) raw (modified mode content path)
       (ap (content_in mode) first_field ∙ content_again mode raw path its fits)
       (ok_then (placed done raw) (λ c. last_path_in (after_space fields) >>= λ p. modified mode c p) content (modified mode content path) there
-      (ok_then (last_path_in (after_space fields)) (λ p. modified mode content p) path (modified mode content path) (ap last_path_in after ∙ last_again path is_path) refl))
+      (ok_then (last_path_in (after_space fields)) (λ p. modified mode content p) path (modified mode content path) (ap last_path_in after ∙ last_path_again path is_path) refl))
 
   fields_plain : has_no_lf fields ≡ true
   fields_plain = plain_join (raw_content_text raw ++ codes " ") (last_path path) (plain_join (raw_content_text raw) (codes " ") (content_plain raw fits) refl) (last_plain path)
@@ -218,7 +197,7 @@ paths_again t source target h k there =
     (ap (path_in Source) whole ∙ path_again Source source (32 ∷ last_path target) h refl)
     (ok_then (ensure (has_source source t) MissingSource) (λ yes. last_path_in (after_space (drop size text)) >>= λ p. both source p) tt (both source target) (ap (λ b. ensure b MissingSource) there)
     (ok_then (last_path_in (after_space (drop size text))) (λ p. both source p) target (both source target)
-    (ap (λ (l : Bytes). last_path_in (after_space l)) (ap (drop size) whole ∙ drop_at (source_path source) (32 ∷ last_path target) size refl) ∙ last_again target k) refl))
+    (ap (λ (l : Bytes). last_path_in (after_space l)) (ap (drop size) whole ∙ drop_at (source_path source) (32 ∷ last_path target) size refl) ∙ last_path_again target k) refl))
 
 -- what isn't refused for want of a source has it
 copied_source : (source target : Bytes) (ops : List FileOp) (o : Option Tree) → IsSome (folded (Copy source target ∷ ops) o) → has_source source o ≡ true
@@ -269,7 +248,7 @@ module _ (whole done : List PlainEvent) (found : AreFound whole done) (c : OpenC
     plain = last_plain path;
     no_comment = refl;
     word_is = refl;
-    again = ok_then (last_path_in (Some (last_path path))) (λ p. Ok (Delete p)) path (Ok (Delete path)) (last_again path is_path) refl;
+    again = ok_then (last_path_in (Some (last_path path))) (λ p. Ok (Delete p)) path (Ok (Delete path)) (last_path_again path is_path) refl;
   }
   op_line (Copy source target) ops refers (h, k) tree = record {
     plain = two_plain source target;

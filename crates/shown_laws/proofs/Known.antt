@@ -14,9 +14,10 @@ use Rattle.plain_model.specs.Names.{is_name}
 use Rattle.plain_model.specs.Trees.{TreeOf, has, put}
 use Rattle.plain_model.specs.Soundness.{AreSoundAfter, IsCommitOf, IsFormedEvent, IsFormedSigned, IsSoundEvent, RefersBack, has_id, is_passed_line}
 use Rattle.plain_model.specs.Streams.{is_marked}
+use Rattle.history_laws.proofs.Ids.{has_id-append, has_id_still, has_own, is_marked-append}
+use Rattle.std.proofs.Math.Bool.{or-false}
 use Rattle.shown_laws.specs.AsWritten.{reset_from}
 use Rattle.shown_laws.proofs.Tips.{without_branch}
-use Rattle.shown_laws.proofs.Ids.{has_id-append, has_id_still, has_own, is_marked-append}
 
 -- ---- referents
 
@@ -136,16 +137,12 @@ alike_more old new e a = record {
   marks = λ m. is_marked-append old (e ∷ []) m ∙ ap (λ t. t || is_marked (e ∷ []) m) (a.marks m) ∙ sym (is_marked-append new (e ∷ []) m);
 }
 
-or_none : (b : Bool) → (b || false) ≡ b
-or_none true = refl
-or_none false = refl
-
 -- a reset more
 alike_reset : (old new : List PlainEvent) (branch : List ℕ) → AreAlike old new → AreAlike old (new ++ Reset 0 branch None ∷ [])
 alike_reset old new branch a = record {
-  blobs = λ b. a.blobs b ∙ sym (has_id-append new (Reset 0 branch None ∷ []) (any.Blob b) ∙ or_none (has_id new (any.Blob b)));
-  commits = λ c. a.commits c ∙ sym (has_id-append new (Reset 0 branch None ∷ []) (any.Commit c) ∙ or_none (has_id new (any.Commit c)));
-  marks = λ m. a.marks m ∙ sym (is_marked-append new (Reset 0 branch None ∷ []) m ∙ or_none (is_marked new m));
+  blobs = λ b. a.blobs b ∙ sym (has_id-append new (Reset 0 branch None ∷ []) (any.Blob b) ∙ or-false (has_id new (any.Blob b)));
+  commits = λ c. a.commits c ∙ sym (has_id-append new (Reset 0 branch None ∷ []) (any.Commit c) ∙ or-false (has_id new (any.Commit c)));
+  marks = λ m. a.marks m ∙ sym (is_marked-append new (Reset 0 branch None ∷ []) m ∙ or-false (is_marked new m));
 }
 
 module _ (old new : List PlainEvent) (a : AreAlike old new) where

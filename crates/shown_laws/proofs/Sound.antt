@@ -13,12 +13,14 @@ use Rattle.plain_model.specs.declared.operation.FileOp.TheVariants.{Modify, Dele
 use Rattle.plain_model.specs.declared.event.PlainEvent.{PlainEvent}
 use Rattle.plain_model.specs.declared.event.PlainEvent.TheVariants.{Blob, Commit, Tag, Reset, Pass}
 use Rattle.plain_model.specs.Lookups.{id_of, id_number, place_of, same_id}
-use Rattle.plain_model.specs.Snapshots.{refs, refs_after}
+use Rattle.plain_model.specs.Snapshots.{refs}
 use Rattle.plain_model.specs.Soundness.{AreSoundAfter, IsCommitOf, IsFormedEvent, IsFormedOp, IsSoundEvent, RefersBack, are_distinct, has_id}
-use Rattle.plain_model.specs.Trees.{TreeOf, put}
+use Rattle.plain_model.specs.Trees.{TreeOf}
 use Rattle.round_trip_laws.specs.AsRead.{AreRootedAfter, IsRooted}
+use Rattle.history_laws.proofs.Ids.{has_id_step, same_id-refl, same_id-comm}
+use Rattle.history_laws.proofs.Commits.{refs_append}
+use Rattle.round_trip_laws.proofs.PlacedIds.{id_below}
 use Rattle.shown_laws.specs.AsWritten.{place, renamed, renamed_from, renamed_op}
-use Rattle.shown_laws.proofs.Ids.{has_id_step, id_below, same_id-refl}
 use Rattle.shown_laws.proofs.Known.{AreFitAfter, IsFitEvent}
 use Rattle.shown_laws.proofs.Places.{Agree, agree_front, append_under, blob_under, commit_under, length_under, marks_under, one_place, placed}
 use Rattle.shown_laws.proofs.Resets.{AreRootedOn, IsRootedOn}
@@ -32,45 +34,12 @@ more earlier e k is = let many = length-append earlier (e ∷ []) in omega arith
 one_more : (earlier : List PlainEvent) (e : PlainEvent) (k : ℕ) → k ≡ 1 + length earlier → suc k ≡ 1 + length (earlier ++ e ∷ [])
 one_more earlier e k is = let many = length-append earlier (e ∷ []) in omega arith
 
-turned : (m n : ℕ) → (m == n) ≡ (n == m)
-turned m n = elim (cases_Bool (m == n)) [
-  | inl is ↦ is ∙ sym (eq-eqb n m (sym (eqb-true m n is)))
-  | inr other ↦ other ∙ sym (ne_eqb n m (λ e. let is = eq-eqb m n (sym e) in absurd cc))
-]
-
-same_turned : (a b : AnyId) → same_id a b ≡ same_id b a
-same_turned (any.Blob a) (any.Blob b) = turned a b
-same_turned (any.Commit a) (any.Commit b) = turned a b
-same_turned (any.Tag a) (any.Tag b) = turned a b
-same_turned (any.Reset a) (any.Reset b) = turned a b
-same_turned (any.Pass a) (any.Pass b) = turned a b
-same_turned (any.Blob a) (any.Commit b) = refl
-same_turned (any.Blob a) (any.Tag b) = refl
-same_turned (any.Blob a) (any.Reset b) = refl
-same_turned (any.Blob a) (any.Pass b) = refl
-same_turned (any.Commit a) (any.Blob b) = refl
-same_turned (any.Commit a) (any.Tag b) = refl
-same_turned (any.Commit a) (any.Reset b) = refl
-same_turned (any.Commit a) (any.Pass b) = refl
-same_turned (any.Tag a) (any.Blob b) = refl
-same_turned (any.Tag a) (any.Commit b) = refl
-same_turned (any.Tag a) (any.Reset b) = refl
-same_turned (any.Tag a) (any.Pass b) = refl
-same_turned (any.Reset a) (any.Blob b) = refl
-same_turned (any.Reset a) (any.Commit b) = refl
-same_turned (any.Reset a) (any.Tag b) = refl
-same_turned (any.Reset a) (any.Pass b) = refl
-same_turned (any.Pass a) (any.Blob b) = refl
-same_turned (any.Pass a) (any.Commit b) = refl
-same_turned (any.Pass a) (any.Tag b) = refl
-same_turned (any.Pass a) (any.Reset b) = refl
-
 -- an event whose id is nowhere before it has its place
 place_own : (earlier events : List PlainEvent) (e : PlainEvent) → has_id earlier (id_of e) ≡ false → place_of (id_of e) (earlier ++ e ∷ events) ≡ Some (length earlier)
 place_own [] events e h = cond-true (same_id (id_of e) (id_of e)) (Some 0) (option_map suc (place_of (id_of e) events)) (same_id-refl (id_of e))
 place_own (x ∷ earlier) events e h =
     let parts = or_parts (same_id (id_of x) (id_of e)) (has_id earlier (id_of e)) (sym (has_id_step x earlier (id_of e)) ∙ h) in
-    cond-false (same_id (id_of e) (id_of x)) (Some 0) (option_map suc (place_of (id_of e) (earlier ++ e ∷ events))) (same_turned (id_of e) (id_of x) ∙ parts.0)
+    cond-false (same_id (id_of e) (id_of x)) (Some 0) (option_map suc (place_of (id_of e) (earlier ++ e ∷ events))) (same_id-comm (id_of e) (id_of x) ∙ parts.0)
     ∙ ap (option_map suc) (place_own earlier events e parts.1)
 
 place_is : (earlier events : List PlainEvent) (e : PlainEvent) (k : ℕ) → k ≡ length earlier + 1 → has_id earlier (id_of e) ≡ false → place (earlier ++ e ∷ events) (id_of e) ≡ k
@@ -249,15 +218,6 @@ module _ (blob commit : ℕ → ℕ) where
   formed_under k (Pass id line ∷ events) h = (h.0, formed_under (suc k) events h.1)
 
 -- ---- roots
-
-pub refs_append : (t : TreeOf ℕ) (a b : List PlainEvent) → refs_after t (a ++ b) ≡ refs_after (refs_after t a) b
-refs_append t [] b = refl
-refs_append t (Blob id mark bytes ∷ a) b = refs_append t a b
-refs_append t (Commit id mark branch author committer encoding comment parents ops aliases ∷ a) b = refs_append (put branch id t) a b
-refs_append t (Tag id name target tagger comment mark ∷ a) b = refs_append t a b
-refs_append t (Reset id branch None ∷ a) b = refs_append _ a b
-refs_append t (Reset id branch (Some c) ∷ a) b = refs_append (put branch c t) a b
-refs_append t (Pass id line ∷ a) b = refs_append t a b
 
 event_rooted : (earlier : List PlainEvent) (e : PlainEvent) → IsRootedOn (refs earlier) e → IsRooted earlier e
 event_rooted earlier (Commit id mark branch author committer encoding comment [] ops aliases) h = h

@@ -1,9 +1,8 @@
 -- What a machine keeps while it reads a text: of a state where a line is expected, of one that waits for a block, and of the
 -- last one. A line that is stepped over has no LF.
-use Rattle.std.proofs.Common.{◌≡◌, ℕ, zero, suc, ◌+◌, Bool, true, false, cond, not, [], ◌∷◌, ◌++◌, Result, Ok, Err, refl, ap, subst, ◌∙◌}
+use Rattle.std.proofs.Common.{◌≡◌, ℕ, zero, suc, ◌+◌, Bool, true, false, cond, not, [], ◌∷◌, ◌++◌, Result, Ok, Err, refl, ap, subst}
 use Rattle.std.specs.Prelude.{bytes_eq, ◌==◌}
 use Rattle.std.proofs.lemmas.Bool.{and_from}
-use Rattle.std.proofs.lemmas.List.Folds.{list_all-append}
 use Rattle.plain_model.specs.Paths.{Bytes}
 use Rattle.plain_model.specs.Parts.{is_lf, has_no_lf}
 use Rattle.line_automaton.specs.Machine.{Next, Automaton, Mode, Machine, Outcome, number_past, answered, moved, feed, run, closed, verdict, begun, outcome, all}
@@ -11,6 +10,7 @@ use Rattle.line_automaton.specs.Machine.Next.{More, Block, Until, Over}
 use Rattle.line_automaton.specs.Machine.Mode.{InLine, InBlock, After, InDelimited, Ended}
 use Rattle.line_automaton.specs.Machine.Machine.{At, Stopped}
 use Rattle.line_automaton.specs.Machine.Outcome.{Reads, Misses}
+use Rattle.line_automaton.proofs.Completion.{has_no_lf-push}
 
 -- What holds of a state, by what follows the line.
 abbrev pub IsAfter : {State : Type 0} → (IsReady IsPending IsLast : State → Type 0) → Next → State → Type 0
@@ -39,16 +39,12 @@ module _ {State Why : Type 0} (a : Automaton State Why) (IsReady IsPending IsLas
   keeps_answer k l line s (Ok (new, Until m)) h plain e = stepped s line new (Until m) h plain e
   keeps_answer k l line s (Ok (new, Over)) h plain e = stepped s line new Over h plain e
 
-  -- one more byte of a line, which is no LF
-  plain_more : (text : Bytes) (c : ℕ) → has_no_lf text ≡ true → is_lf c ≡ false → has_no_lf (text ++ c ∷ []) ≡ true
-  plain_more text c h e = list_all-append (λ b. not (b == 10)) text (c ∷ []) ∙ and_from (has_no_lf text) (has_no_lf (c ∷ [])) h (and_from (not (c == 10)) true (ap not e) refl)
-
   keeps_byte : (k : ℕ) (mode : Mode) (s : State) (c : ℕ) → Keeps (At k mode s) → Keeps (feed a all (At k mode s) c)
   keeps_byte k (InLine text) s c h = go (is_lf c) refl
     where
       go : (u : Bool) → is_lf c ≡ u → Keeps (moved a k (number_past k c) (cond u (answered a k text (a.step true s text)) (Ok (InLine (text ++ c ∷ []), s))))
       go true e = keeps_answer k (number_past k c) text s (a.step true s text) h.0 h.1 refl
-      go false e = (h.0, plain_more text c h.1 e)
+      go false e = (h.0, has_no_lf-push text c h.1 e)
   keeps_byte k (InBlock from zero bytes) s c h = arrived s (bytes ++ c ∷ []) h
   keeps_byte k (InBlock from (suc l) bytes) s c h = h
   keeps_byte k (After inside) s c h = go (is_lf c) refl

@@ -1,7 +1,7 @@
 -- What each line keeps of the event that is being read.
 use Rattle.std.proofs.Common.{◌≡◌, ℕ, ◌+◌, ◌≤◌, Bool, true, false, cond, not, List, [], ◌∷◌, ◌++◌, length, Option, Some, None, Ok, refl, sym, ap, subst, ◌∙◌, inl, inr, arith, eq-eqb, ne_eqb}
 use Rattle.std.specs.Prelude.{◌==◌, IfSome, is_some, nat_lt, option_to_list}
-use Rattle.std.specs.List.{AllByRecursion, list_any}
+use Rattle.std.specs.List.{list_any}
 use Rattle.std.proofs.lemmas.Bool.{and_parts, and_from, or_from, or_parts, not-true}
 use Rattle.std.proofs.lemmas.Bool.Decides.{nat_tests}
 use Rattle.plain_model.specs.declared.limit.TheConstants.{MAX_EVENTS, MAX_OPERATIONS, MAX_PARENTS}
@@ -24,14 +24,10 @@ use Rattle.stream_grammar.specs.Known.Open.{Nothing, ABlob, ACommit, ATag, ARese
 use Rattle.stream_grammar.specs.Limits.{limit_if, last_limit, tree_limit, op_limit, open_parents, event_count, op_count}
 use Rattle.stream_grammar.specs.Lines.{with_mark, with_commit, with_from, with_tagger, with_operation}
 use Rattle.field_laws.proofs.FieldSteps.{bind_ok, same_Ok}
+use Rattle.history_laws.proofs.Lists.{all_imply, all_join}
 use Rattle.soundness_laws.proofs.Kept.{IsOpenWell, HasMark, HasTarget, HasNoOps}
 use Rattle.soundness_laws.proofs.OpsRead.{IsOp, tree_after}
-use Rattle.soundness_laws.proofs.SoFar.{IsMarkYet, IsCommitSoFar, HaveTrees, all_imply}
-
--- what holds of two lists holds of both together
-pub all_join : {A : Type 0} (P : A → Type 0) (xs ys : List A) → AllByRecursion P xs → AllByRecursion P ys → AllByRecursion P (xs ++ ys)
-all_join P [] ys a b = b
-all_join P (x ∷ xs) ys a b = (a.0, all_join P xs ys a.1 b)
+use Rattle.soundness_laws.proofs.SoFar.{IsMarkYet, IsCommitSoFar, HaveTrees}
 
 -- ---- a new commit
 

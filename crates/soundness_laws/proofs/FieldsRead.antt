@@ -2,7 +2,6 @@
 use Rattle.std.proofs.Common.{◌≡◌, ℕ, ◌-◌, ◌≤◌, Bool, true, false, cond, not, [], ◌∷◌, ◌++◌, length, drop, codes, Option, Some, None, Result, Ok, Err, refl, sym, ap, subst, ◌∙◌, inl, inr}
 use Rattle.std.specs.Prelude.{◌==◌, ◌&&◌, bytes_eq}
 use Rattle.std.proofs.lemmas.Bool.{and_parts}
-use Rattle.std.proofs.lemmas.List.Folds.{list_all-append}
 use Rattle.std.proofs.lemmas.Option.{cond_some}
 use Rattle.plain_model.specs.declared.fault.Why.{Why}
 use Rattle.plain_model.specs.declared.fault.Why.TheVariants.{BadMark, BadName, BadPath, LeftOut}
@@ -28,12 +27,9 @@ use Rattle.stream_grammar.specs.Lines.{text_of}
 use Rattle.field_laws.proofs.FieldSteps.{bind_ok, or_defect_is, same_Ok}
 use Rattle.field_laws.proofs.Numerals.{mark_is}
 use Rattle.field_laws.proofs.Persons.{person_in_is, four_digits}
+use Rattle.field_laws.proofs.Written.{plain_parts}
 
 -- ---- parts of a line
-
--- two parts of a text without LF
-pub plain_parts : (a b : Bytes) → has_no_lf (a ++ b) ≡ true → (has_no_lf a ≡ true) × (has_no_lf b ≡ true)
-plain_parts a b h = and_parts (has_no_lf a) (has_no_lf b) (sym (list_all-append (λ c. not (c == 10)) a b) ∙ h)
 
 -- what is after the first space
 pub plain_text : (line : Bytes) → has_no_lf line ≡ true → has_no_lf (text_of line) ≡ true

@@ -22,12 +22,13 @@ use Rattle.plain_model.specs.Trees.{TreeOf, at}
 use Rattle.stream_grammar.specs.Known.{Known, alias_marks, aliases_for, closed, greatest_read, history_of}
 use Rattle.stream_grammar.specs.Limits.{last_mark, own_want, unmarked_count, want_of}
 use Rattle.round_trip_laws.specs.AsRead.{IsRooted, AreRootedAfter, IsAsRead}
-use Rattle.soundness_laws.proofs.Ids.{id_below}
+use Rattle.history_laws.proofs.Lists.{all_imply}
+use Rattle.round_trip_laws.proofs.PlacedIds.{id_below}
 use Rattle.soundness_laws.proofs.Kept.{AreKnown}
 use Rattle.soundness_laws.proofs.MarkSums.{AreOnce, marks_distinct, marks_new, one, weigh, weight, weight-append}
 use Rattle.soundness_laws.proofs.Marking.{are_once, has_id_same, history_is, mark_above, marked-append, marked_event, marked_events, nodes_same, placed_same, refs_same, unmarked-append}
 use Rattle.soundness_laws.proofs.MarksOnce.{IsOnce, closed_once}
-use Rattle.soundness_laws.proofs.SoFar.{AreWell, AreWellAfter, HaveTrees, IsMarkYet, IsWellEvent, all_imply, are_placed, have_trees, refers_imply, well_more}
+use Rattle.soundness_laws.proofs.SoFar.{AreWell, AreWellAfter, HaveTrees, IsMarkYet, IsWellEvent, are_placed, have_trees, refers_imply, well_more}
 
 -- ---- one event
 

@@ -17,8 +17,11 @@ use Rattle.stream_grammar.specs.declared.lines.Expected.TheVariants as expected
 use Rattle.stream_grammar.specs.Known.{Known, OpenCommit, Open, next_id, with_event, closed, closed_commit, with_data}
 use Rattle.stream_grammar.specs.Known.Open.{Nothing, ABlob, ACommit, ATag, AReset, AnAlias}
 use Rattle.stream_grammar.specs.Lines.{is_required, is_inline_expected}
-use Rattle.soundness_laws.proofs.Ids.{has_id-append, has_id_still, past_same, refs_append}
-use Rattle.soundness_laws.proofs.SoFar.{IsMarkYet, IsCommitSoFar, IsWellEvent, AreWell, well_more, all_imply, refers_imply}
+use Rattle.history_laws.proofs.Ids.{has_id-append, has_id_still}
+use Rattle.history_laws.proofs.Commits.{refs_append}
+use Rattle.history_laws.proofs.Lists.{all_imply}
+use Rattle.soundness_laws.proofs.Ids.{past_same}
+use Rattle.soundness_laws.proofs.SoFar.{IsMarkYet, IsCommitSoFar, IsWellEvent, AreWell, well_more, refers_imply}
 
 -- ---- what is kept
 

@@ -11,7 +11,7 @@ use Rattle.plain_model.specs.Marks.{IsMark}
 use Rattle.plain_model.specs.Soundness.{are_distinct}
 use Rattle.plain_model.specs.Streams.{is_among, is_marked}
 use Rattle.stream_grammar.specs.Known.{alias_marks, aliases_for}
-use Rattle.soundness_laws.proofs.Ids.{or_assoc}
+use Rattle.std.proofs.Math.Bool.{or_assoc}
 
 -- ---- sums
 
@@ -40,8 +40,8 @@ weight-append f (x ∷ a) b = let more = weight-append f a b in omega arith
 -- ---- marks that are there
 
 marked_step : (e : PlainEvent) (events : List PlainEvent) (m : ℕ) → is_marked (e ∷ events) m ≡ (is_among (event_marks e) m || is_marked events m)
-marked_step (Blob id mark bytes) events m = or_assoc (mark == m) false (is_marked events m)
-marked_step (Commit id mark branch author committer encoding comment parents ops aliases) events m = or_assoc (mark == m) (is_among aliases m) (is_marked events m)
+marked_step (Blob id mark bytes) events m = sym (or_assoc (mark == m) false (is_marked events m))
+marked_step (Commit id mark branch author committer encoding comment parents ops aliases) events m = sym (or_assoc (mark == m) (is_among aliases m) (is_marked events m))
 marked_step (Tag id name target tagger comment mark) events m = refl
 marked_step (Reset id branch target) events m = refl
 marked_step (Pass id line) events m = refl

@@ -20,9 +20,9 @@ use Rattle.round_trip_laws.specs.AsRead.{ArePlaced, IsRooted, AreRootedAfter, Is
 
 -- ---- positions
 
-all_at : {A : Type 0} (P : A → Type 0) (front back : List A) (x : A) → AllByRecursion P (front ++ x ∷ back) → P x
-all_at P [] back x h = h.0
-all_at P (y ∷ front) back x h = all_at P front back x h.1
+holds_at : {A : Type 0} (P : A → Type 0) (front back : List A) (x : A) → AllByRecursion P (front ++ x ∷ back) → P x
+holds_at P [] back x h = h.0
+holds_at P (y ∷ front) back x h = holds_at P front back x h.1
 
 placed_at : (k : ℕ) (front back : List PlainEvent) (e : PlainEvent) → ArePlaced k (front ++ e ∷ back) → id_number (id_of e) ≡ k + length front
 placed_at k [] back e h = h.0 ∙ (let same : k ≡ k + 0 = omega arith in same)
@@ -47,7 +47,7 @@ module _ (front back : List PlainEvent) where
   -- ---- what is never read
 
   pub no_mark : (id : ℕ) (bytes : Bytes) → IsAsRead (front ++ Blob id 0 bytes ∷ back) → ⊥
-  no_mark id bytes h = let least = (all_at IsFormedEvent front back (Blob id 0 bytes) h.sound.spelled).0 in absurd (omega arith)
+  no_mark id bytes h = let least = (holds_at IsFormedEvent front back (Blob id 0 bytes) h.sound.spelled).0 in absurd (omega arith)
 
   pub mark_twice : (id mark : ℕ) (bytes : Bytes) → IsTrue (is_marked front mark) → IsAsRead (front ++ Blob id mark bytes ∷ back) → ⊥
   mark_twice id mark bytes there h = let new = (own_sound (Blob id mark bytes) h).1 in absurd cc
@@ -80,7 +80,7 @@ module _ (front back : List PlainEvent) where
     root_on_tip tip ops aliases is h = let none = rooted_at [] front back (commit [] ops aliases) h.rooted in let there : has (refs front) branch ≡ true = ap is_some is in absurd cc
 
     pub no_path : (parents : List ℕ) (path : Bytes) (fault : PathFault) (ops : List FileOp) (aliases : List ℕ) → path_fault path ≡ Some fault → IsAsRead (front ++ commit parents (Delete path ∷ ops) aliases ∷ back) → ⊥
-    no_path parents path fault ops aliases is h = let none = (all_at IsFormedEvent front back (commit parents (Delete path ∷ ops) aliases) h.sound.spelled).1.0 in absurd cc
+    no_path parents path fault ops aliases is h = let none = (holds_at IsFormedEvent front back (commit parents (Delete path ∷ ops) aliases) h.sound.spelled).1.0 in absurd cc
 
   pub later_target : (id target : ℕ) (name : Bytes) (tagger : Option Signed) (comment : Bytes) (mark : Option ℕ) → IsFalse (has_id front (any.Commit target)) → IsAsRead (front ++ Tag id name target tagger comment mark ∷ back) → ⊥
   later_target id target name tagger comment mark isnt h = let there = (own_sound (Tag id name target tagger comment mark) h).2 in absurd cc

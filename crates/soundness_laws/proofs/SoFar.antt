@@ -2,11 +2,6 @@
 use Rattle.std.proofs.Common.{◌≡◌, ℕ, suc, ◌+◌, ◌≤◌, Bool, true, false, cond, List, [], ◌∷◌, ◌++◌, length, Some, None, refl, sym, ap, subst, ◌∙◌, inl, inr, ◌⊎◌, eq-eqb, append_assoc, append-nil, length-append, arith}
 use Rattle.std.specs.Prelude.{◌==◌, ◌||◌, not, bytes_eq, IsSome, IfSome, is_some}
 use Rattle.std.specs.List.{AllByRecursion}
-use Rattle.std.specs.Ordering.{nat_cmp, eq_by_cmp}
-use Rattle.std.specs.declared.cmp.Ordering.{Ordering}
-use Rattle.std.specs.declared.cmp.Ordering.TheVariants.{Less, Equal, Greater}
-use Rattle.std.specs.Cmp.Lexicographic.{slice_cmp}
-use Rattle.std.specs.FinMap.Entries.{by_order}
 use Rattle.std.proofs.lemmas.Bool.{or_cases, or_right}
 use Rattle.plain_model.specs.declared.limit.TheConstants.{MAX_PARENTS}
 use Rattle.plain_model.specs.declared.id.AnyId.TheVariants as any
@@ -24,10 +19,13 @@ use Rattle.plain_model.specs.Paths.{Bytes}
 use Rattle.plain_model.specs.Snapshots.{refs, refs_after}
 use Rattle.plain_model.specs.Soundness.{IsCommitOf, IsFormedOp, IsFormedSigned, RefersBack, are_distinct, has_id, is_passed_line}
 use Rattle.plain_model.specs.Parts.{has_no_lf}
-use Rattle.plain_model.specs.Trees.{TreeOf, at, put, where_path}
+use Rattle.plain_model.specs.Trees.{TreeOf, at}
 use Rattle.stream_grammar.specs.Known.{OpenCommit}
 use Rattle.round_trip_laws.specs.AsRead.{ArePlaced}
-use Rattle.soundness_laws.proofs.Ids.{has_id-append, has_id_still, past_same, past_more, refs_append}
+use Rattle.history_laws.proofs.Ids.{has_id-append, has_id_still}
+use Rattle.history_laws.proofs.Commits.{refs_append, all_put, all_where, all_at}
+use Rattle.history_laws.proofs.Lists.{all_imply}
+use Rattle.soundness_laws.proofs.Ids.{past_same, past_more}
 
 -- ---- what is kept
 
@@ -166,39 +164,6 @@ refers_imply a b more (Rename source target) h = tt
 refers_imply a b more DeleteAll h = tt
 
 -- ---- branches
-
--- what holds of all entries holds after a put of such a one
-all_put : (P : ℕ → Type 0) (k : Bytes) (v : ℕ) (t : TreeOf ℕ) → P v → AllByRecursion (λ e. P e.1) t → AllByRecursion (λ e. P e.1) (put k v t)
-all_put P k v [] h a = (h, tt)
-all_put P k v (e ∷ t) h a = go (slice_cmp nat_cmp k e.0) (all_put P k v t h a.1)
-  where
-    go : (r : Ordering) → AllByRecursion (λ e. P e.1) (put k v t) → AllByRecursion (λ e. P e.1) (by_order r ((k, v) ∷ e ∷ t) ((e.0, v) ∷ t) (e ∷ put k v t))
-    go Less b = (h, a)
-    go Equal b = (h, a.1)
-    go Greater b = (a.0, b)
-
--- what holds of all entries holds of the one that is found
-all_at : (P : ℕ → Type 0) (t : TreeOf ℕ) (q : Bytes) (v : ℕ) → AllByRecursion (λ e. P e.1) t → at t q ≡ Some v → P v
-all_at P [] q v a h = absurd cc
-all_at P (e ∷ t) q v a h = go (eq_by_cmp (slice_cmp nat_cmp) q e.0) h (λ x. all_at P t q v a.1 x)
-  where
-    go : (b : Bool) → cond b (Some e.1) (at t q) ≡ Some v → (at t q ≡ Some v → P v) → P v
-    go true x f = let is : e.1 ≡ v = cc in subst P is a.0
-    go false x f = f x
-
--- what holds of all entries holds of some of them
-all_where : (P : ℕ → Type 0) (test : Bytes → Bool) (t : TreeOf ℕ) → AllByRecursion (λ e. P e.1) t → AllByRecursion (λ e. P e.1) (where_path test t)
-all_where P test [] a = tt
-all_where P test (e ∷ t) a = go (test e.0) (all_where P test t a.1)
-  where
-    go : (b : Bool) → AllByRecursion (λ e. P e.1) (where_path test t) → AllByRecursion (λ e. P e.1) (cond b (e ∷ where_path test t) (where_path test t))
-    go true rest = (a.0, rest)
-    go false rest = rest
-
--- what follows from what holds
-pub all_imply : {A : Type 0} (P Q : A → Type 0) → ((x : A) → P x → Q x) → (xs : List A) → AllByRecursion P xs → AllByRecursion Q xs
-all_imply P Q f [] a = tt
-all_imply P Q f (x ∷ xs) a = (f x a.0, all_imply P Q f xs a.1)
 
 abbrev AreCommits : List PlainEvent → TreeOf ℕ → Type 0
 AreCommits events tips = AllByRecursion (λ e. IsCommitOf events e.1) tips

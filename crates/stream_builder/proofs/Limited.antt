@@ -16,6 +16,7 @@ use Rattle.stream_grammar.specs.Limits.{limit_if, limit_on, last_limit, op_limit
 use Rattle.stream_lines.specs.declared.fault.LineFault.{LineFault}
 use Rattle.stream_lines.specs.declared.fault.LineFault.TheVariants as line
 use Rattle.stream_lines.specs.Reading.{Judges}
+use Rattle.history_laws.proofs.LineLaws.{folded_more}
 use Rattle.stream_builder.specs.declared.known.Trees.{Trees}
 use Rattle.stream_builder.specs.declared.open.Open.{Open}
 use Rattle.stream_builder.specs.declared.open.Open.TheVariants.{Commit}
@@ -23,7 +24,6 @@ use Rattle.stream_builder.specs.declared.open.OpenCommit.{OpenCommit}
 use Rattle.stream_builder.specs.Building.{commit_of, known_of, open_of, with_op}
 use Rattle.stream_builder.specs.Minding.{open_tree}
 use Rattle.stream_builder.specs.Operating.{PutsLast}
-use Rattle.stream_builder.proofs.TreesAfter.{folded_more}
 
 -- the limit of the last operation
 last_is : (ops : List FileOp) (op : FileOp) (t : Option Tree) → last_limit (ops ++ op ∷ []) t ≡ limit_on op (folded ops t)

@@ -9,13 +9,13 @@ use Rattle.plain_model.specs.declared.operation.FileOp.TheVariants.{Modify, Dele
 use Rattle.plain_model.specs.Histories.{begun, folded, if_ok, tree}
 use Rattle.plain_model.specs.Trees.{Tree, Refusal, apply_all, ◌>>=◌}
 use Rattle.stream_grammar.specs.Limits.{limit_on, limit_of_tree}
+use Rattle.history_laws.proofs.LineLaws.{folded_more}
 use Rattle.stream_builder.specs.declared.known.OpenTree.{OpenTree}
 use Rattle.stream_builder.specs.declared.known.OpenTree.TheVariants.{NotFolded, Folded}
 use Rattle.stream_builder.specs.declared.known.Trees.{Trees}
 use Rattle.stream_builder.specs.Minding.{HasAtMost, IsOpened, Minds, open_tree}
 use Rattle.stream_builder.specs.Pushing.{Applies, CanApply, is_folded, may_be_refused, most_after}
 use Rattle.stream_builder.proofs.TreeSizes.{modified, deleted}
-use Rattle.stream_builder.proofs.TreesAfter.{folded_more}
 
 pub at_most_more : (m n : ℕ) (o : Option Tree) → m ≤ n → HasAtMost m o → HasAtMost n o
 at_most_more m n None le h = tt
