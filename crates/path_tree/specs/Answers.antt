@@ -20,7 +20,7 @@ TellsOf expected f = (f ≡ fault.Memory) ⊎ IsErrAnd expected (λ refusal. f �
 abbrev pub Answer : Type 0
 Answer = Result (Unit {0}) ApplyFault
 
--- the answer of a call that makes the new tree of the old one, where this is due
+-- the answer of a call that makes the new tree of the old one, where this is expected
 pub record IsAnswer (expected : Result Tree Refusal) (old : Tree) (answer : Answer) (new : Tree) : Type 0 where
   pub done : OnOk answer (expected ≡ Ok new)
   pub refused : IfErr answer (TellsOf expected)

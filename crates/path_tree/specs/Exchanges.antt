@@ -18,7 +18,7 @@ module _ {X : Type 0} where
   abbrev pub has_alone : TreeOf X → TreeOf X → Bytes → Bool
   has_alone one other q = has one q && not (has other q)
 
-  -- what is due where the paths that pass the test go
+  -- what is expected where the paths that pass the test go
   abbrev pub with_none : (Bytes → Bool) → TreeOf X → Bytes → Option X
   with_none test base q = if test q then None else at base q
 

@@ -16,11 +16,11 @@ abbrev pub IsInOrder : {X : Type 0} → TreeOf X → Type 0
 IsInOrder tree = T (entries.is_sorted (slice_cmp nat_cmp) tree)
 
 module _ {X : Type 0} where
-  -- the new tree has at each path what is due there, and is in order if the old one is
+  -- the new tree has at each path what is expected there, and is in order if the old one is
   pub record Becomes (expected : Bytes → Option X) (old new : TreeOf X) : Type 0 where
     pub at_each : (q : Bytes) → at new q ≡ expected q
     pub in_order : IsInOrder old → IsInOrder new
 
-  -- what is due where the entries of one tree whose paths pass the test are put into another
+  -- what is expected where the entries of one tree whose paths pass the test are put into another
   abbrev pub with_those : (Bytes → Bool) → TreeOf X → TreeOf X → Bytes → Option X
   with_those test from base q = if test q && has from q then at from q else at base q

@@ -42,7 +42,7 @@ impl PathTree {
     pub fn apply<L>(&mut self, op: &FileOp, steps: &mut Steps<L>) -> Result<(), ApplyFault>
         ensures done { OnOk result (apply op.now self.old ≡ Ok self.new) }
 
-        // A fault tells of out of memory, or of the refusal that is due.
+        // A fault says out of memory, or the refusal that is expected.
         ensures refused { IfErr result (TellsOf (apply op.now self.old)) }
         ensures unchanged { OnErr result (self.new ≡ self.old) }
         ensures counted { steps.new ≡ min (steps.old + 1) (2 ^ 64 - 1) }

@@ -1,5 +1,5 @@
 -- What is kept beside the events, once the event that was read is over.
-use Rattle.std.proofs.Common.{◌≡◌, ℕ, ◌+◌, ◌-◌, ◌≤◌, List, [], ◌∷◌, length, Option, Result, Ok, Err, false, cond, nat_lt, refl, sym, subst, ◌∙◌, ap, arith}
+use Rattle.std.proofs.Common.{◌≡◌, ℕ, ◌+◌, ◌-◌, ◌<◌, ◌≤◌, List, [], ◌∷◌, length, Option, Result, Ok, Err, true, false, cond, nat_lt, refl, sym, subst, ◌∙◌, ap, arith}
 use Rattle.plain_model.specs.declared.event.PlainEvent.{PlainEvent}
 use Rattle.plain_model.specs.declared.limit.TheConstants.{MAX_MARK, MAX_OPERATIONS}
 use Rattle.stream_grammar.specs.Known.Open.{Nothing as NoEvent}
@@ -18,14 +18,14 @@ use Rattle.std.proofs.lemmas.Bool.Decides.{nat_tests}
 use Rattle.plain_model.specs.declared.fault.Fault.{Fault}
 use Rattle.plain_model.specs.declared.fault.Fault.TheVariants.{MarksSpent}
 use Rattle.plain_model.specs.declared.person.Signed.{Signed}
-use Rattle.plain_model.specs.Lookups.{greatest_mark}
 use Rattle.plain_model.specs.Paths.{Bytes}
 use Rattle.stream_drafts.specs.declared.finish.FinishFault.{FinishFault}
-use Rattle.stream_grammar.specs.Known.{Known, closed, history_of, with_marks}
+use Rattle.stream_grammar.specs.Known.{Known, closed, history_of}
 use Rattle.stream_grammar.specs.Limits.{last_mark, unless_spent}
+use Rattle.stream_drafts.specs.Aliased.{finished as at_end}
 use Rattle.stream_builder.specs.declared.open.OpenCommit.{OpenCommit}
 use Rattle.stream_builder.specs.declared.open.Open.{Open}
-use Rattle.stream_builder.specs.declared.open.Open.TheVariants.{Nothing, Blob, Commit, Tag, Reset}
+use Rattle.stream_builder.specs.declared.open.Open.TheVariants.{Nothing, Blob, Commit, Tag, Reset, Alias}
 use Rattle.stream_builder.specs.Building.{IsBuilt, open_of, ops_in, parents_in}
 use Rattle.stream_builder.specs.Minding.{HasAtMost, IsOpened, Minds, open_tree}
 
@@ -33,8 +33,9 @@ pub open_count : (current : Open) → open_ops (open_of current) ≡ length (ops
 open_count Nothing = refl
 open_count (Blob mark) = refl
 open_count (Commit c) = refl
-open_count (Tag name target tagger) = refl
+open_count (Tag name target tagger mark) = refl
 open_count (Reset branch target) = refl
+open_count (Alias mark) = refl
 
 -- what was taken of the trees, and what is left
 abbrev pub Taken : Trees → OpenTree → List PlainEvent → Open → Type 0
@@ -111,8 +112,8 @@ module _ (events new : List PlainEvent) (e : PlainEvent) (trees : Trees) (ops : 
   pub blob_over : (old : Open) (mark : Option ℕ) → old ≡ Blob mark → IsBuilt events old trees ops → IsBuilt new Nothing trees ops
   blob_over old mark blob b = emptied_of old (ap parents_in blob) (ap ops_in blob) b
 
-  pub tag_over : (old over : Open) (name : Bytes) (target : ℕ) (tagger : Option Signed) → old ≡ Tag name target tagger → over ≡ Nothing → IsBuilt events old trees ops → IsBuilt new over trees ops
-  tag_over old over name target tagger tag gone b = subst (λ (o : Open). IsBuilt new o trees ops) (sym gone) (emptied_of old (ap parents_in tag) (ap ops_in tag) b)
+  pub tag_over : (old over : Open) (name : Bytes) (target : ℕ) (tagger : Option Signed) (mark : Option ℕ) → old ≡ Tag name target tagger mark → over ≡ Nothing → IsBuilt events old trees ops → IsBuilt new over trees ops
+  tag_over old over name target tagger mark tag gone b = subst (λ (o : Open). IsBuilt new o trees ops) (sym gone) (emptied_of old (ap parents_in tag) (ap ops_in tag) b)
 
   pub commit_stays : (old : Open) (c : OpenCommit) → old ≡ Commit c → IsBuilt events old trees ops → IsBuilt new (Commit c) trees ops
   commit_stays old c commit b = subst (λ (o : Open). IsBuilt new o trees ops) commit (beside events new e old trees ops b is none no_ops)
@@ -120,12 +121,19 @@ module _ (events new : List PlainEvent) (e : PlainEvent) (trees : Trees) (ops : 
 -- ---- the end
 
 -- the marks suffice, or they are spent
-pub enough : (k : Known) → last_mark (closed k) ≤ MAX_MARK → unless_spent k ≡ Ok (history_of k)
-enough k le = let no : nat_lt MAX_MARK (last_mark (closed k)) ≡ false = grind (arith, nat_tests) in ap (λ b. cond {A = Result (List PlainEvent) Fault} b (Err MarksSpent) (Ok (history_of k))) no
+pub enough : (k : Known) → last_mark k ≤ MAX_MARK → unless_spent k ≡ Ok (history_of k)
+enough k le = let no : nat_lt MAX_MARK (last_mark k) ≡ false = grind (arith, nat_tests) in ap (λ b. cond {A = Result (List PlainEvent) Fault} b (Err MarksSpent) (Ok (history_of k))) no
 
-pub finished : (k : Known) (drafts : List PlainEvent) (answer : Result (List PlainEvent) FinishFault) → drafts ≡ closed k
-    → IfOk answer (λ list. list ≡ with_marks (greatest_mark drafts) drafts) → OnOk answer (last_mark drafts ≤ MAX_MARK) → IfOk answer (λ list. unless_spent k ≡ Ok list)
-finished k drafts (Err f) is list fits = tt
-finished k drafts (Ok l) is list fits =
-    enough k (subst (λ (es : List PlainEvent). last_mark es ≤ MAX_MARK) is fits)
-    ∙ ap (λ (h : List PlainEvent). Ok h) (sym (list ∙ (λ i. with_marks (greatest_mark (is i)) (is i))))
+module _ (k : Known) (drafts : List PlainEvent) (aliases : List (ℕ × ℕ)) (is : drafts ≡ closed k) (same : aliases ≡ k.aliases) where
+  pub finished : (answer : Result (List PlainEvent) FinishFault) → IfOk answer (λ list. list ≡ history_of (at_end drafts aliases))
+      → OnOk answer (last_mark (at_end drafts aliases) ≤ MAX_MARK) → IfOk answer (λ list. unless_spent k ≡ Ok list)
+  finished (Err f) list fits = tt
+  finished (Ok l) list fits =
+      enough k (subst (λ n. n ≤ MAX_MARK) (λ i. last_mark (at_end (is i) (same i))) fits)
+      ∙ ap (λ (h : List PlainEvent). Ok h) (sym (list ∙ (λ i. history_of (at_end (is i) (same i)))))
+
+  pub spent : MAX_MARK < last_mark (at_end drafts aliases) → unless_spent k ≡ Err MarksSpent
+  spent more =
+      let above = subst (λ n. MAX_MARK < n) (λ i. last_mark (at_end (is i) (same i))) more in
+      let yes : nat_lt MAX_MARK (last_mark k) ≡ true = grind (arith, nat_tests) in
+      ap (λ b. cond {A = Result (List PlainEvent) Fault} b (Err MarksSpent) (Ok (history_of k))) yes

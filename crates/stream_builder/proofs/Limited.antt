@@ -11,7 +11,7 @@ use Rattle.plain_model.specs.Histories.{begun, folded, tree}
 use Rattle.plain_model.specs.Trees.{Tree}
 use Rattle.line_automaton.specs.Limits.{Cause}
 use Rattle.stream_grammar.specs.Known.{Known, OpenCommit as KnownCommit, Open as KnownOpen}
-use Rattle.stream_grammar.specs.Known.Open.{Nothing as NoEvent, ABlob, ACommit, ATag, AReset}
+use Rattle.stream_grammar.specs.Known.Open.{Nothing as NoEvent, ABlob, ACommit, ATag, AReset, AnAlias}
 use Rattle.stream_grammar.specs.Limits.{limit_if, limit_on, last_limit, op_limit, op_count, within_limit, ops_in as count_in}
 use Rattle.stream_lines.specs.declared.fault.LineFault.{LineFault}
 use Rattle.stream_lines.specs.declared.fault.LineFault.TheVariants as line
@@ -46,28 +46,28 @@ fits most count which other le = let no : nat_lt most count ≡ false = grind (a
 passes : (most count : ℕ) (which : Which) (other : Option Which) → most < count → limit_if most count which other ≡ Some which
 passes most count which other lt = let yes : nat_lt most count ≡ true = grind (arith, nat_tests) in ap (λ b. cond b (Some which) other) yes
 
-module _ (events : List PlainEvent) (c : OpenCommit) (op : FileOp) (more ops : ℕ) (counted : ops ≡ op_count (known_of events (Commit c)))
+module _ (events : List PlainEvent) (aliases : List (ℕ × ℕ)) (c : OpenCommit) (op : FileOp) (more ops : ℕ) (counted : ops ≡ op_count (known_of events [] (Commit c)))
     (few : length events + 1 + more ≤ MAX_EVENTS) (less : ops < MAX_OPERATIONS) where
-  pub limit_is : op_limit more (with_op events (commit_of c) op) ≡ limit_on op (open_tree events c.parents c.ops)
+  pub limit_is : op_limit more (with_op (known_of events aliases (Commit c)) (commit_of c) op) ≡ limit_on op (open_tree events c.parents c.ops)
   limit_is =
       let one = length_last c.ops op in
       fits MAX_EVENTS (length events + 1 + more) Events _ few
       ∙ fits MAX_OPERATIONS (count_in events + length (c.ops ++ op ∷ [])) Operations _ (omega (arith, one, counted, less))
       ∙ last_is c.ops op (begun (tree events) c.parents)
 
-  -- what is due for one more operation
+  -- what is expected of one more operation
   abbrev pub expected : Result Known (Cause Why Which)
-  expected = within_limit (op_limit more (with_op events (commit_of c) op)) (with_op events (commit_of c) op)
+  expected = within_limit (op_limit more (with_op (known_of events aliases (Commit c)) (commit_of c) op)) (with_op (known_of events aliases (Commit c)) (commit_of c) op)
 
   module _ (new : OpenCommit) (trees : Trees) where
-    pub put_it : PutsLast events c op (Ok tt) new trees → expected ≡ Ok (known_of events (Commit new))
+    pub put_it : PutsLast events c op (Ok tt) new trees → expected ≡ Ok (known_of events aliases (Commit new))
     put_it p =
-        ap (λ o. within_limit o (with_op events (commit_of c) op)) (limit_is ∙ p.2)
-        ∙ ap (λ (n : OpenCommit). Ok (known_of events (Commit n))) (sym p.0)
+        ap (λ o. within_limit o (with_op (known_of events aliases (Commit c)) (commit_of c) op)) (limit_is ∙ p.2)
+        ∙ ap (λ (n : OpenCommit). Ok (known_of events aliases (Commit n))) (sym p.0)
 
     pub refused : (k : Known) (f : LineFault) → PutsLast events c op (Err f) new trees → Judges k (Err f) expected
     refused k (line.Bad why) p = absurd p
-    refused k (line.Limit which) p = ap (λ o. within_limit o (with_op events (commit_of c) op)) (limit_is ∙ p.2)
+    refused k (line.Limit which) p = ap (λ o. within_limit o (with_op (known_of events aliases (Commit c)) (commit_of c) op)) (limit_is ∙ p.2)
     refused k line.Memory p = tt
 
 -- ---- the commit that is being read, as contracts see it
@@ -76,23 +76,24 @@ abbrev commit_or : KnownCommit → KnownOpen → KnownCommit
 commit_or other (ACommit c) = c
 commit_or other NoEvent = other
 commit_or other (ABlob mark) = other
-commit_or other (ATag name target tagger) = other
+commit_or other (ATag name target tagger mark) = other
 commit_or other (AReset branch target) = other
+commit_or other (AnAlias mark) = other
 
-module _ (events : List PlainEvent) (o : Open) (c : OpenCommit) (n : Known) (k : KnownCommit) (view : known_of events o ≡ n) (is_commit : o ≡ Commit c) (is : n.current ≡ ACommit k) where
+module _ (events : List PlainEvent) (aliases : List (ℕ × ℕ)) (o : Open) (c : OpenCommit) (n : Known) (k : KnownCommit) (view : known_of events aliases o ≡ n) (is_commit : o ≡ Commit c) (is : n.current ≡ ACommit k) where
   same_commit : commit_of c ≡ k
   same_commit = ap (commit_or (commit_of c)) (sym (ap open_of is_commit) ∙ ap (λ (x : Known). x.current) view ∙ is)
 
   module _ (op : FileOp) (more : ℕ) where
-    at_known : within_limit (op_limit more (with_op events (commit_of c) op)) (with_op events (commit_of c) op) ≡ within_limit (op_limit more (with_op n.events k op)) (with_op n.events k op)
-    at_known = λ i. within_limit (op_limit more (with_op (view i).events (same_commit i) op)) (with_op (view i).events (same_commit i) op)
+    at_known : within_limit (op_limit more (with_op (known_of events aliases (Commit c)) (commit_of c) op)) (with_op (known_of events aliases (Commit c)) (commit_of c) op) ≡ within_limit (op_limit more (with_op n k op)) (with_op n k op)
+    at_known = λ i. within_limit (op_limit more (with_op (view i) (same_commit i) op)) (with_op (view i) (same_commit i) op)
 
-    module _ (ops : ℕ) (counted : ops ≡ op_count (known_of events o)) (few : length events + 1 + more ≤ MAX_EVENTS) (less : ops < MAX_OPERATIONS) (new : OpenCommit) (trees : Trees) where
-      counted_here : ops ≡ op_count (known_of events (Commit c))
-      counted_here = counted ∙ ap (λ (x : Open). op_count (known_of events x)) is_commit
+    module _ (ops : ℕ) (counted : ops ≡ op_count (known_of events [] o)) (few : length events + 1 + more ≤ MAX_EVENTS) (less : ops < MAX_OPERATIONS) (new : OpenCommit) (trees : Trees) where
+      counted_here : ops ≡ op_count (known_of events [] (Commit c))
+      counted_here = counted ∙ ap (λ (x : Open). op_count (known_of events [] x)) is_commit
 
-      pub is_put : PutsLast events c op (Ok tt) new trees → within_limit (op_limit more (with_op n.events k op)) (with_op n.events k op) ≡ Ok (known_of events (Commit new))
-      is_put p = sym at_known ∙ put_it events c op more ops counted_here few less new trees p
+      pub is_put : PutsLast events c op (Ok tt) new trees → within_limit (op_limit more (with_op n k op)) (with_op n k op) ≡ Ok (known_of events aliases (Commit new))
+      is_put p = sym at_known ∙ put_it events aliases c op more ops counted_here few less new trees p
 
-      pub isnt_put : (x : Known) (f : LineFault) → PutsLast events c op (Err f) new trees → Judges x (Err f) (within_limit (op_limit more (with_op n.events k op)) (with_op n.events k op))
-      isnt_put x f p = subst (Judges x (Err f)) at_known (refused events c op more ops counted_here few less new trees x f p)
+      pub isnt_put : (x : Known) (f : LineFault) → PutsLast events c op (Err f) new trees → Judges x (Err f) (within_limit (op_limit more (with_op n k op)) (with_op n k op))
+      isnt_put x f p = subst (Judges x (Err f)) at_known (refused events aliases c op more ops counted_here few less new trees x f p)

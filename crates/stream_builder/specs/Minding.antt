@@ -28,7 +28,7 @@ IsEarlier events k = (k.tree ≡ tree events k.commit) × (k.commit < next_id ev
 abbrev pub AreEarlier : List PlainEvent → List KnownTree → Type 0
 AreEarlier events kept = All (IsEarlier events) kept
 
--- what was folded is what is due
+-- what was folded is what is expected
 abbrev pub IsOpened : OpenTree → Option Tree → Type 0
 IsOpened NotFolded expected = Unit {0}
 IsOpened (Folded t) expected = t ≡ expected

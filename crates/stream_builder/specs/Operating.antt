@@ -9,7 +9,7 @@ use Rattle.stream_builder.specs.declared.known.Trees.{Trees}
 use Rattle.stream_builder.specs.declared.open.OpenCommit.{OpenCommit}
 use Rattle.stream_builder.specs.Minding.{Minds, open_tree}
 
--- the operation stands after the others, or it passes a limit and the commit stays as it was
+-- the operation is after the others, or it passes a limit and the commit stays as it was
 abbrev pub PutsLast : List PlainEvent → OpenCommit → FileOp → Result (Unit {0}) LineFault → OpenCommit → Trees → Type 0
 PutsLast events old op (Ok tt) new trees =
     (new ≡ record old { ops = old.ops ++ op ∷ [] }) × Minds trees events old.parents (old.ops ++ op ∷ []) × (limit_on op (open_tree events old.parents old.ops) ≡ None)

@@ -46,7 +46,7 @@ Applies op old (Err (line.Limit which)) new = (limit_on op old ≡ Some which) �
 Applies op old (Err line.Memory) new = new ≡ old
 Applies op old (Err (line.Bad why)) new = ⊥
 
--- the operation stands after the others, or it passes a limit
+-- the operation is after the others, or it passes a limit
 abbrev pub Pushes : List PlainEvent → List ℕ → List FileOp → FileOp → Result (Unit {0}) LineFault → Trees → Type 0
 Pushes events parents ops op (Ok tt) new = Minds new events parents (ops ++ op ∷ []) × (limit_on op (open_tree events parents ops) ≡ None)
 Pushes events parents ops op (Err (line.Limit which)) new = Minds new events parents ops × (limit_on op (open_tree events parents ops) ≡ Some which)

@@ -1,15 +1,15 @@
 //! The events that were read, and the one that is being read.
 ghost use Rattle.std.specs.Prelude.{◌≡◌, [], None, Ok, Err, IfOk, OnOk};
 ghost use Rattle.plain_model.specs.declared.fault.Fault.TheVariants.{MarksSpent};
-ghost use Rattle.plain_model.specs.declared.fault.Which.TheVariants.{Events};
-ghost use Rattle.plain_model.specs.declared.limit.TheConstants.{MAX_EVENTS};
-ghost use Rattle.stream_grammar.specs.Known.{closed};
+ghost use Rattle.plain_model.specs.declared.fault.Which.TheVariants as which;
+ghost use Rattle.plain_model.specs.declared.limit.TheConstants.{MAX_ALIASES, MAX_EVENTS};
 ghost use Rattle.stream_grammar.specs.Known.Open.{Nothing as NoEvent};
-ghost use Rattle.stream_grammar.specs.Limits.{event_count, limit_if, unless_spent, within_limit};
+ghost use Rattle.stream_grammar.specs.Limits.{alias_count, event_count, limit_if, unless_spent, within_limit};
 ghost use Rattle.stream_grammar.specs.Lines.{begun_with, nothing_known};
 ghost use Rattle.stream_lines.specs.Reading.{Judges};
 ghost use Rattle.stream_builder.specs.Building.{open_of, ops_in};
 
+mod aliases;
 mod changes;
 mod events;
 mod fields;
@@ -19,17 +19,18 @@ mod parents;
 use crate::closing::{count_ops, push_open};
 use crate::known::Trees;
 use crate::open::Open;
-use plain_model::{EventList, MAX_EVENTS, NoMemory, Which};
+use plain_model::{EventList, MAX_ALIASES, MAX_EVENTS, NoMemory, Which};
 use std::alloc::Global;
 use std::marker::Model;
 use std::mem;
-use stream_drafts::{Drafts, FinishFault};
+use stream_drafts::{Aliases, Drafts, FinishFault};
 use stream_lines::LineFault;
 
 /// Builds the events of a stream from its lines. Contracts see what is known of the stream.
 #[derive(Drop)]
 pub struct Builder {
     drafts: Drafts,
+    aliases: Aliases,
     current: Open,
     trees: Trees,
     // How many operations there are.
@@ -42,7 +43,7 @@ impl Model for Builder {
 
     ghost Value = { Known };
 
-    ghost view = { λ b. known_of b.drafts b.current };
+    ghost view = { λ b. known_of b.drafts b.aliases b.current };
 
     ghost invariant = { λ b. IsBuilt b.drafts b.current b.trees b.ops };
 }
@@ -54,6 +55,7 @@ impl Builder {
     {
         Builder {
             drafts: Drafts::new(alloc),
+            aliases: Aliases::new(alloc),
             current: Open::Nothing,
             trees: Trees::new(alloc),
             ops: 0,
@@ -62,7 +64,7 @@ impl Builder {
 
     // The event that was read last is after the others.
     fn close(&mut self, alloc: Global) -> Result<(), NoMemory>
-        ensures { OnOk result (self.new ≡ record { events = closed self.old; current = NoEvent }) }
+        ensures { OnOk result (self.new ≡ begun_with self.old NoEvent) }
     {
         let current = mem::replace(&mut self.current, Open::Nothing);
         let tree = self.trees.take();
@@ -86,15 +88,31 @@ impl Builder {
     // Whether there are too many events.
     fn within_events(&self) -> Result<(), LineFault>
         ensures { Judges self.now result
-            (within_limit (limit_if MAX_EVENTS (event_count self.now) Events None) self.now) }
+            (within_limit (limit_if MAX_EVENTS (event_count self.now) which.Events None) self.now) }
     {
         let before = self.drafts.next_id() - 1;
         let count = match self.current {
-            Open::Nothing => before,
+            Open::Nothing | Open::Alias { .. } => before,
             _ => before + 1,
         };
         if count > MAX_EVENTS {
             Err(LineFault::Limit(Which::Events))
+        } else {
+            Ok(())
+        }
+    }
+
+    // Whether there are too many aliases.
+    fn within_aliases(&self) -> Result<(), LineFault>
+        ensures { Judges self.now result
+            (within_limit (limit_if MAX_ALIASES (alias_count self.now) which.Aliases None) self.now) }
+    {
+        let most = match self.current {
+            Open::Alias { .. } => MAX_ALIASES - 1,
+            _ => MAX_ALIASES,
+        };
+        if self.aliases.count() > most {
+            Err(LineFault::Limit(Which::Aliases))
         } else {
             Ok(())
         }
@@ -106,7 +124,11 @@ impl Builder {
         ensures spent { result ≡ Err FinishFault.MarksSpent → unless_spent self ≡ Err MarksSpent }
     {
         self.close(alloc)?;
-        let Builder { drafts, .. } = self;
-        drafts.finish()
+        let Builder {
+            drafts,
+            aliases,
+            ..
+        } = self;
+        drafts.finish(aliases)
     }
 }

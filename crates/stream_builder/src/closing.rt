@@ -30,7 +30,7 @@ fn author_of(alloc: Global, author: Option<Signed>, committer: &Signed) -> Resul
     }
 }
 
-// Puts a commit at the end, with its tree, and tells how many operations it has. It has to have a committer; else there
+// Puts a commit at the end, with its tree, and says how many operations it has. It has to have a committer; else there
 // was none.
 fn push_commit(
     alloc: Global,
@@ -78,8 +78,8 @@ fn push_commit(
     Ok(count)
 }
 
-/// Puts the event that was read at the end, if it is a commit or a reset, and tells how many operations it has. All others
-/// stand there already.
+/// Puts the event that was read at the end, if it is a commit or a reset, and says how many operations it has. All others
+/// are there already.
 pub fn push_open(
     alloc: Global,
     drafts: &mut Drafts,
@@ -87,7 +87,7 @@ pub fn push_open(
     current: Open,
     tree: OpenTree,
 ) -> Result<u64, NoMemory>
-    ensures events { OnOk result (drafts.new ≡ closed (known_of drafts.old current)) }
+    ensures events { OnOk result (drafts.new ≡ closed (known_of drafts.old [] current)) }
     ensures count { IfOk result (λ n. count_in drafts.new ≡ count_in drafts.old + n) }
     ensures within { IfOk result (λ n. n ≤ length (ops_in current)) }
     ensures trees { OnOk result (Minds trees.old drafts.old [] [] →

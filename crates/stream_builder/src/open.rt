@@ -26,9 +26,13 @@ pub enum Open {
         name: Text,
         target: CommitId,
         tagger: Option<Signed>,
+        mark: Option<Mark>,
     },
     Reset {
         branch: Text,
         target: Option<CommitId>,
+    },
+    Alias {
+        mark: Option<Mark>,
     },
 }

@@ -3,10 +3,10 @@ ghost use Rattle.std.specs.Prelude.{◌≡◌, ◌==◌, ◌||◌, Result, Ok, E
 ghost use Rattle.std.specs.List.{list_any, list_all};
 ghost use Rattle.plain_model.specs.Fields.{is_any_hex};
 ghost use Rattle.plain_model.specs.Parts.{begins};
-ghost use Rattle.stream_grammar.specs.Known.{is_left_out_ref, placed, ref_in};
+ghost use Rattle.stream_grammar.specs.Known.{commit_with, is_left_out_ref, placed, ref_in};
 
-use plain_model::{BlobId, CommitId, Content, RawContent, Why};
-use stream_drafts::Drafts;
+use plain_model::{BlobId, CommitId, Content, Mark, RawContent, Why};
+use stream_drafts::{Aliases, Drafts};
 use stream_fields::{or_defect, read_mark};
 
 fn has_sign(text: &[u8]) -> bool
@@ -30,9 +30,19 @@ fn is_left_out(text: &[u8]) -> bool
     has_sign(text) || (text.len() == 40 || text.len() == 64) && are_hex(text)
 }
 
-/// The commit that a reference names: an earlier one by its mark, or the tip of a branch. (git-fast-import, `from`.)
-pub fn read_reference(drafts: &Drafts, text: &[u8]) -> Result<CommitId, Why>
-    ensures { result ≡ ref_in drafts.now text.now }
+// The commit with the mark, as its own or as an alias.
+fn commit_with(drafts: &Drafts, aliases: &Aliases, mark: Mark) -> Option<CommitId>
+    ensures { result ≡ commit_with drafts.now aliases.now mark }
+{
+    match drafts.commit_marked(mark) {
+        Some(commit) => Some(commit),
+        None => aliases.commit_with(mark),
+    }
+}
+
+/// The commit that a reference names: an earlier one by one of its marks, or the tip of a branch. (git-fast-import, `from`.)
+pub fn read_reference(drafts: &Drafts, aliases: &Aliases, text: &[u8]) -> Result<CommitId, Why>
+    ensures { result ≡ ref_in drafts.now aliases.now text.now }
 {
     if text.is_empty() {
         return Err(Why::BadMark);
@@ -42,7 +52,7 @@ pub fn read_reference(drafts: &Drafts, text: &[u8]) -> Result<CommitId, Why>
     }
     if text.starts_with(b":".as_slice()) {
         let mark = read_mark(text)?;
-        return or_defect(Why::UnknownMark, drafts.commit_marked(mark));
+        return or_defect(Why::UnknownMark, commit_with(drafts, aliases, mark));
     }
     or_defect(Why::UnknownRef, drafts.tip(text))
 }

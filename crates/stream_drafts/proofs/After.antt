@@ -1,14 +1,15 @@
 -- What is found in a list of events, after one more event.
 use Rattle.std.proofs.Common.{◌≡◌, ℕ, Bool, true, false, cond, max, List, [], ◌∷◌, ◌++◌, refl, sym, ◌∙◌, ap, Option, Some, None, is_some}
+use Rattle.std.specs.Prelude.{option_to_list}
 use Rattle.std.specs.Prelude.{◌==◌, ◌||◌}
 use Rattle.std.proofs.lemmas.List.Sums.{fold-append}
 use Rattle.plain_model.specs.declared.event.PlainEvent.{PlainEvent}
 use Rattle.plain_model.specs.declared.event.PlainEvent.TheVariants.{Blob, Commit, Tag, Reset, Pass}
-use Rattle.plain_model.specs.Lookups.{greatest_mark, mark_number}
+use Rattle.plain_model.specs.Lookups.{greatest_mark, top_mark}
 use Rattle.plain_model.specs.Trees.{TreeOf, put}
 use Rattle.plain_model.specs.Snapshots.{refs, refs_after}
-use Rattle.plain_model.specs.Streams.{is_marked, blob_marked, commit_marked}
-use Rattle.stream_drafts.specs.Indexed.{first_of}
+use Rattle.plain_model.specs.Streams.{is_among, is_marked, blob_marked, commit_marked}
+use Rattle.stream_drafts.specs.Indexed.{first_of, tag_marked}
 
 -- ---- marks
 
@@ -25,39 +26,60 @@ blob_marked-append (_ ∷ es) e m = blob_marked-append es e m
 pub commit_marked-append : (es : List PlainEvent) (e : PlainEvent) (m : ℕ) → commit_marked (es ++ e ∷ []) m ≡ first_of (commit_marked es m) (commit_marked (e ∷ []) m)
 commit_marked-append [] e m = refl
 commit_marked-append (Commit id mark branch author committer encoding comment parents ops aliases ∷ es) e m =
-    ap (cond (mark == m) (Some id)) (commit_marked-append es e m) ∙ sym (first_if (mark == m) id (commit_marked es m) (commit_marked (e ∷ []) m))
+    ap (λ o. cond (mark == m) (Some id) (cond (is_among aliases m) (Some id) o)) (commit_marked-append es e m)
+    ∙ sym (first_if (mark == m) id (cond (is_among aliases m) (Some id) (commit_marked es m)) (commit_marked (e ∷ []) m)
+    ∙ ap (cond (mark == m) (Some id)) (first_if (is_among aliases m) id (commit_marked es m) (commit_marked (e ∷ []) m)))
 commit_marked-append (_ ∷ es) e m = commit_marked-append es e m
 
-or_if : (b : Bool) (x : ℕ) (o : Option ℕ) (c : Bool) → (b || (is_some o || c)) ≡ (is_some (cond b (Some x) o) || c)
-or_if true x o c = refl
-or_if false x o c = refl
+pub tag_marked-append : (es : List PlainEvent) (e : PlainEvent) (m : ℕ) → tag_marked (es ++ e ∷ []) m ≡ (tag_marked es m || tag_marked (e ∷ []) m)
+tag_marked-append [] e m = refl
+tag_marked-append (Tag id name target tagger comment mark ∷ es) e m =
+    ap (λ b. is_among (option_to_list mark) m || b) (tag_marked-append es e m) ∙ or_assoc (is_among (option_to_list mark) m) (tag_marked es m) (tag_marked (e ∷ []) m)
+  where
+    or_assoc : (a b c : Bool) → (a || (b || c)) ≡ ((a || b) || c)
+    or_assoc true b c = refl
+    or_assoc false b c = refl
+tag_marked-append (Blob id mark bytes ∷ es) e m = tag_marked-append es e m
+tag_marked-append (Commit id mark branch author committer encoding comment parents ops aliases ∷ es) e m = tag_marked-append es e m
+tag_marked-append (Reset id branch target ∷ es) e m = tag_marked-append es e m
+tag_marked-append (Pass id line ∷ es) e m = tag_marked-append es e m
 
-or_if_after : (b : Bool) (x : ℕ) (c : Bool) (o : Option ℕ) → (b || (c || is_some o)) ≡ (c || is_some (cond b (Some x) o))
-or_if_after true x true o = refl
-or_if_after true x false o = refl
-or_if_after false x c o = refl
+-- which of a blob, a commit and a tag has a mark
+abbrev by_kind : Option ℕ → Option ℕ → Bool → Bool
+by_kind blob commit tag = is_some blob || (is_some commit || tag)
 
--- a mark is that of a blob or that of a commit
-pub is_marked-parts : (es : List PlainEvent) (m : ℕ) → is_marked es m ≡ (is_some (blob_marked es m) || is_some (commit_marked es m))
-is_marked-parts [] m = refl
-is_marked-parts (Blob id mark bytes ∷ es) m =
-    ap (λ b. (mark == m) || b) (is_marked-parts es m) ∙ or_if (mark == m) id (blob_marked es m) (is_some (commit_marked es m))
-is_marked-parts (Commit id mark branch author committer encoding comment parents ops aliases ∷ es) m =
-    ap (λ b. (mark == m) || b) (is_marked-parts es m) ∙ or_if_after (mark == m) id (is_some (blob_marked es m)) (commit_marked es m)
-is_marked-parts (Tag id name target tagger comment mark ∷ es) m = is_marked-parts es m
-is_marked-parts (Reset id branch target ∷ es) m = is_marked-parts es m
-is_marked-parts (Pass id line ∷ es) m = is_marked-parts es m
+or_blob : (b : Bool) (x : ℕ) (blob commit : Option ℕ) (tag : Bool) → (b || by_kind blob commit tag) ≡ by_kind (cond b (Some x) blob) commit tag
+or_blob true x blob commit tag = refl
+or_blob false x blob commit tag = refl
 
--- a mark of a blob
-pub marked_blob : (es : List PlainEvent) (m : ℕ) (b : Bool) → b ≡ is_some (blob_marked es m) → b ≡ true → b ≡ is_marked es m
-marked_blob es m b is yes_it = yes_it ∙ sym (is_marked-parts es m ∙ ap (λ t. t || is_some (commit_marked es m)) (sym is ∙ yes_it))
+or_commit : (a b : Bool) (x : ℕ) (blob commit : Option ℕ) (tag : Bool)
+    → (a || (b || by_kind blob commit tag)) ≡ by_kind blob (cond a (Some x) (cond b (Some x) commit)) tag
+or_commit true b x None commit tag = refl
+or_commit true b x (Some y) commit tag = refl
+or_commit false true x None commit tag = refl
+or_commit false true x (Some y) commit tag = refl
+or_commit false false x blob commit tag = refl
 
--- a mark that is no blob's is a commit's or none
-pub marked_commit : (es : List PlainEvent) (m : ℕ) (b c : Bool) → b ≡ is_some (blob_marked es m) → b ≡ false → c ≡ is_some (commit_marked es m) → c ≡ is_marked es m
-marked_commit es m b c is no_it it = it ∙ sym (is_marked-parts es m ∙ ap (λ t. t || is_some (commit_marked es m)) (sym is ∙ no_it))
+or_tag : (b : Bool) (blob commit : Option ℕ) (tag : Bool) → (b || by_kind blob commit tag) ≡ by_kind blob commit (b || tag)
+or_tag false blob commit tag = refl
+or_tag true (Some x) commit tag = refl
+or_tag true None (Some x) tag = refl
+or_tag true None None tag = refl
 
-pub greatest_mark-append : (es : List PlainEvent) (e : PlainEvent) → greatest_mark (es ++ e ∷ []) ≡ max (greatest_mark es) (mark_number e)
-greatest_mark-append es e = fold-append (λ n x. max n (mark_number x)) 0 es (e ∷ [])
+-- a mark is that of a blob, of a commit or of a tag
+pub marked_by_kind : (es : List PlainEvent) (m : ℕ) → is_marked es m ≡ (is_some (blob_marked es m) || (is_some (commit_marked es m) || tag_marked es m))
+marked_by_kind [] m = refl
+marked_by_kind (Blob id mark bytes ∷ es) m =
+    ap (λ b. (mark == m) || b) (marked_by_kind es m) ∙ or_blob (mark == m) id (blob_marked es m) (commit_marked es m) (tag_marked es m)
+marked_by_kind (Commit id mark branch author committer encoding comment parents ops aliases ∷ es) m =
+    ap (λ b. (mark == m) || (is_among aliases m || b)) (marked_by_kind es m) ∙ or_commit (mark == m) (is_among aliases m) id (blob_marked es m) (commit_marked es m) (tag_marked es m)
+marked_by_kind (Tag id name target tagger comment mark ∷ es) m =
+    ap (λ b. is_among (option_to_list mark) m || b) (marked_by_kind es m) ∙ or_tag (is_among (option_to_list mark) m) (blob_marked es m) (commit_marked es m) (tag_marked es m)
+marked_by_kind (Reset id branch target ∷ es) m = marked_by_kind es m
+marked_by_kind (Pass id line ∷ es) m = marked_by_kind es m
+
+pub greatest_mark-append : (es : List PlainEvent) (e : PlainEvent) → greatest_mark (es ++ e ∷ []) ≡ max (greatest_mark es) (top_mark e)
+greatest_mark-append es e = fold-append (λ n x. max n (top_mark x)) 0 es (e ∷ [])
 
 -- ---- tips
 

@@ -1,3 +1,4 @@
 pub mod After
+pub mod Aliased
 pub mod Indexes
 pub mod Places

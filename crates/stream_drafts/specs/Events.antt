@@ -1,5 +1,5 @@
--- The events that drafts stand for: a blob or a commit without a mark has 0 in its place.
-use Rattle.std.specs.Prelude.{ℕ, ◌+◌, ◌==◌, List, map, Option, Some, None, unwrap_or, if◌then◌else◌}
+-- The events that drafts stand for: a blob or a commit without a mark has 0 in its place, and a commit has no aliases.
+use Rattle.std.specs.Prelude.{ℕ, ◌+◌, ◌==◌, List, [], map, Option, Some, None, unwrap_or, if◌then◌else◌}
 use Rattle.plain_model.specs.declared.event.PlainEvent.{PlainEvent}
 use Rattle.plain_model.specs.declared.event.PlainEvent.TheVariants as plain
 use Rattle.plain_model.specs.declared.operation.FileOp.{FileOp}
@@ -15,7 +15,7 @@ number_or_0 mark = unwrap_or mark 0
 
 -- the commit with an id, a mark, if it has one, and its other fields
 abbrev pub commit_of : ℕ → Option ℕ → CommitFields → PlainEvent
-commit_of id mark c = plain.Commit id (number_or_0 mark) c.branch c.author c.committer c.encoding c.comment c.parents c.ops aliases
+commit_of id mark c = plain.Commit id (number_or_0 mark) c.branch c.author c.committer c.encoding c.comment c.parents c.ops []
 
 abbrev pub event_of : Draft → PlainEvent
 event_of (draft.Blob id mark bytes) = plain.Blob id (number_or_0 mark) bytes

@@ -1,3 +1,4 @@
+pub mod Aliased
 pub mod Events
 pub mod Indexed
 pub mod Placed

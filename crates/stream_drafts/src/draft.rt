@@ -1,13 +1,13 @@
 //! Events whose mark may not be there yet.
 ghost use Rattle.std.specs.Prelude.{◌≡◌, ◌≤◌, ℕ, option_map};
-ghost use Rattle.plain_model.specs.Lookups.{mark_number};
+ghost use Rattle.plain_model.specs.Lookups.{top_mark};
 ghost use Rattle.stream_drafts.specs.Events.{number_or_0};
 
 use plain_model::{
     BlobId, CommitId, MAX_MARK, Mark, OpList, ParentList, PassId, ResetId, Signed, TagId, Text,
 };
 
-/// What a commit has besides its id and its mark.
+/// What a commit has besides its id and its marks.
 #[derive(Drop)]
 pub struct CommitFields {
     pub branch: Text,
@@ -19,7 +19,7 @@ pub struct CommitFields {
     pub ops: OpList,
 }
 
-/// An event, of which a blob or a commit may have no mark yet.
+/// An event, of which a blob or a commit may have no mark yet. A commit's aliases are kept beside it.
 #[derive(Drop)]
 pub enum Draft {
     Blob {
@@ -38,6 +38,7 @@ pub enum Draft {
         target: CommitId,
         tagger: Option<Signed>,
         comment: Text,
+        mark: Option<Mark>,
     },
     Reset {
         id: ResetId,
@@ -74,14 +75,15 @@ impl Draft {
         }
     }
 
-    /// The mark of a blob or a commit, or 0.
+    /// The mark, or 0.
     pub fn number(&self) -> u64
-        ensures value { result ≡ mark_number (event_of self.now) }
+        ensures value { result ≡ top_mark (event_of self.now) }
         ensures range { result ≤ MAX_MARK }
     {
         match self {
             Draft::Blob { mark, .. } => number_or_0(*mark),
             Draft::Commit { mark, .. } => number_or_0(*mark),
+            Draft::Tag { mark, .. } => number_or_0(*mark),
             _ => 0,
         }
     }

@@ -2,12 +2,12 @@
 ghost use Rattle.std.specs.Prelude.{◌≡◌, ◌∷◌, [], length, option_map, ◌+◌, ◌≤◌, ◌<◌, All, Err, IfOk, OnOk, OnErr};
 ghost use Rattle.plain_model.specs.declared.event.PlainEvent.TheVariants as plain;
 ghost use Rattle.plain_model.specs.Histories.{node_at, past};
-ghost use Rattle.plain_model.specs.Lookups.{greatest_mark};
 ghost use Rattle.plain_model.specs.Snapshots.{refs};
 ghost use Rattle.plain_model.specs.Streams.{is_marked, blob_marked, commit_marked};
 ghost use Rattle.plain_model.specs.Trees.{at};
-ghost use Rattle.stream_grammar.specs.Known.{next_id, with_event, with_marks};
+ghost use Rattle.stream_grammar.specs.Known.{history_of, next_id, with_event};
 ghost use Rattle.stream_grammar.specs.Limits.{last_mark};
+ghost use Rattle.stream_drafts.specs.Aliased.{finished};
 ghost use Rattle.stream_drafts.specs.Placed.{ArePlaced};
 ghost use Rattle.stream_drafts.specs.Events.{
   IsMarked,
@@ -18,25 +18,31 @@ ghost use Rattle.stream_drafts.specs.Events.{
   number_or_0,
 };
 
+use crate::aliases::Aliases;
 use crate::draft::{CommitFields, Draft};
-use crate::finish::{FinishFault, marked_events};
-use crate::index::{make_blob_room, make_commit_room, note_blob, note_commit, note_tip};
+use crate::finish::{FinishFault, greatest_of, marked_events};
+use crate::grouping::grouped;
+use crate::index::{
+    make_blob_room, make_commit_room, make_tag_room, note_blob, note_commit, note_tag, note_tip,
+};
 use branch_tips::Tips;
 use plain_model::{
     BlobId, CommitId, EventList, MAX_MARK, Mark, NoMemory, PassId, ResetId, Signed, TagId, Text,
 };
 use std::alloc::Global;
-use std::collections::HashMap;
+use std::collections::{HashMap, HashSet};
 use std::marker::Model;
 
 /// The events that were read so far, each with its place from 1 as its id. Contracts see the plain list, in
-/// which a blob or a commit that has no mark yet has 0. It keeps its allocator, so that its calls take none.
+/// which a blob or a commit that has no mark yet has 0, and a commit no aliases. It keeps its allocator, so
+/// that its calls take none.
 #[derive(Drop)]
 pub struct Drafts {
     alloc: Global,
     drafts: Vec<Draft>,
     blobs: HashMap<u64, BlobId>,
     commits: HashMap<u64, CommitId>,
+    tags: HashSet<u64>,
     tips: Tips,
     greatest: u64,
 }
@@ -44,6 +50,7 @@ pub struct Drafts {
 impl Model for Drafts {
     ghost use Rattle.std.specs.Prelude.{List, nat_eq};
     ghost use Rattle.std.specs.HashMap.{get};
+    ghost use Rattle.std.specs.HashSet.{contains};
     ghost use Rattle.plain_model.specs.declared.event.PlainEvent.{PlainEvent};
     ghost use Rattle.stream_drafts.specs.Events.{events_of};
     ghost use Rattle.stream_drafts.specs.Indexed.{IsIndexed};
@@ -53,7 +60,7 @@ impl Model for Drafts {
     ghost view = { λ d. events_of d.drafts.items };
 
     ghost invariant = { λ d. IsIndexed (events_of d.drafts.items) (get nat_eq d.blobs)
-        (get nat_eq d.commits) d.tips d.greatest };
+        (get nat_eq d.commits) (contains nat_eq d.tags) d.tips d.greatest };
 }
 
 impl Drafts {
@@ -66,6 +73,7 @@ impl Drafts {
             drafts: Vec::new(alloc),
             blobs: HashMap::new(alloc),
             commits: HashMap::new(alloc),
+            tags: HashSet::new(alloc),
             tips: Tips::new(alloc),
             greatest: 0,
         }
@@ -78,11 +86,14 @@ impl Drafts {
         self.drafts.len() as u64 + 1
     }
 
-    /// Whether a blob or a commit has the mark.
+    /// Whether an event has the mark.
+    #[tactic(auto, using(crate::proofs::After::marked_by_kind))]
     pub fn is_marked(&self, mark: Mark) -> bool
         ensures { result ≡ is_marked self.now mark }
     {
-        self.blob_marked(mark).is_some() || self.commit_marked(mark).is_some()
+        let blob = self.blob_marked(mark).is_some();
+        let commit = self.commit_marked(mark).is_some();
+        blob || commit || self.tags.contains(&mark.number())
     }
 
     /// The blob with the mark.
@@ -126,9 +137,11 @@ impl Drafts {
         self.drafts.reserve(1)?;
         make_blob_room(&mut self.blobs)?;
         make_commit_room(&mut self.commits)?;
+        make_tag_room(&mut self.tags)?;
         note_tip(&mut self.tips, &draft)?;
         note_blob(&mut self.blobs, &draft);
         note_commit(&mut self.commits, &draft);
+        note_tag(&mut self.tags, &draft);
         self.greatest = self.greatest.max(draft.number());
         let pushed: Result<_, _> = self.drafts.push(draft);
         pushed.unwrap();
@@ -170,9 +183,10 @@ impl Drafts {
         target: CommitId,
         tagger: Option<Signed>,
         comment: Text,
+        mark: Option<Mark>,
     ) -> Result<TagId, NoMemory>
         ensures ok { OnOk result (self.new ≡ with_event self.old
-            (plain.Tag (next_id self.old) name target tagger comment)) }
+            (plain.Tag (next_id self.old) name target tagger comment mark)) }
         ensures id { IfOk result (λ id. id ≡ next_id self.old) }
         ensures err { OnErr result (self.new ≡ self.old) }
     {
@@ -183,6 +197,7 @@ impl Drafts {
             target,
             tagger,
             comment,
+            mark,
         })?;
         Ok(id)
     }
@@ -215,28 +230,34 @@ impl Drafts {
         Ok(id)
     }
 
-    /// The history: each blob or commit without a mark gets the next one above the greatest.
-    pub fn finish(self) -> Result<EventList, FinishFault>
-        ensures list { IfOk result (λ list. list ≡ with_marks (greatest_mark self) self) }
+    /// The history: each blob or commit without a mark gets the next one above the greatest, and each commit its aliases.
+    pub fn finish(self, aliases: Aliases) -> Result<EventList, FinishFault>
+        ensures history { IfOk result (λ list. list ≡ history_of (finished self aliases)) }
         ensures marked { IfOk result (All IsMarked) }
 
         // The marks are spent only where fewer are left than there are blobs and commits without one.
-        ensures fits { OnOk result (last_mark self ≤ MAX_MARK) }
+        ensures fits { OnOk result (last_mark (finished self aliases) ≤ MAX_MARK) }
         ensures spent { result ≡ Err FinishFault.MarksSpent →
-            MAX_MARK < last_mark self }
+            MAX_MARK < last_mark (finished self aliases) }
     {
         let Drafts {
             alloc,
             drafts,
             blobs,
             commits,
+            tags,
             tips,
             greatest,
         } = self;
         // They give their memory back before the history takes its own.
         drop(blobs);
         drop(commits);
+        drop(tags);
         drop(tips);
-        marked_events(alloc, drafts, greatest)
+        let aliases = aliases.into_list();
+        let greatest = greatest_of(greatest, aliases.as_slice());
+        let groups = grouped(alloc, aliases.as_slice())?;
+        drop(aliases);
+        marked_events(alloc, drafts, &groups, greatest)
     }
 }

@@ -1,4 +1,4 @@
-//! Where blobs and commits are found by mark, and tips by branch.
+//! Where blobs and commits are found by mark, and tips by branch; and which marks tags have.
 ghost use Rattle.std.specs.Prelude.{
   ◌≡◌,
   ◌≤◌,
@@ -13,17 +13,19 @@ ghost use Rattle.std.specs.Prelude.{
   OnErr,
   if◌then◌else◌,
   ◌==◌,
+  ◌||◌,
 };
 ghost use Rattle.std.specs.HashMap.{get, spare};
+ghost use Rattle.std.specs.HashSet.{contains, spare as set_spare};
 ghost use Rattle.plain_model.specs.Snapshots.{refs_after};
 ghost use Rattle.plain_model.specs.Streams.{blob_marked, commit_marked};
 ghost use Rattle.stream_drafts.specs.Events.{event_of};
-ghost use Rattle.stream_drafts.specs.Indexed.{first_of};
+ghost use Rattle.stream_drafts.specs.Indexed.{first_of, tag_marked};
 
 use crate::draft::Draft;
 use branch_tips::Tips;
 use plain_model::{BlobId, CommitId, Mark, NoMemory};
-use std::collections::HashMap;
+use std::collections::{HashMap, HashSet};
 
 /// Makes room for one mark more.
 pub fn make_blob_room(blobs: &mut HashMap<u64, BlobId>) -> Result<(), NoMemory>
@@ -43,6 +45,15 @@ pub fn make_commit_room(commits: &mut HashMap<u64, CommitId>) -> Result<(), NoMe
     Ok(())
 }
 
+/// Makes room for one mark more.
+pub fn make_tag_room(tags: &mut HashSet<u64>) -> Result<(), NoMemory>
+    ensures same { (n : ℕ) → contains nat_eq tags.new n ≡ contains nat_eq tags.old n }
+    ensures room { OnOk result (0 < set_spare tags.new) }
+{
+    tags.reserve(1)?;
+    Ok(())
+}
+
 fn note_blob_mark(blobs: &mut HashMap<u64, BlobId>, mark: Mark, id: BlobId)
     requires { 0 < spare blobs.old }
     ensures { (n : ℕ) → get nat_eq blobs.new n ≡
@@ -54,7 +65,8 @@ fn note_blob_mark(blobs: &mut HashMap<u64, BlobId>, mark: Mark, id: BlobId)
     }
 }
 
-fn note_commit_mark(commits: &mut HashMap<u64, CommitId>, mark: Mark, id: CommitId)
+/// Notes a mark and the commit that it finds, if it finds none yet.
+pub fn note_commit_mark(commits: &mut HashMap<u64, CommitId>, mark: Mark, id: CommitId)
     requires { 0 < spare commits.old }
     ensures { (n : ℕ) → get nat_eq commits.new n ≡
         first_of (get nat_eq commits.old n) (if mark == n then Some id else None) }
@@ -94,6 +106,22 @@ pub fn note_commit(commits: &mut HashMap<u64, CommitId>, draft: &Draft)
     } = draft
     {
         note_commit_mark(commits, *mark, *id);
+    }
+}
+
+/// Notes the mark of a tag, if it has one.
+pub fn note_tag(tags: &mut HashSet<u64>, draft: &Draft)
+    requires { 0 < set_spare tags.old }
+    ensures { (n : ℕ) → contains nat_eq tags.new n ≡
+        (contains nat_eq tags.old n || tag_marked (event_of draft.now ∷ []) n) }
+{
+    if let Draft::Tag {
+        mark: Some(mark),
+        ..
+    } = draft
+    {
+        let noted: Result<_, _> = tags.insert(mark.number());
+        let _ = noted.unwrap();
     }
 }
 

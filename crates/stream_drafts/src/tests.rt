@@ -78,6 +78,7 @@ fn put_event(out: &mut Text, event: &PlainEvent) -> Result<(), NoMemory> {
             committer,
             comment,
             parents,
+            aliases,
             ..
         } => {
             put_number(out, b"commit ", id.number())?;
@@ -89,6 +90,9 @@ fn put_event(out: &mut Text, event: &PlainEvent) -> Result<(), NoMemory> {
             for parent in parents.as_slice() {
                 put_number(out, b" from ", parent.number())?;
             }
+            for alias in aliases.as_slice() {
+                put_number(out, b" alias :", alias.number())?;
+            }
             Ok(())
         }
         PlainEvent::Tag {
@@ -96,9 +100,13 @@ fn put_event(out: &mut Text, event: &PlainEvent) -> Result<(), NoMemory> {
             name,
             target,
             comment,
+            mark,
             ..
         } => {
             put_number(out, b"tag ", id.number())?;
+            if let Some(mark) = mark {
+                put_number(out, b" :", mark.number())?;
+            }
             put_text(out, b" ", name)?;
             put_number(out, b" of ", target.number())?;
             put_text(out, b" ", comment)
@@ -139,10 +147,21 @@ fn seven_drafts(alloc: Global) -> Result<Drafts, Fail> {
         root,
         Some(signed(alloc, b"T")?),
         text(alloc, b"first")?,
+        Mark::new(5),
     )?;
     drafts.push_reset(text(alloc, b"old")?, Some(root))?;
     drafts.push_pass(text(alloc, b"progress half")?)?;
     Ok(drafts)
+}
+
+// Two of the commit with the id 3, and one of that with the id 4 between them.
+fn three_aliases(alloc: Global) -> Result<Aliases, Fail> {
+    let mut aliases = Aliases::new(alloc);
+    for (mark, commit) in [(12, 3), (10, 4), (11, 3)] {
+        let mark = Mark::new(mark).ok_or("mark")?;
+        aliases.push(mark, CommitId::new(commit))?;
+    }
+    Ok(aliases)
 }
 
 #[test]
@@ -151,14 +170,14 @@ fn events_without_a_mark_get_the_next_ones_above_the_greatest(rt: HostRuntime) -
     let drafts = seven_drafts(alloc)?;
     assert_eq!(rt; drafts.next_id(), 8);
     let want: &[u8] = b"blob 1 :7 one
-blob 2 :8 two
-commit 3 :3 main A C c1
-commit 4 :9 side A C c2 from 3
-tag 5 v1 of 3 first
+blob 2 :13 two
+commit 3 :3 main A C c1 alias :12 alias :11
+commit 4 :14 side A C c2 from 3 alias :10
+tag 5 :5 v1 of 3 first
 reset 6 old to 3
 pass 7 progress half
 ";
-    let Ok(events) = drafts.finish() else {
+    let Ok(events) = drafts.finish(three_aliases(alloc)?) else {
         return Err(Fail::from("finish"));
     };
     assert_eq!(rt; shown(alloc, &events)?.as_slice(), want);
@@ -186,6 +205,27 @@ fn marks_find_what_has_them(rt: HostRuntime) -> Result<(), Fail> {
             blob.is_some() || commit.is_some(),
             "{what}"
         );
+    }
+    let mark = Mark::new(5).ok_or("mark")?;
+    assert!(rt; drafts.is_marked(mark), "that of a tag");
+    assert!(rt; drafts.commit_marked(mark).is_none(), "that of a tag");
+    Ok(())
+}
+
+#[test]
+fn aliases_find_their_commits(rt: HostRuntime) -> Result<(), Fail> {
+    let aliases = three_aliases(rt.alloc())?;
+    assert_eq!(rt; aliases.count(), 3);
+    let rows: [(&str, u64, Option<u64>); 3] = [
+        ("of the first commit", 11, Some(3)),
+        ("of the second", 10, Some(4)),
+        ("no alias", 3, None),
+    ];
+    for (what, number, want) in rows {
+        let mark = Mark::new(number).ok_or("mark")?;
+        let found = aliases.commit_with(mark).map(|id| id.number());
+        assert_eq!(rt; found, want, "{what}");
+        assert_eq!(rt; aliases.is_alias(mark), want.is_some(), "{what}");
     }
     Ok(())
 }
@@ -242,7 +282,7 @@ fn marks_go_up_to_4294967295(rt: HostRuntime) -> Result<(), Fail> {
         let mut drafts = Drafts::new(alloc);
         drafts.push_blob(Mark::new(number), text(alloc, b"a")?)?;
         drafts.push_blob(None, text(alloc, b"b")?)?;
-        match drafts.finish() {
+        match drafts.finish(Aliases::new(alloc)) {
             Ok(events) => {
                 let out = shown(alloc, &events)?;
                 assert_eq!(rt; Some(out.as_slice()), want, "{what}");

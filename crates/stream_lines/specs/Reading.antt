@@ -35,7 +35,7 @@ in_line n (line.Bad why) = fault.BadStream n why
 in_line n (line.Limit which) = fault.Limit which (limit_number which)
 in_line n line.Memory = fault.Memory
 
--- what is known is what is due, or the fault is the one that is due; out of memory may be reported in place of either
+-- what is known is what is expected, or the fault is the one that is expected; out of memory may be reported in place of either
 abbrev pub Judges : Known → Result (Unit {0}) LineFault → Result Known (Cause Why Which) → Type 0
 Judges new (Ok tt) expected = expected ≡ Ok new
 Judges new (Err (line.Bad why)) expected = expected ≡ Err (Defect why)

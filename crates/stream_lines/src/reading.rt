@@ -39,7 +39,7 @@ fn in_line(line: u64, fault: LineFault) -> ReadFault
     }
 }
 
-// Whether the last line lacks its LF.
+// Whether the last line has no LF.
 fn misses_line_end(text: &[u8]) -> bool
     ensures { result ≡ not (is_lf (get_or text.now (length text.now - 1) 10)) }
 {

@@ -82,8 +82,8 @@ impl Builder {
     fn put_operation(&mut self, alloc: Global, more: u64, op: FileOp) -> Result<(), LineFault>
         requires { more ≤ 1 }
         ensures { (c : KnownCommit) → self.old.current ≡ ACommit c →
-            Judges self.new result (within_limit (op_limit more (with_op self.old.events c op))
-            (with_op self.old.events c op)) }
+            Judges self.new result (within_limit (op_limit more (with_op self.old c op))
+            (with_op self.old c op)) }
     {
         if self.drafts.next_id() > MAX_EVENTS - more {
             return Err(LineFault::Limit(Which::Events));
@@ -108,7 +108,7 @@ impl Builder {
     {
         let before = self.drafts.next_id() - 1;
         let count = match self.current {
-            Open::Nothing => before,
+            Open::Nothing | Open::Alias { .. } => before,
             _ => before + 1,
         };
         if count > MAX_EVENTS - more {

@@ -45,12 +45,14 @@ impl Builder {
         let name = read_name(alloc, text_of(line))?;
         let target = CommitId::new(0);
         let tagger = None;
+        let mark = None;
         self.begin(
             alloc,
             Open::Tag {
                 name,
                 target,
                 tagger,
+                mark,
             },
         )?;
         self.within_events()
@@ -63,6 +65,13 @@ impl Builder {
         let target = None;
         self.begin(alloc, Open::Reset { branch, target })?;
         self.within_events()
+    }
+
+    pub(crate) fn judge_alias(&mut self, alloc: Global, line: &[u8]) -> Result<(), LineFault>
+        ensures { Judges self.new result (judged_within word.Alias line.now self.old) }
+    {
+        self.begin(alloc, Open::Alias { mark: None })?;
+        self.within_aliases()
     }
 
     // The commits that the next one on a branch begins with.
@@ -95,7 +104,7 @@ impl Builder {
         self.within_events()
     }
 
-    // A line that is passed through stands after the other events.
+    // A line that is passed through is after the other events.
     fn pass(&mut self, alloc: Global, line: &[u8]) -> Result<(), NoMemory>
         ensures { OnOk result (self.new ≡ passed self.old line.now) }
     {

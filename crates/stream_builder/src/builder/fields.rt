@@ -20,6 +20,8 @@ impl Builder {
         match &mut self.current {
             Open::Blob { mark: old } => *old = Some(mark),
             Open::Commit(commit) => commit.mark = Some(mark),
+            Open::Tag { mark: old, .. } => *old = Some(mark),
+            Open::Alias { mark: old } => *old = Some(mark),
             _ => {}
         }
     }
@@ -28,7 +30,7 @@ impl Builder {
         ensures { Judges self.new result (judged_within word.Mark line.now self.old) }
     {
         let mark = read_mark(text_of(line))?;
-        if self.drafts.is_marked(mark) {
+        if self.drafts.is_marked(mark) || self.aliases.is_alias(mark) {
             return Err(LineFault::Bad(Why::RepeatedMark));
         }
         self.set_mark(mark);

@@ -33,9 +33,10 @@ impl Builder {
                     name,
                     target,
                     tagger,
+                    mark,
                 } = mem::replace(&mut self.current, Open::Nothing)
                 {
-                    self.drafts.push_tag(name, target, tagger, bytes)?;
+                    self.drafts.push_tag(name, target, tagger, bytes, mark)?;
                 }
             }
             _ => {}
@@ -62,6 +63,8 @@ impl KeepsEvents for Builder {
             Word::Merge => self.judge_merge(alloc, line),
             Word::Operation => self.judge_operation(alloc, line),
             Word::InlineOperation => self.judge_inline_operation(alloc, line),
+            Word::Alias => self.judge_alias(alloc, line),
+            Word::To => self.judge_to(line),
             Word::Pass => self.judge_pass(alloc, line),
             Word::FeatureDone => self.judge_feature_done(alloc, line),
             Word::Empty | Word::Oid | Word::Data | Word::Done | Word::LeftOut | Word::Other => Ok(

@@ -80,7 +80,7 @@ impl Builder {
     pub(crate) fn judge_from(&mut self, alloc: Global, line: &[u8]) -> Result<(), LineFault>
         ensures { Judges self.new result (judged_within word.From line.now self.old) }
     {
-        let commit = read_reference(&self.drafts, text_of(line))?;
+        let commit = read_reference(&self.drafts, &self.aliases, text_of(line))?;
         self.set_from(alloc, commit)?;
         Ok(())
     }
@@ -115,7 +115,7 @@ impl Builder {
     pub(crate) fn judge_merge(&mut self, alloc: Global, line: &[u8]) -> Result<(), LineFault>
         ensures { Judges self.new result (judged_within word.Merge line.now self.old) }
     {
-        let commit = read_reference(&self.drafts, text_of(line))?;
+        let commit = read_reference(&self.drafts, &self.aliases, text_of(line))?;
         self.put_parent(alloc, commit)
     }
 }

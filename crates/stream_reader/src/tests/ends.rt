@@ -46,7 +46,7 @@ fn data_that_is_cut_short_is_reported_at_its_line(rt: HostRuntime) -> Result<(),
 
 #[test]
 fn an_end_where_a_line_is_expected_is_reported_one_line_later(rt: HostRuntime) -> Result<(), Fail> {
-    let rows: [(&str, &[u8], u64); 19] = [
+    let rows: [(&str, &[u8], u64); 22] = [
         ("after blob", b"blob\n", 11),
         ("without the last LF", b"blob", 11),
         ("after a mark", b"blob\nmark :9", 12),
@@ -58,19 +58,18 @@ fn an_end_where_a_line_is_expected_is_reported_one_line_later(rt: HostRuntime) -
         ("after comments", b"blob\n# x\n# y", 13),
         ("after commit", b"commit c\n", 11),
         ("after an author", b"commit c\nauthor <> 0 +0000", 12),
-        (
-            "after a committer",
-            b"commit c\ncommitter <> 0 +0000\n",
-            12,
-        ),
+        ("after a committer", b"commit c\ncommitter <> 0 +0000\n", 12),
         (
             "after an encoding",
             b"commit c\ncommitter <> 0 +0000\nencoding x\n",
             13,
         ),
         ("after tag", b"tag t", 11),
+        ("after its mark", b"tag t\nmark :9\n", 12),
         ("after its from", b"tag t\nfrom b\n", 12),
         ("after a tagger", b"tag t\nfrom b\ntagger <> 0 +0000\n", 13),
+        ("after alias", b"alias\n", 11),
+        ("after an alias's mark", b"alias\nmark :9", 12),
         ("done is promised", b"feature done\n", 11),
         ("done is promised, no LF", b"feature done", 11),
         ("empty lines after the promise", b"feature done\n\n\n", 13),

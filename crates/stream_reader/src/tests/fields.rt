@@ -56,6 +56,47 @@ fn marks_are_1_to_4294967295_and_stand_once(rt: HostRuntime) -> Result<(), Fail>
 }
 
 #[test]
+fn a_mark_is_once_among_blobs_commits_tags_and_aliases(rt: HostRuntime) -> Result<(), Fail> {
+    let rows: [(&str, &[u8], u64); 7] = [
+        ("a blob's, of a tag", b"tag t\nmark :1\n", 11),
+        ("a commit's, of an alias", b"alias\nmark :2\n", 11),
+        (
+            "a tag's, of a blob",
+            b"tag t\nmark :9\nfrom b\ndata 0\nblob\nmark :9\n",
+            15,
+        ),
+        (
+            "a tag's, of another tag",
+            b"tag t\nmark :9\nfrom b\ndata 0\ntag u\nmark :9\n",
+            15,
+        ),
+        (
+            "an alias's, of a commit",
+            b"alias\nmark :9\nto :2\ncommit b\nmark :9\n",
+            14,
+        ),
+        (
+            "an alias's, of another alias",
+            b"alias\nmark :9\nto :2\nalias\nmark :9\n",
+            14,
+        ),
+        (
+            "an alias's, of a tag",
+            b"alias\nmark :9\nto :2\n\ntag t\nmark :9\n",
+            15,
+        ),
+    ];
+    for (what, lines, line) in rows {
+        assert_eq!(rt;
+            fault_after_front(rt.alloc(), lines)?,
+            defect(line, Why::RepeatedMark),
+            "{what}"
+        );
+    }
+    Ok(())
+}
+
+#[test]
 fn names_have_no_spaces(rt: HostRuntime) -> Result<(), Fail> {
     let rows: [(&str, &[u8]); 9] = [
         ("a commit without a space", b"commit\n"),

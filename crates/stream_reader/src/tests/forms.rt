@@ -1,16 +1,18 @@
-//! Lines that may not stand where they stand, and lines that lack.
+//! Lines that may not be where they are, and lines that are missing.
 use super::{defect, fault_after_front, fault_in_commit};
 use plain_model::Why;
 use std::test::*;
 
 #[test]
 fn lines_that_begin_no_form_are_unknown(rt: HostRuntime) -> Result<(), Fail> {
-    let rows: [(&str, &[u8], u64); 18] = [
+    let rows: [(&str, &[u8], u64); 20] = [
         ("another word", b"frob\n", 10),
         ("a space before the word", b" blob\n", 10),
         ("CR after blob", b"blob\r\n", 10),
         ("bytes after blob", b"blob x\n", 10),
         ("bytes after done", b"done x\n", 10),
+        ("bytes after alias", b"alias x\n", 10),
+        ("a commit that no alias names", b"to :2\n", 10),
         ("bytes after checkpoint", b"checkpoint x\n", 10),
         ("progress without its space", b"progress\n", 10),
         ("feature without its space", b"feature\n", 10),
@@ -81,7 +83,7 @@ fn lines_out_of_their_order_in_a_commit_are_unknown(rt: HostRuntime) -> Result<(
 
 #[test]
 fn lines_that_are_expected_are_missing(rt: HostRuntime) -> Result<(), Fail> {
-    let rows: [(&str, &[u8], u64); 16] = [
+    let rows: [(&str, &[u8], u64); 25] = [
         ("an event in place of a blob's data", b"blob\nblob\n", 11),
         ("an empty line in its place", b"blob\n\n", 11),
         ("done in its place", b"blob\ndone\n", 11),
@@ -130,6 +132,23 @@ fn lines_that_are_expected_are_missing(rt: HostRuntime) -> Result<(), Fail> {
             b"tag t\nfrom b\ntagger <> 0 +0000\ntagger <> 0 +0000\n",
             13,
         ),
+        ("a tag's mark after from", b"tag t\nfrom b\nmark :9\n", 12),
+        (
+            "a tag's mark after its original id",
+            b"tag t\nfrom b\noriginal-oid x\nmark :9\n",
+            13,
+        ),
+        (
+            "a tag's mark after the tagger",
+            b"tag t\nfrom b\ntagger <> 0 +0000\nmark :9\n",
+            13,
+        ),
+        ("a tag's mark twice", b"tag t\nmark :8\nmark :9\n", 12),
+        ("an alias in place of from", b"tag t\nalias\n", 11),
+        ("bytes after alias in its place", b"tag t\nalias x\n", 11),
+        ("an alias without a mark", b"alias\nto :2\n", 11),
+        ("an alias of nothing", b"alias\nmark :9\n\n", 12),
+        ("an alias with data", b"alias\nmark :9\ndata 0\n", 12),
     ];
     for (what, lines, line) in rows {
         let want = defect(line, Why::MissingLine);
@@ -196,8 +215,7 @@ fn the_block_after_inline_is_expected(rt: HostRuntime) -> Result<(), Fail> {
 
 #[test]
 fn what_is_left_out_is_named(rt: HostRuntime) -> Result<(), Fail> {
-    let rows: [(&str, &[u8], u64); 20] = [
-        ("alias", b"alias\nmark :9\nto :2\n", 10),
+    let rows: [(&str, &[u8], u64); 14] = [
         ("ls", b"ls :2 d\n", 10),
         ("cat-blob", b"cat-blob :1\n", 10),
         ("get-mark", b"get-mark :1\n", 10),
@@ -222,19 +240,6 @@ fn what_is_left_out_is_named(rt: HostRuntime) -> Result<(), Fail> {
             "where a comment is expected",
             b"commit c\ncommitter <> 0 +0000\ngpgsig sha1 openpgp\n",
             12,
-        ),
-        ("where from is expected", b"tag t\nalias\n", 11),
-        ("a tag's mark before from", b"tag t\nmark :9\n", 11),
-        ("a tag's mark after from", b"tag t\nfrom b\nmark :9\n", 12),
-        (
-            "a tag's mark after its original id",
-            b"tag t\nfrom b\noriginal-oid x\nmark :9\n",
-            13,
-        ),
-        (
-            "a tag's mark after the tagger",
-            b"tag t\nfrom b\ntagger <> 0 +0000\nmark :9\n",
-            13,
         ),
         ("after a reset", b"reset c\nget-mark :1\n", 11),
     ];

@@ -1,5 +1,5 @@
 //! What whole streams give.
-use super::put_number;
+use super::{joined, put_number};
 use crate::*;
 use plain_model::{Content, EventList, FileOp, Items, Mode, NoMemory, PlainEvent, Signed, Text};
 use std::alloc::Global;
@@ -60,7 +60,7 @@ fn put_op(out: &mut Text, op: &FileOp) -> Result<(), NoMemory> {
     }
 }
 
-// A line each: the kind and the id; the mark; the fields; the ids of parents in parentheses; the operations.
+// A line each: the kind and the id; the mark; the fields; the ids of parents in parentheses; the operations; the aliases.
 fn put_event(out: &mut Text, event: &PlainEvent) -> Result<(), NoMemory> {
     match event {
         PlainEvent::Blob { id, mark, bytes } => {
@@ -78,6 +78,7 @@ fn put_event(out: &mut Text, event: &PlainEvent) -> Result<(), NoMemory> {
             comment,
             parents,
             ops,
+            aliases,
         } => {
             put_number(out, b"commit ", id.number())?;
             put_number(out, b" :", mark.number())?;
@@ -96,6 +97,9 @@ fn put_event(out: &mut Text, event: &PlainEvent) -> Result<(), NoMemory> {
             for op in ops.as_slice() {
                 put_op(out, op)?;
             }
+            for alias in aliases.as_slice() {
+                put_number(out, b" alias :", alias.number())?;
+            }
             Ok(())
         }
         PlainEvent::Tag {
@@ -104,8 +108,12 @@ fn put_event(out: &mut Text, event: &PlainEvent) -> Result<(), NoMemory> {
             target,
             tagger,
             comment,
+            mark,
         } => {
             put_number(out, b"tag ", id.number())?;
+            if let Some(mark) = mark {
+                put_number(out, b" :", mark.number())?;
+            }
             put_bytes(out, b" ", name.as_slice())?;
             put_number(out, b" of ", target.number())?;
             if let Some(tagger) = tagger {
@@ -272,6 +280,71 @@ fn parents_come_from_branches_and_merges(rt: HostRuntime) -> Result<(), Fail> {
     ];
     for (what, stream, want) in rows {
         assert_eq!(rt; read_text(rt.alloc(), stream)?.as_slice(), want, "{what}");
+    }
+    Ok(())
+}
+
+#[test]
+fn aliases_and_marks_of_tags_are_read(rt: HostRuntime) -> Result<(), Fail> {
+    // The commits :1 and :2 on b, each without a comment.
+    let commits: &[u8] = b"commit b
+mark :1
+committer <> 1 +0000
+data 0
+commit b
+mark :2
+committer <> 2 +0000
+data 0
+";
+    let rows: [(&str, &[u8], &[u8]); 8] = [
+        (
+            "by its mark, and then a tag of the alias",
+            b"alias\nmark :9\nto :2\n\ntag v1\nmark :7\nfrom :9\ntagger T <t@x> 3 +0000\ndata 1\nm\n",
+            b"commit 1 :1 b ||1+0 ||1+0  ()\ncommit 2 :2 b ||2+0 ||2+0  (:1) alias :9\ntag 3 :7 v1 of 2 T|t@x|3+0 m\n",
+        ),
+        (
+            "by its branch, without the empty line",
+            b"alias\nmark :9\nto b\nprogress x\n",
+            b"commit 1 :1 b ||1+0 ||1+0  ()\ncommit 2 :2 b ||2+0 ||2+0  (:1) alias :9\npass 3 progress x\n",
+        ),
+        (
+            "two of one commit, and one of an earlier commit between them",
+            b"alias\nmark :9\nto :2\nalias\nmark :3\nto :1\nalias\nmark :8\nto :2\n",
+            b"commit 1 :1 b ||1+0 ||1+0  () alias :3\ncommit 2 :2 b ||2+0 ||2+0  (:1) alias :9 alias :8\n",
+        ),
+        (
+            "by another alias",
+            b"alias\nmark :9\nto :1\nalias\nmark :8\nto :9\n",
+            b"commit 1 :1 b ||1+0 ||1+0  () alias :9 alias :8\ncommit 2 :2 b ||2+0 ||2+0  (:1)\n",
+        ),
+        (
+            "as parents",
+            b"alias\nmark :9\nto :1\nalias\nmark :8\nto :2\ncommit c\nmark :3\ncommitter <> 3 +0000\ndata 0\nfrom :9\nmerge :8\n",
+            b"commit 1 :1 b ||1+0 ||1+0  () alias :9\ncommit 2 :2 b ||2+0 ||2+0  (:1) alias :8\ncommit 3 :3 c ||3+0 ||3+0  (:1:2)\n",
+        ),
+        (
+            "a reset to an alias",
+            b"alias\nmark :9\nto :1\nreset c\nfrom :9\n",
+            b"commit 1 :1 b ||1+0 ||1+0  () alias :9\ncommit 2 :2 b ||2+0 ||2+0  (:1)\nreset 3 c to 1\n",
+        ),
+        (
+            "a mark that isn't there is above the greatest alias",
+            b"alias\nmark :9\nto :1\nblob\ndata 0\n",
+            b"commit 1 :1 b ||1+0 ||1+0  () alias :9\ncommit 2 :2 b ||2+0 ||2+0  (:1)\nblob 3 :10 \n",
+        ),
+        (
+            "and above the greatest mark of a tag",
+            b"tag t\nmark :9\nfrom :1\ndata 0\nblob\ndata 0\n",
+            b"commit 1 :1 b ||1+0 ||1+0  ()\ncommit 2 :2 b ||2+0 ||2+0  (:1)\ntag 3 :9 t of 1 \nblob 4 :10 \n",
+        ),
+    ];
+    for (what, lines, want) in rows {
+        let stream = joined(rt.alloc(), commits, lines)?;
+        assert_eq!(rt;
+            read_text(rt.alloc(), stream.as_slice())?.as_slice(),
+            want,
+            "{what}"
+        );
     }
     Ok(())
 }

@@ -5,7 +5,7 @@ use std::test::*;
 
 #[test]
 fn parents_are_earlier_commits(rt: HostRuntime) -> Result<(), Fail> {
-    let rows: [(&str, &[u8], Why); 20] = [
+    let rows: [(&str, &[u8], Why); 21] = [
         ("no mark", b"from :0\n", Why::BadMark),
         ("no digits", b"from :x\n", Why::BadMark),
         ("no text", b"from \n", Why::BadMark),
@@ -14,6 +14,11 @@ fn parents_are_earlier_commits(rt: HostRuntime) -> Result<(), Fail> {
         ("a mark that nothing has", b"from :9\n", Why::UnknownMark),
         ("the mark of a blob", b"from :1\n", Why::UnknownMark),
         ("its own mark", b"from :3\n", Why::UnknownMark),
+        (
+            "an alias that comes later",
+            b"from :9\nalias\nmark :9\nto :2\n",
+            Why::UnknownMark,
+        ),
         ("its own mark of a merge", b"merge :3\n", Why::UnknownMark),
         ("a branch without a tip", b"from c\n", Why::UnknownRef),
         (
@@ -109,6 +114,55 @@ fn tags_and_resets_are_of_earlier_commits(rt: HostRuntime) -> Result<(), Fail> {
             b"commit c\ncommitter <> 0 +0000\ndata 0\nmerge c\n",
             13,
             Why::UnknownRef,
+        ),
+    ];
+    for (what, lines, line, why) in rows {
+        assert_eq!(rt;
+            fault_after_front(rt.alloc(), lines)?,
+            defect(line, why),
+            "{what}"
+        );
+    }
+    Ok(())
+}
+
+#[test]
+fn aliases_are_of_earlier_commits(rt: HostRuntime) -> Result<(), Fail> {
+    let rows: [(&str, &[u8], u64, Why); 10] = [
+        ("no mark", b"alias\nmark :9\nto :0\n", 12, Why::BadMark),
+        ("no text", b"alias\nmark :9\nto \n", 12, Why::BadMark),
+        ("no space", b"alias\nmark :9\nto\n", 12, Why::BadMark),
+        (
+            "a mark that nothing has",
+            b"alias\nmark :9\nto :8\n",
+            12,
+            Why::UnknownMark,
+        ),
+        (
+            "the mark of a blob",
+            b"alias\nmark :9\nto :1\n",
+            12,
+            Why::UnknownMark,
+        ),
+        ("itself", b"alias\nmark :9\nto :9\n", 12, Why::UnknownMark),
+        (
+            "the mark of a tag",
+            b"tag t\nmark :8\nfrom b\ndata 0\nalias\nmark :9\nto :8\n",
+            16,
+            Why::UnknownMark,
+        ),
+        (
+            "a branch without a tip",
+            b"alias\nmark :9\nto c\n",
+            12,
+            Why::UnknownRef,
+        ),
+        ("an ancestor", b"alias\nmark :9\nto b~\n", 12, Why::LeftOut),
+        (
+            "an alias as the content of a file",
+            b"alias\nmark :9\nto :2\ncommit b\ncommitter <> 0 +0000\ndata 0\nM 100644 :9 f\n",
+            16,
+            Why::UnknownMark,
         ),
     ];
     for (what, lines, line, why) in rows {

@@ -7,11 +7,11 @@ use Rattle.stream_drafts.proofs.finish.marked_events.Goals as goal
 
 pub loop-draft-preserved : goal.loop-draft-preserved
 loop-draft-preserved c =
-    let event = c.in-Some-marked_event.event in
+    let event = c.in_ok-event.event in
     record {
-      list = grind (arith, common_steps);
+      list = λ aliases g. grind (arith, common_steps, c.loop-draft.invariant.list aliases g, c.in_ok-event.ensures.event aliases);
       wants = grind (arith, common_steps);
       marked = subst (λ (es : List PlainEvent). All IsMarked es) (sym c.in_ok-push.ensures.ok)
-          (All-append IsMarked c.loop-draft.events (event ∷ []) c.loop-draft.invariant.marked (All-cons IsMarked event [] c.in-Some-marked_event.ensures.marked (All-nil IsMarked)));
+          (All-append IsMarked c.loop-draft.events (event ∷ []) c.loop-draft.invariant.marked (All-cons IsMarked event [] c.in_ok-event.ensures.marked (All-nil IsMarked)));
       range = grind (arith, common_steps);
     }

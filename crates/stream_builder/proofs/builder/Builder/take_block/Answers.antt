@@ -13,4 +13,4 @@ invariant_of-self-in_ok-push_blob-in-Commit c =
 pub invariant_of-self-in_ok-push_tag-in-Tag : goal.invariant_of-self-in_ok-push_tag-in-Tag
 invariant_of-self-in_ok-push_tag-in-Tag c =
     tag_over c.self.inside.drafts c.push_tag.new.self _ c.self.inside.trees c.self.inside.ops c.in_ok-push_tag-in-Tag.ensures.ok refl refl c.self.inside.current c.replace.new.dest
-    c.in-Tag.name c.in-Tag.target c.in-Tag.tagger c.in-Tag.is c.replace.ensures.after c.self.invariant
+    c.in-Tag.name c.in-Tag.target c.in-Tag.tagger c.in-Tag.mark c.in-Tag.is c.replace.ensures.after c.self.invariant
