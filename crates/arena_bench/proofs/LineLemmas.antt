@@ -128,6 +128,8 @@ module _ (step : ℕ) (events : List PlainEvent) (h : IsLine step events) where
         distinct,
         few,
         (named, tt),
+        tt,
+        refl,
       )
     where
       there : eqb step 0 ≡ false → has_id (events ++ blob step ∷ []) (any.Commit (2 * step)) ≡ true
@@ -192,7 +194,7 @@ module _ (step : ℕ) (events : List PlainEvent) (h : IsLine step events) where
     marks = no-later-mark;
     last = λ _. is-last;
     trees = tree-of;
-    spelled = λ few. all-more (events ++ blob step ∷ []) (commit step) (all-more events (blob step) (h.spelled (omega arith)) (omega arith, omega arith)) ((omega arith, omega arith), ((tt, refl), tt));
+    spelled = λ few. all-more (events ++ blob step ∷ []) (commit step) (all-more events (blob step) (h.spelled (omega arith)) (omega arith, omega arith)) ((omega arith, omega arith), ((tt, refl), tt), tt);
   }
 
 pub line-sound : (step : ℕ) (events : List PlainEvent) → step < 1073741824 → IsLine step events → IsSound events

@@ -83,6 +83,7 @@ fn commit(alloc: Global, step: u64) -> Option<PlainEvent>
         comment: text(alloc, b"a comment of one line\n")?,
         parents: parents(alloc, step)?,
         ops: operations(alloc, step)?,
+        aliases: Items::empty(alloc),
     })
 }
 

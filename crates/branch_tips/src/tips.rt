@@ -83,7 +83,7 @@ impl Tips {
         self.by_branch.remove(branch);
     }
 
-    /// Goes on by one event. Where memory is wanting, the tips stay as they were.
+    /// Goes on by one event. Out of memory, the tips stay as they were.
     pub fn note(&mut self, event: &PlainEvent) -> Result<(), NoMemory>
         ensures ok { OnOk result (self.new ≡ refs_after self.old (event.now ∷ [])) }
         ensures err { OnErr result (self.new ≡ self.old) }

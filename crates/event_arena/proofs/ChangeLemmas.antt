@@ -9,6 +9,7 @@ use Rattle.std.specs.Prelude.{map, option_to_list}
 use Rattle.std.specs.declared.rc.Rc.{Rc}
 use Rattle.indexmap.specs.IndexSet.{insert_key}
 use Rattle.plain_model.specs.declared.id.AnyId.{AnyId}
+use Rattle.plain_model.specs.declared.id.AnyId.TheVariants as any
 use Rattle.plain_model.specs.declared.operation.FileOp.{FileOp}
 use Rattle.plain_model.specs.declared.person.Signed.{Signed}
 use Rattle.plain_model.specs.declared.event.PlainEvent.{PlainEvent}
@@ -19,7 +20,7 @@ use Rattle.event_arena.specs.declared.field.Field.{Field}
 use Rattle.event_arena.specs.declared.field.Field.TheVariants as field
 use Rattle.event_arena.specs.declared.field.Role.{Role}
 use Rattle.event_arena.specs.declared.field.Role.TheVariants.{Author, Committer, Tagger}
-use Rattle.event_arena.specs.Changes.{IsOrderOf, changed, in_order, put_event, with_comment, with_field, with_mark, with_ops, with_parents, with_signed, with_target, without_all}
+use Rattle.event_arena.specs.Changes.{IsOrderOf, changed, in_order, put_event, with_aliases, with_comment, with_field, with_label, with_mark, with_ops, with_parents, with_signed, with_target, without_all}
 use Rattle.event_arena.specs.Rows.{IsKeyed, events_of}
 use Rattle.event_arena.proofs.Ids.{key_eq, same_id-comm, same_id-refl, same_id-true}
 use Rattle.event_arena.proofs.SpentLemmas.{cons-absent, find-id}
@@ -49,7 +50,22 @@ id-with_field (field.Mark new) e = mark new e
   where
     mark : (new : ℕ) (e : PlainEvent) → id_of (with_mark new e) ≡ id_of e
     mark new (plain.Blob id m bytes) = refl
+    mark new (plain.Tag id name t tagger comment m) = tagged m
+      where
+        tagged : (m : Option ℕ) → id_of (with_mark new (plain.Tag id name t tagger comment m)) ≡ any.Tag id
+        tagged None = refl
+        tagged (Some old) = refl
     mark new _ = refl
+id-with_field (field.Aliases new) e = aliases new e
+  where
+    aliases : (new : List ℕ) (e : PlainEvent) → id_of (with_aliases new e) ≡ id_of e
+    aliases new (plain.Commit id mark branch author committer encoding comment ps ops old) = refl
+    aliases new _ = refl
+id-with_field (field.Label new) e = label new e
+  where
+    label : (new : List ℕ) (e : PlainEvent) → id_of (with_label new e) ≡ id_of e
+    label new (plain.Tag id name t tagger comment m) = refl
+    label new _ = refl
 id-with_field (field.Target new) e = target new e
   where
     target : (new : ℕ) (e : PlainEvent) → id_of (with_target new e) ≡ id_of e
@@ -106,17 +122,6 @@ set-more keys seen id same x = by (cases_Bool (list_any (eq-value.it id) keys)) 
         or_true true = refl
         or_true false = refl
     by (inr no_it) = rw no_it (is_listed-append keys (id ∷ []) x ∙ ap (λ b. b || (same_id x id || false)) (same x))
-
-pub take-more : (ids : List AnyId) (i : ℕ) (id : AnyId) → i < length ids → id ≡ get_or ids i id → take (suc i) ids ≡ take i ids ++ id ∷ []
-take-more [] i id h g = absurd (omega arith)
-take-more (x ∷ ids) zero id h g = rw (← g) refl
-take-more (x ∷ ids) (suc i) id h g = ap (λ ys. x ∷ ys) (take-more ids i id (omega arith) g)
-
-pub take-ids : (ids : List AnyId) (n : ℕ) → length ids ≤ n → take n ids ≡ ids
-take-ids [] zero h = refl
-take-ids [] (suc n) h = refl
-take-ids (p ∷ ps) zero h = absurd (omega arith)
-take-ids (p ∷ ps) (suc n) h = ap (λ xs. p ∷ xs) (take-ids ps n (omega arith))
 
 -- ---- orders
 

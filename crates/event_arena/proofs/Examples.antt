@@ -22,13 +22,13 @@ after : (rest : List PlainEvent) → AreSoundAfter front rest → AreSoundAfter 
 after rest h = (
   (refl, refl),
   (
-    (refl, refl, refl, signed-formed 2 (lit≤ tt), signed-formed 2 (lit≤ tt), tt, tt, refl, lit≤ tt, tt),
+    (refl, refl, refl, signed-formed 2 (lit≤ tt), signed-formed 2 (lit≤ tt), tt, tt, refl, lit≤ tt, tt, tt, refl),
     (
-      (refl, refl, refl, signed-formed 3 (lit≤ tt), signed-formed 3 (lit≤ tt), tt, (refl, tt), refl, lit≤ tt, tt),
+      (refl, refl, refl, signed-formed 3 (lit≤ tt), signed-formed 3 (lit≤ tt), tt, (refl, tt), refl, lit≤ tt, tt, (refl, tt), refl),
       (
-        (refl, refl, refl, signed-formed 4 (lit≤ tt), signed-formed 4 (lit≤ tt), tt, (refl, tt), refl, lit≤ tt, tt),
+        (refl, refl, refl, signed-formed 4 (lit≤ tt), signed-formed 4 (lit≤ tt), tt, (refl, tt), refl, lit≤ tt, tt, tt, refl),
         (
-          (refl, refl, refl, signed-formed 5 (lit≤ tt), signed-formed 5 (lit≤ tt), tt, (refl, (refl, tt)), refl, lit≤ tt, tt),
+          (refl, refl, refl, signed-formed 5 (lit≤ tt), signed-formed 5 (lit≤ tt), tt, (refl, (refl, tt)), refl, lit≤ tt, tt, tt, refl),
           h,
         ),
       ),
@@ -53,16 +53,16 @@ trees c h = elim (cases_Bool (eqb 2 c)) [
   ]
 ]
 
+a-mark : (n : ℕ) → 1 ≤ n → n ≤ MAX_MARK → IsMark n
+a-mark n low high = (low, high)
+
 -- the fields of the first events are such as lines spell, whatever stands after them
 spelled : (rest : List PlainEvent) → AllByRecursion IsFormedEvent rest → AllByRecursion IsFormedEvent (front ++ rest)
-spelled rest h = (a-mark 1 (lit≤ tt) (lit≤ tt), ((a-mark 2 (lit≤ tt) (lit≤ tt), tt), ((a-mark 3 (lit≤ tt) (lit≤ tt), tt), ((a-mark 4 (lit≤ tt) (lit≤ tt), tt), ((a-mark 5 (lit≤ tt) (lit≤ tt), tt), h)))))
-  where
-    a-mark : (n : ℕ) → 1 ≤ n → n ≤ MAX_MARK → IsMark n
-    a-mark n low high = (low, high)
+spelled rest h = (a-mark 1 (lit≤ tt) (lit≤ tt), ((a-mark 2 (lit≤ tt) (lit≤ tt), tt, tt), ((a-mark 3 (lit≤ tt) (lit≤ tt), tt, (a-mark 30 (lit≤ tt) (lit≤ tt), tt)), ((a-mark 4 (lit≤ tt) (lit≤ tt), tt, tt), ((a-mark 5 (lit≤ tt) (lit≤ tt), tt, tt), h)))))
 
 pub example-sound : IsSound example
 unfolding example
-example-sound = record { formed = after (tag 6 5 ∷ reset ∷ []) ((refl, refl, refl, tt), ((refl, refl, refl), tt)); spelled = spelled (tag 6 5 ∷ reset ∷ []) (tt, (tt, tt)); trees = trees }
+example-sound = record { formed = after (tag 6 5 ∷ reset ∷ []) ((refl, refl, refl, tt, refl), ((refl, refl, refl), tt)); spelled = spelled (tag 6 5 ∷ reset ∷ []) (a-mark 6 (lit≤ tt) (lit≤ tt), (tt, tt)); trees = trees }
 
 pub untagged-sound : IsSound (without (any.Tag 6) example)
 unfolding example
@@ -70,7 +70,7 @@ untagged-sound = record { formed = after (reset ∷ []) ((refl, refl, refl), tt)
 
 pub retagged-sound : IsSound (without (any.Tag 6) example ++ tag 8 5 ∷ [])
 unfolding example
-retagged-sound = record { formed = after (reset ∷ tag 8 5 ∷ []) ((refl, refl, refl), ((refl, refl, refl, tt), tt)); spelled = spelled (reset ∷ tag 8 5 ∷ []) (tt, (tt, tt)); trees = trees }
+retagged-sound = record { formed = after (reset ∷ tag 8 5 ∷ []) ((refl, refl, refl), ((refl, refl, refl, tt, refl), tt)); spelled = spelled (reset ∷ tag 8 5 ∷ []) (tt, (a-mark 8 (lit≤ tt) (lit≤ tt), tt)); trees = trees }
 
 pub example-low : AreIdsBelow 4611686018427387904 example
 unfolding example

@@ -1,5 +1,5 @@
 -- Walks along a list.
-use Rattle.std.proofs.Common.{◌≡◌, ◌∙◌, ℕ, zero, suc, ◌+◌, ◌≤◌, List, [], ◌∷◌, ◌++◌, Some, None, refl, ap, sym, length, take, drop, reverse, append_assoc, arith, length-append}
+use Rattle.std.proofs.Common.{◌≡◌, ◌∙◌, ℕ, zero, suc, ◌+◌, ◌<◌, ◌≤◌, List, [], ◌∷◌, ◌++◌, Some, None, refl, ap, sym, length, take, drop, get_or, reverse, append_assoc, arith, length-append}
 use Rattle.std.proofs.lemmas.List.{reverse-append}
 use Rattle.std.proofs.lemmas.Option.{none-some, same_Some}
 use Rattle.std.specs.List.{fold}
@@ -20,6 +20,11 @@ module _ {X : Type 0} where
   take-all [] (suc n) h = refl
   take-all (x ∷ xs) zero h = absurd (omega arith)
   take-all (x ∷ xs) (suc n) h = ap (λ ys. x ∷ ys) (take-all xs n (omega arith))
+
+  pub take-more : (xs : List X) (k : ℕ) (x : X) → k < length xs → x ≡ get_or xs k x → take (suc k) xs ≡ take k xs ++ x ∷ []
+  take-more [] k x h g = absurd (omega arith)
+  take-more (y ∷ xs) zero x h g = rw (← g) refl
+  take-more (y ∷ xs) (suc k) x h g = ap (λ ys. y ∷ ys) (take-more xs k x (omega arith) g)
 
   -- an item begins what is left
   pub drop-item : (xs : List X) (k : ℕ) (x : X) → slice_get xs k ≡ Some x → drop k xs ≡ x ∷ drop (suc k) xs

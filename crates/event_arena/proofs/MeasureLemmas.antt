@@ -7,7 +7,7 @@ use Rattle.std.specs.List.{AllByRecursion, fold}
 use Rattle.std.specs.Prelude.{flat_map, map, slice_get, IsSome}
 use Rattle.plain_model.specs.declared.id.AnyId.{AnyId}
 use Rattle.plain_model.specs.declared.event.PlainEvent.{PlainEvent}
-use Rattle.plain_model.specs.Lookups.{AreIdsBelow, event_parents, find_event, id_number, id_of, marks_of, next_number, own_mark, referents_of, same_id}
+use Rattle.plain_model.specs.Lookups.{AreIdsBelow, event_parents, find_event, id_number, id_of, marks_of, next_number, own_marks, referents_of, same_id}
 use Rattle.plain_model.specs.declared.event.PlainEvent.TheVariants as plain
 use Rattle.plain_model.specs.declared.id.AnyId.TheVariants as any
 use Rattle.event_arena.specs.Needs.{event_need, need}
@@ -20,7 +20,7 @@ pub need-more : (es : List PlainEvent) (k : ℕ) (e : PlainEvent) → slice_get 
 need-more es k e h =
     let a = length-take-item es k e h in
     let b = ap length (flat-take-item referents_of es k e h) ∙ length-append (flat_map referents_of (take k es)) (referents_of e) in
-    let c = ap length (flat-take-item own_mark es k e h) ∙ length-append (marks_of (take k es)) (own_mark e) in
+    let c = ap length (flat-take-item own_marks es k e h) ∙ length-append (marks_of (take k es)) (own_marks e) in
     omega arith
 
 -- the events before one and that one need no more than all
@@ -29,7 +29,7 @@ need-part es k e h =
     let more = need-more es k e h in
     let a = length-take (suc k) es in
     let b = length-flat-take referents_of es (suc k) in
-    let c = length-flat-take own_mark es (suc k) in
+    let c = length-flat-take own_marks es (suc k) in
     omega arith
 
 -- parents are among what an event refers to

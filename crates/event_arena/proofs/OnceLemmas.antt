@@ -1,16 +1,17 @@
 -- Ids and marks that stand once.
-use Rattle.std.proofs.Common.{◌≡◌, ◌∙◌, ℕ, ◌+◌, ◌≤◌, false, inl, inr, List, [], ◌∷◌, ◌++◌, Some, None, refl, ap, sym, subst, eqb, length, take, drop, arith, length-append, suc}
+use Rattle.std.proofs.Common.{◌≡◌, ◌∙◌, ℕ, zero, ◌+◌, ◌<◌, ◌≤◌, false, inl, inr, List, [], ◌∷◌, ◌++◌, Some, None, refl, ap, sym, subst, eqb, length, take, drop, get_or, append_assoc, arith, length-append, suc}
 use Rattle.std.proofs.lemmas.Bool.{cases_Bool}
 use Rattle.std.proofs.lemmas.Bool.Decides.{nat_tests}
-use Rattle.std.proofs.lemmas.Option.{none-some}
+use Rattle.std.proofs.lemmas.List.{length-map, map-append, take-append-drop}
+use Rattle.std.proofs.lemmas.Option.{none-some, same_Some}
 use Rattle.std.specs.Map.{lookup}
 use Rattle.std.specs.Prelude.{flat_map, slice_get}
 use Rattle.plain_model.specs.declared.id.AnyId.{AnyId}
 use Rattle.plain_model.specs.declared.event.PlainEvent.{PlainEvent}
-use Rattle.plain_model.specs.Lookups.{find_event, id_of, marks_of, own_mark, same_id}
-use Rattle.event_arena.specs.Once.{AreDistinct, AreMarkedOnce}
-use Rattle.event_arena.proofs.Ids.{same_id-comm}
-use Rattle.event_arena.proofs.ListLemmas.{flat-split, flat-take-item}
+use Rattle.plain_model.specs.Lookups.{find_event, id_of, marks_of, own_marks, same_id}
+use Rattle.event_arena.specs.Once.{AreDistinct, AreMarkedOnce, named}
+use Rattle.event_arena.proofs.Ids.{same_id-comm, same_id-refl, same_id-true}
+use Rattle.event_arena.proofs.ListLemmas.{flat-split, flat-take-item, take-more}
 use Rattle.event_arena.proofs.SpentLemmas.{absent-cons}
 
 -- ---- ids
@@ -23,6 +24,17 @@ not-found (x ∷ xs) ys e id h = not-found xs ys e id (absent-cons id x (xs ++ e
 pub distinct-absent : (xs ys : List PlainEvent) (e : PlainEvent) → AreDistinct (xs ++ e ∷ ys) → find_event (id_of e) xs ≡ None
 distinct-absent [] ys e h = refl
 distinct-absent (x ∷ xs) ys e h = rw (not-found xs ys e (id_of x) h.0) (distinct-absent xs ys e h.1)
+
+-- an event is found by its id
+pub found-at : (es : List PlainEvent) (k : ℕ) (e : PlainEvent) → AreDistinct es → slice_get es k ≡ Some e → find_event (id_of e) es ≡ Some e
+found-at [] k e once h = absurd (none-some e h)
+found-at (x ∷ es) zero e once h = subst (λ y. find_event (id_of y) (x ∷ es) ≡ Some y) (same_Some x e h) (rw (same_id-refl (id_of x)) refl)
+found-at (x ∷ es) (suc k) e once h =
+    let later = found-at es k e once.1 h in
+    elim (cases_Bool (same_id (id_of e) (id_of x))) [
+      | inl it ↦ absurd (none-some e (sym (ap (λ i. find_event i es) (same_id-true (id_of e) (id_of x) it) ∙ once.0) ∙ later))
+      | inr no_it ↦ rw no_it later
+    ]
 
 -- ---- marks
 
@@ -56,14 +68,37 @@ marked-front [] ys h = tt
 marked-front (x ∷ xs) ys h = (lookup-front xs ys x.0 h.0, marked-front xs ys h.1)
 
 pub marks-more : (es : List PlainEvent) (k : ℕ) (e : PlainEvent) → slice_get es k ≡ Some e → AreMarkedOnce (marks_of es) →
-    AreMarkedOnce (marks_of (take k es) ++ own_mark e)
+    AreMarkedOnce (marks_of (take k es) ++ own_marks e)
 marks-more es k e h m =
-    subst AreMarkedOnce (flat-take-item own_mark es k e h)
-    (marked-front (flat_map own_mark (take (suc k) es)) (flat_map own_mark (drop (suc k) es)) (subst AreMarkedOnce (sym (flat-split own_mark es (suc k))) m))
+    subst AreMarkedOnce (flat-take-item own_marks es k e h)
+    (marked-front (flat_map own_marks (take (suc k) es)) (flat_map own_marks (drop (suc k) es)) (subst AreMarkedOnce (sym (flat-split own_marks es (suc k))) m))
 
 pub marks-room : (es : List PlainEvent) (k : ℕ) (e : PlainEvent) → slice_get es k ≡ Some e →
-    length (marks_of (take k es)) + length (own_mark e) ≤ length (marks_of es)
+    length (marks_of (take k es)) + length (own_marks e) ≤ length (marks_of es)
 marks-room es k e h =
-    let a = ap length (flat-take-item own_mark es k e h) ∙ length-append (marks_of (take k es)) (own_mark e) in
-    let b = sym (ap length (flat-split own_mark es (suc k))) ∙ length-append (flat_map own_mark (take (suc k) es)) (flat_map own_mark (drop (suc k) es)) in
+    let a = ap length (flat-take-item own_marks es k e h) ∙ length-append (marks_of (take k es)) (own_marks e) in
+    let b = sym (ap length (flat-split own_marks es (suc k))) ∙ length-append (flat_map own_marks (take (suc k) es)) (flat_map own_marks (drop (suc k) es)) in
     omega arith
+
+-- ---- the marks of one event
+
+pub length-named : (id : AnyId) (ms : List ℕ) → length (named id ms) ≡ length ms
+length-named id ms = length-map ms (λ m. (m, id))
+
+module _ (xs : List (ℕ × AnyId)) (own : List ℕ) (id : AnyId) (k m : ℕ) (within : k < length own) (is : m ≡ get_or own k m) where
+  -- one more is noted
+  pub named-more : (xs ++ named id (take k own)) ++ (m, id) ∷ [] ≡ xs ++ named id (take (suc k) own)
+  named-more =
+      append_assoc xs (named id (take k own)) ((m, id) ∷ [])
+      ∙ ap (λ ys. xs ++ ys) (sym (ap (named id) (take-more own k m within is) ∙ map-append (λ n. (n, id)) (take k own) (m ∷ [])))
+
+  -- and wasn't there before
+  pub marked-next : AreMarkedOnce (xs ++ named id own) → lookup (λ n. eqb m n) (xs ++ named id (take k own)) ≡ None
+  marked-next once = marked-absent (xs ++ named id (take k own)) (named id (drop (suc k) own)) m id (subst AreMarkedOnce split once)
+    where
+      split : xs ++ named id own ≡ (xs ++ named id (take k own)) ++ (m, id) ∷ named id (drop (suc k) own)
+      split =
+          ap (λ ms. xs ++ named id ms) (sym (take-append-drop (suc k) own)) ∙ ap (λ ys. xs ++ ys) (map-append (λ n. (n, id)) (take (suc k) own) (drop (suc k) own))
+          ∙ sym (append_assoc xs (named id (take (suc k) own)) (named id (drop (suc k) own)))
+          ∙ ap (λ ys. ys ++ named id (drop (suc k) own)) (sym named-more)
+          ∙ append_assoc (xs ++ named id (take k own)) ((m, id) ∷ []) (named id (drop (suc k) own))

@@ -1,18 +1,18 @@
 -- In a sound history ids, marks and parents stand once, and what isn't there has no children.
-use Rattle.std.proofs.Common.{◌≡◌, ◌∙◌, ℕ, suc, Bool, true, false, cond, ◌||◌, inl, inr, List, [], ◌∷◌, ◌++◌, Option, Some, None, refl, sym, ap, eqb, arith, append_assoc}
+use Rattle.std.proofs.Common.{◌≡◌, ◌∙◌, ℕ, suc, Bool, true, false, cond, not, ◌||◌, ◌&&◌, inl, inr, List, [], ◌∷◌, ◌++◌, Option, Some, None, refl, sym, ap, eqb, arith, append_assoc}
 use Rattle.std.proofs.lemmas.Bool.{cases_Bool, eqb-true, true≢false}
 use Rattle.std.proofs.lemmas.Bool.Decides.{nat_tests}
 use Rattle.std.proofs.lemmas.Option.{none-some}
 use Rattle.std.specs.List.{AllByRecursion, list_any}
 use Rattle.std.specs.Map.{lookup}
-use Rattle.std.specs.Prelude.{is_some, option_map}
+use Rattle.std.specs.Prelude.{is_some, map, option_map, option_to_list}
 use Rattle.plain_model.specs.declared.id.AnyId.{AnyId}
 use Rattle.plain_model.specs.declared.id.AnyId.TheVariants as any
 use Rattle.plain_model.specs.declared.event.PlainEvent.{PlainEvent}
 use Rattle.plain_model.specs.declared.event.PlainEvent.TheVariants as plain
-use Rattle.plain_model.specs.Lookups.{children_of, event_parents, find_event, id_of, marks_of, own_child, own_mark, place_of, same_id}
+use Rattle.plain_model.specs.Lookups.{children_of, event_marks, event_parents, find_event, id_of, marks_of, own_child, own_marks, place_of, same_id}
 use Rattle.plain_model.specs.Soundness.{AreSoundAfter, IsCommitOf, IsSound, IsSoundEvent, are_distinct, has_id}
-use Rattle.plain_model.specs.Streams.{is_marked}
+use Rattle.plain_model.specs.Streams.{is_among, is_marked}
 use Rattle.event_arena.specs.Once.{AreDistinct, AreMarkedOnce, AreParentsOnce, OccursOnce}
 use Rattle.event_arena.proofs.Ids.{same_id-refl, same_id-true}
 use Rattle.event_arena.proofs.SpentLemmas.{absent-cons, cons-absent}
@@ -37,7 +37,7 @@ or_true false = refl
 
 -- ---- ids
 
-has_id-cons : (e : PlainEvent) (es : List PlainEvent) (id : AnyId) → has_id (e ∷ es) id ≡ same_id id (id_of e) || has_id es id
+pub has_id-cons : (e : PlainEvent) (es : List PlainEvent) (id : AnyId) → has_id (e ∷ es) id ≡ same_id id (id_of e) || has_id es id
 has_id-cons (plain.Blob i mark bytes) es (any.Blob b) = ap (λ t. t || has_id es (any.Blob b)) (turned i b)
 has_id-cons (plain.Commit i mark branch author committer encoding comment parents ops aliases) es (any.Commit c) = ap (λ t. t || has_id es (any.Commit c)) (turned i c)
 has_id-cons (plain.Tag i name target tagger comment mark) es (any.Tag t) = ap (λ b. b || has_id es (any.Tag t)) (turned i t)
@@ -85,10 +85,14 @@ distinct earlier (e ∷ es) h = (apart (earlier ++ e ∷ []) es h.1 (id_of e) ow
 
 -- ---- marks
 
+or_inner : (a b c : Bool) → a || (b || c) ≡ (a || (b || false)) || c
+or_inner true b c = refl
+or_inner false b c = or_assoc b false c
+
 is_marked-cons : (e : PlainEvent) (es : List PlainEvent) (m : ℕ) → is_marked (e ∷ es) m ≡ is_marked (e ∷ []) m || is_marked es m
 is_marked-cons (plain.Blob id mark bytes) es m = or_assoc (eqb mark m) false (is_marked es m)
-is_marked-cons (plain.Commit id mark branch author committer encoding comment parents ops aliases) es m = or_assoc (eqb mark m) false (is_marked es m)
-is_marked-cons (plain.Tag id name target tagger comment mark) es m = refl
+is_marked-cons (plain.Commit id mark branch author committer encoding comment parents ops aliases) es m = or_inner (eqb mark m) (is_among aliases m) (is_marked es m)
+is_marked-cons (plain.Tag id name target tagger comment mark) es m = or_assoc (is_among (option_to_list mark) m) false (is_marked es m)
 is_marked-cons (plain.Reset id branch target) es m = refl
 is_marked-cons (plain.Pass id line) es m = refl
 
@@ -105,40 +109,77 @@ lookup-none (x ∷ xs) ys m h i = elim (cases_Bool (eqb m x.0)) [
   | inr no_it ↦ rw no_it (lookup-none xs ys m (rw no_it at h) i)
 ]
 
-other-mark : (earlier : List PlainEvent) (mark m : ℕ) (id : AnyId) → is_marked earlier mark ≡ false → is_marked earlier m ≡ true → lookup (λ n. eqb m n) ((mark, id) ∷ []) ≡ None
-other-mark earlier mark m id new there = elim (cases_Bool (eqb m mark)) [
-  | inl it ↦ absurd (true≢false (sym there ∙ ap (is_marked earlier) (eqb-true m mark it) ∙ new))
-  | inr no_it ↦ rw no_it refl
-]
+-- the marks of an event are new
+new-marks : (earlier : List PlainEvent) (e : PlainEvent) → IsSoundEvent earlier e → AllByRecursion (λ m. is_marked earlier m ≡ false) (event_marks e)
+new-marks earlier (plain.Blob id mark bytes) h = (h.1, tt)
+new-marks earlier (plain.Commit id mark branch author committer encoding comment parents ops aliases) h = (h.1, h.10)
+new-marks earlier (plain.Tag id name target tagger comment None) h = tt
+new-marks earlier (plain.Tag id name target tagger comment (Some mark)) h = (h.4, tt)
+new-marks earlier (plain.Reset id branch target) h = tt
+new-marks earlier (plain.Pass id line) h = tt
 
-event-other : (earlier : List PlainEvent) (e : PlainEvent) → IsSoundEvent earlier e → (m : ℕ) → is_marked earlier m ≡ true → lookup (λ n. eqb m n) (own_mark e) ≡ None
-event-other earlier (plain.Blob id mark bytes) h m there = other-mark earlier mark m (any.Blob id) h.1 there
-event-other earlier (plain.Commit id mark branch author committer encoding comment parents ops aliases) h m there = other-mark earlier mark m (any.Commit id) h.1 there
-event-other earlier (plain.Tag id name target tagger comment mark) h m there = refl
-event-other earlier (plain.Reset id branch target) h m there = refl
-event-other earlier (plain.Pass id line) h m there = refl
+-- and distinct
+distinct-marks : (earlier : List PlainEvent) (e : PlainEvent) → IsSoundEvent earlier e → are_distinct (event_marks e) ≡ true
+distinct-marks earlier (plain.Blob id mark bytes) h = refl
+distinct-marks earlier (plain.Commit id mark branch author committer encoding comment parents ops aliases) h = h.11
+distinct-marks earlier (plain.Tag id name target tagger comment None) h = refl
+distinct-marks earlier (plain.Tag id name target tagger comment (Some mark)) h = refl
+distinct-marks earlier (plain.Reset id branch target) h = refl
+distinct-marks earlier (plain.Pass id line) h = refl
+
+other-marks : (earlier : List PlainEvent) (marks : List ℕ) (m : ℕ) (id : AnyId) → AllByRecursion (λ n. is_marked earlier n ≡ false) marks → is_marked earlier m ≡ true →
+    lookup (λ n. eqb m n) (map (λ n. (n, id)) marks) ≡ None
+other-marks earlier [] m id new there = refl
+other-marks earlier (mark ∷ marks) m id new there = elim (cases_Bool (eqb m mark)) [
+  | inl it ↦ absurd (true≢false (sym there ∙ ap (is_marked earlier) (eqb-true m mark it) ∙ new.0))
+  | inr no_it ↦ rw no_it (other-marks earlier marks m id new.1 there)
+]
 
 -- a mark that is earlier isn't later
 unmarked : (earlier events : List PlainEvent) → AreSoundAfter earlier events → (m : ℕ) → is_marked earlier m ≡ true → lookup (λ n. eqb m n) (marks_of events) ≡ None
 unmarked earlier [] h m there = refl
 unmarked earlier (e ∷ es) h m there =
-    lookup-none (own_mark e) (marks_of es) m (event-other earlier e h.0 m there)
+    lookup-none (own_marks e) (marks_of es) m (other-marks earlier (event_marks e) m (id_of e) (new-marks earlier e h.0) there)
     (unmarked (earlier ++ e ∷ []) es h.1 m (is_marked-append earlier (e ∷ []) m ∙ ap (λ b. b || is_marked (e ∷ []) m) there))
 
-own-marked : (earlier : List PlainEvent) (e : PlainEvent) (m : ℕ) → is_marked (e ∷ []) m ≡ true → is_marked (earlier ++ e ∷ []) m ≡ true
-own-marked earlier e m own = is_marked-append earlier (e ∷ []) m ∙ ap (λ b. is_marked earlier m || b) own ∙ or_true (is_marked earlier m)
+-- the marks of one event
+pub is_marked-own : (e : PlainEvent) (m : ℕ) → is_marked (e ∷ []) m ≡ is_among (event_marks e) m
+is_marked-own (plain.Blob id mark bytes) m = refl
+is_marked-own (plain.Commit id mark branch author committer encoding comment parents ops aliases) m = ap (λ b. eqb mark m || b) (or_false (is_among aliases m))
+is_marked-own (plain.Tag id name target tagger comment mark) m = or_false (is_among (option_to_list mark) m)
+is_marked-own (plain.Reset id branch target) m = refl
+is_marked-own (plain.Pass id line) m = refl
+
+own-marked : (earlier : List PlainEvent) (e : PlainEvent) (m : ℕ) → is_among (event_marks e) m ≡ true → is_marked (earlier ++ e ∷ []) m ≡ true
+own-marked earlier e m own = is_marked-append earlier (e ∷ []) m ∙ ap (λ b. is_marked earlier m || b) (is_marked-own e m ∙ own) ∙ or_true (is_marked earlier m)
+
+-- marks of one event stand once before others, of which they are none
+marked-append : (marks : List ℕ) (id : AnyId) (others : List (ℕ × AnyId)) → are_distinct marks ≡ true → ((m : ℕ) → is_among marks m ≡ true → lookup (λ n. eqb m n) others ≡ None) →
+    AreMarkedOnce others → AreMarkedOnce (map (λ m. (m, id)) marks ++ others)
+marked-append [] id others distinct apart once = once
+marked-append (m ∷ marks) id others distinct apart once =
+    let parts = both (is_among marks m) (are_distinct marks) distinct in (
+      lookup-none (map (λ n. (n, id)) marks) others m (absent marks parts.0) (apart m (ap (λ b. b || is_among marks m) (self m))),
+      marked-append marks id others parts.1 (λ n among. apart n (ap (λ b. eqb m n || b) among ∙ or_true (eqb m n))) once,
+    )
+  where
+    both : (a b : Bool) → not a && b ≡ true → (a ≡ false) × (b ≡ true)
+    both true b h = absurd (true≢false (sym h))
+    both false b h = (refl, h)
+
+    absent : (ms : List ℕ) → is_among ms m ≡ false → lookup (λ n. eqb m n) (map (λ n. (n, id)) ms) ≡ None
+    absent [] h = refl
+    absent (n ∷ ms) h = elim (cases_Bool (eqb n m)) [
+      | inl it ↦ absurd (true≢false (sym (rw it refl) ∙ h))
+      | inr no_it ↦ rw (turned m n, no_it) (absent ms (rw no_it at h))
+    ]
 
 marked-once : (earlier events : List PlainEvent) → AreSoundAfter earlier events → AreMarkedOnce (marks_of events)
 marked-once earlier [] h = tt
-marked-once earlier (plain.Blob id mark bytes ∷ es) h =
-    let e = plain.Blob id mark bytes in
-    (unmarked (earlier ++ e ∷ []) es h.1 mark (own-marked earlier e mark (ap (λ b. b || false) (self mark))), marked-once (earlier ++ e ∷ []) es h.1)
-marked-once earlier (plain.Commit id mark branch author committer encoding comment parents ops aliases ∷ es) h =
-    let e = plain.Commit id mark branch author committer encoding comment parents ops aliases in
-    (unmarked (earlier ++ e ∷ []) es h.1 mark (own-marked earlier e mark (ap (λ b. b || false) (self mark))), marked-once (earlier ++ e ∷ []) es h.1)
-marked-once earlier (plain.Tag id name target tagger comment mark ∷ es) h = marked-once (earlier ++ plain.Tag id name target tagger comment mark ∷ []) es h.1
-marked-once earlier (plain.Reset id branch target ∷ es) h = marked-once (earlier ++ plain.Reset id branch target ∷ []) es h.1
-marked-once earlier (plain.Pass id line ∷ es) h = marked-once (earlier ++ plain.Pass id line ∷ []) es h.1
+marked-once earlier (e ∷ es) h =
+    marked-append (event_marks e) (id_of e) (marks_of es) (distinct-marks earlier e h.0)
+    (λ m own. unmarked (earlier ++ e ∷ []) es h.1 m (own-marked earlier e m own))
+    (marked-once (earlier ++ e ∷ []) es h.1)
 
 -- ---- parents
 

@@ -1,5 +1,5 @@
 -- What each change makes of a list of events. (own)
-use Rattle.std.specs.Prelude.{ℕ, Bool, true, false, not, List, [], ◌∷◌, Some, if◌then◌else◌, filter, flat_map, map, option_to_list}
+use Rattle.std.specs.Prelude.{ℕ, Bool, true, false, not, List, [], ◌∷◌, Some, is_some, if◌then◌else◌, filter, flat_map, map, option_to_list}
 use Rattle.std.specs.List.Sorted.{IsPermutation}
 use Rattle.plain_model.specs.declared.id.AnyId.{AnyId}
 use Rattle.plain_model.specs.declared.id.AnyId.TheVariants as any
@@ -60,11 +60,24 @@ abbrev pub with_ops : List FileOp → PlainEvent → PlainEvent
 with_ops new (Commit id mark branch author committer encoding comment parents ops aliases) = Commit id mark branch author committer encoding comment parents new aliases
 with_ops new other = other
 
--- a blob or a commit with another mark
+-- a blob, a commit or a tag that has a mark with another
 abbrev pub with_mark : ℕ → PlainEvent → PlainEvent
 with_mark new (Blob id mark bytes) = Blob id new bytes
 with_mark new (Commit id mark branch author committer encoding comment parents ops aliases) = Commit id new branch author committer encoding comment parents ops aliases
+with_mark new (Tag id name target tagger comment (Some old)) = Tag id name target tagger comment (Some new)
 with_mark new other = other
+
+-- a commit with other aliases
+abbrev pub with_aliases : List ℕ → PlainEvent → PlainEvent
+with_aliases new (Commit id mark branch author committer encoding comment parents ops aliases) = Commit id mark branch author committer encoding comment parents ops new
+with_aliases new other = other
+
+-- a commit or a reset of another branch, a tag of another name
+abbrev pub with_label : Bytes → PlainEvent → PlainEvent
+with_label new (Commit id mark branch author committer encoding comment parents ops aliases) = Commit id mark new author committer encoding comment parents ops aliases
+with_label new (Tag id name target tagger comment mark) = Tag id new target tagger comment mark
+with_label new (Reset id branch target) = Reset id new target
+with_label new other = other
 
 -- a tag or a reset of another commit
 abbrev pub with_target : ℕ → PlainEvent → PlainEvent
@@ -90,16 +103,28 @@ abbrev pub with_field : Field → PlainEvent → PlainEvent
 with_field (field.Parents parents) e = with_parents parents e
 with_field (field.Ops ops) e = with_ops ops e
 with_field (field.Mark mark) e = with_mark mark e
+with_field (field.Aliases aliases) e = with_aliases aliases e
+with_field (field.Label label) e = with_label label e
 with_field (field.Target target) e = with_target target e
 with_field (field.Comment comment) e = with_comment comment e
 with_field (field.Signed role who) e = with_signed role who e
 
--- ---- which events have a field, by the kinds of their ids
+-- ---- which events have a field
 
-abbrev pub has_mark : AnyId → Bool
-has_mark (any.Blob n) = true
-has_mark (any.Commit n) = true
+-- a blob, a commit, and a tag that has one
+abbrev pub has_mark : PlainEvent → Bool
+has_mark (Blob id mark bytes) = true
+has_mark (Commit id mark branch author committer encoding comment parents ops aliases) = true
+has_mark (Tag id name target tagger comment mark) = is_some mark
 has_mark other = false
+
+-- of the others the kind of the id tells it
+
+abbrev pub has_label : AnyId → Bool
+has_label (any.Commit n) = true
+has_label (any.Tag n) = true
+has_label (any.Reset n) = true
+has_label other = false
 
 abbrev pub has_target : AnyId → Bool
 has_target (any.Tag n) = true

@@ -1,4 +1,4 @@
--- A small history with a merge, a tag and a reset, for the tests. (own)
+-- A small history with a merge, an alias, a tag that has a mark, and a reset, for the tests. (own)
 use Rattle.std.specs.Prelude.{ℕ, List, [], ◌∷◌, ◌++◌, Some, None, codes, false}
 use Rattle.plain_model.specs.declared.id.AnyId.{AnyId}
 use Rattle.plain_model.specs.declared.id.AnyId.TheVariants as any
@@ -11,18 +11,19 @@ abbrev pub signed : ℕ → Signed
 signed seconds = record { person = record { name = codes "A"; email = codes "e" }; when = record { seconds = seconds; minus = false; offset = 0 } }
 
 -- a commit with its number as its mark
-abbrev pub commit : ℕ → List ℕ → PlainEvent
-commit n parents = Commit n n (codes "main") (signed n) (signed n) None (codes "why") parents [] []
+abbrev pub commit : ℕ → List ℕ → List ℕ → PlainEvent
+commit n parents aliases = Commit n n (codes "main") (signed n) (signed n) None (codes "why") parents [] aliases
 
+-- a tag with its number as its mark
 abbrev pub tag : ℕ → ℕ → PlainEvent
-tag n target = Tag n (codes "v1") target None (codes "tagged") None
+tag n target = Tag n (codes "v1") target None (codes "tagged") (Some n)
 
 abbrev pub reset : PlainEvent
 reset = Reset 7 (codes "side") (Some 4)
 
--- a blob; a root, two children of it and their merge
+-- a blob; a root, two children of it, of which one has an alias, and their merge
 abbrev pub front : List PlainEvent
-front = Blob 1 1 (codes "one") ∷ commit 2 [] ∷ commit 3 (2 ∷ []) ∷ commit 4 (2 ∷ []) ∷ commit 5 (3 ∷ 4 ∷ []) ∷ []
+front = Blob 1 1 (codes "one") ∷ commit 2 [] [] ∷ commit 3 (2 ∷ []) (30 ∷ []) ∷ commit 4 (2 ∷ []) [] ∷ commit 5 (3 ∷ 4 ∷ []) [] ∷ []
 
 -- and a tag of the merge, and a reset to the second child
 unfoldable pub example : List PlainEvent

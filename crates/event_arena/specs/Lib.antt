@@ -6,6 +6,7 @@ pub mod Graphs
 pub mod Indexed
 pub mod Indices
 pub mod Needs
+pub mod Numbers
 pub mod Once
 pub mod Rows
 pub mod Spent

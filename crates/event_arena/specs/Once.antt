@@ -1,5 +1,5 @@
 -- Ids, marks and parents that stand once, as in every sound history. (own)
-use Rattle.std.specs.Prelude.{◌≡◌, ◌==◌, ℕ, List, [], ◌∷◌, None, IsTrue}
+use Rattle.std.specs.Prelude.{◌≡◌, ◌==◌, ℕ, List, [], ◌∷◌, None, map, IsTrue}
 use Rattle.std.specs.List.{AllByRecursion}
 use Rattle.std.specs.Map.{lookup}
 use Rattle.plain_model.specs.declared.id.AnyId.{AnyId}
@@ -12,6 +12,10 @@ use Rattle.plain_model.specs.Soundness.{are_distinct}
 abbrev pub AreDistinct : List PlainEvent → Type 0
 AreDistinct [] = Unit {0}
 AreDistinct (e ∷ events) = (find_event (id_of e) events ≡ None) × AreDistinct events
+
+-- marks, each with the id of the event that has them
+abbrev pub named : AnyId → List ℕ → List (ℕ × AnyId)
+named id marks = map (λ mark. (mark, id)) marks
 
 -- no mark stands twice
 abbrev pub AreMarkedOnce : List (ℕ × AnyId) → Type 0

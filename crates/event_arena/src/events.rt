@@ -16,6 +16,7 @@ ghost use Rattle.std.specs.Prelude.{
   OnOk,
 };
 ghost use Rattle.event_arena.specs.Needs.{need};
+ghost use Rattle.event_arena.specs.Numbers.{numbered};
 ghost use Rattle.event_arena.specs.Spent.{BringsNoneBack};
 ghost use Rattle.plain_model.specs.Lookups.{
   AreIdsBelow,
@@ -23,6 +24,7 @@ ghost use Rattle.plain_model.specs.Lookups.{
   event_at,
   find_event,
   find_mark,
+  id_of,
   next_mark,
   next_number,
   number_of,
@@ -134,9 +136,19 @@ impl Events {
     /// The event before which so many stand.
     pub fn nth(&self, place: usize) -> &PlainEvent
         requires { place < length self.now.list }
-        ensures { slice_get self.now.list place ≡ Some result.now }
+        ensures event { slice_get self.now.list place ≡ Some result.now }
+        ensures found { find_event (id_of result.now) self.now.list ≡ Some result.now }
     {
         self.table.nth(place)
+    }
+
+    /// The event with the number, from 1. `None` exactly where the history has no such number.
+    pub fn numbered(&self, number: u64) -> Option<&PlainEvent>
+        ensures event { option_map (λ event. event.now) result ≡ numbered number self.now.list }
+        ensures found { IfSome result
+            (λ event. find_event (id_of event.now) self.now.list ≡ Some event.now) }
+    {
+        self.table.numbered(number)
     }
 
     /// How many events stand before the one with the id.

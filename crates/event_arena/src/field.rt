@@ -1,8 +1,10 @@
 //! Fields of events that a plan can set.
 ghost use Rattle.std.specs.Prelude.{◌≡◌, IfOk};
 ghost use Rattle.event_arena.specs.Changes.{
+  with_aliases,
   with_comment,
   with_field,
+  with_label,
   with_mark,
   with_ops,
   with_parents,
@@ -10,7 +12,9 @@ ghost use Rattle.event_arena.specs.Changes.{
   with_target,
 };
 
-use plain_model::{CommitId, Copied, Mark, NoMemory, OpList, ParentList, PlainEvent, Signed, Text};
+use plain_model::{
+    CommitId, Copied, Mark, MarkList, NoMemory, OpList, ParentList, PlainEvent, Signed, Text,
+};
 use std::alloc::Global;
 
 /// As what somebody signs: a commit's author or its committer, or a tag's tagger.
@@ -27,6 +31,8 @@ pub enum Field {
     Parents(ParentList),
     Ops(OpList),
     Mark(Mark),
+    Aliases(MarkList),
+    Label(Text),
     Target(CommitId),
     Comment(Text),
     Signed(Role, Signed),
@@ -54,6 +60,29 @@ fn put_mark(event: &mut PlainEvent, new: Mark)
     match event {
         PlainEvent::Blob { mark, .. } => *mark = new,
         PlainEvent::Commit { mark, .. } => *mark = new,
+        PlainEvent::Tag {
+            mark: Some(mark),
+            ..
+        } => *mark = new,
+        _ => {}
+    }
+}
+
+fn put_aliases(event: &mut PlainEvent, new: MarkList)
+    ensures { event.new ≡ with_aliases new event.old }
+{
+    if let PlainEvent::Commit { aliases, .. } = event {
+        *aliases = new;
+    }
+}
+
+fn put_label(event: &mut PlainEvent, new: Text)
+    ensures { event.new ≡ with_label new event.old }
+{
+    match event {
+        PlainEvent::Commit { branch, .. } => *branch = new,
+        PlainEvent::Tag { name, .. } => *name = new,
+        PlainEvent::Reset { branch, .. } => *branch = new,
         _ => {}
     }
 }
@@ -97,6 +126,8 @@ fn put_field(event: &mut PlainEvent, field: Field)
         Field::Parents(new) => put_parents(event, new),
         Field::Ops(new) => put_ops(event, new),
         Field::Mark(new) => put_mark(event, new),
+        Field::Aliases(new) => put_aliases(event, new),
+        Field::Label(new) => put_label(event, new),
         Field::Target(new) => put_target(event, new),
         Field::Comment(new) => put_comment(event, new),
         Field::Signed(role, new) => put_signed(event, role, new),

@@ -17,14 +17,15 @@ ghost use Rattle.std.specs.Prelude.{
   IsTrue,
 };
 ghost use Rattle.event_arena.specs.Indices.{HasChildren, IsLinked, IsLinkedEvent};
-ghost use Rattle.event_arena.specs.Once.{AreMarkedOnce, AreParentsOnce};
-ghost use Rattle.plain_model.specs.Lookups.{event_parents, marks_of, own_mark};
+ghost use Rattle.event_arena.specs.Once.{AreMarkedOnce, AreParentsOnce, named};
+ghost use Rattle.plain_model.specs.Lookups.{event_parents, marks_of, own_marks};
 ghost use Rattle.plain_model.specs.Soundness.{are_distinct};
+ghost use Rattle.plain_model.specs.declared.id.AnyId.TheVariants.{Commit};
 
 use crate::links::Links;
 use crate::table::EventTable;
 use indexmap::IndexMap;
-use plain_model::{AnyId, CommitId, PlainEvent};
+use plain_model::{AnyId, CommitId, Mark, PlainEvent};
 
 // Links a child to those of its parents that are in the table.
 fn link_to(table: &EventTable, links: &mut Links, child: CommitId, parents: &[CommitId])
@@ -104,17 +105,53 @@ fn note(marks: &mut IndexMap<u64, AnyId>, mark: u64, id: AnyId)
     let _ = marks.insert(mark, id).unwrap();
 }
 
-// Notes the mark of an event, if it has one.
+// Notes the aliases of a commit.
+fn note_aliases(marks: &mut IndexMap<u64, AnyId>, aliases: &[Mark], id: CommitId)
+    requires once { AreMarkedOnce (marks.old.entries ++ named (Commit id) aliases.now) }
+    requires room { length aliases.now ≤ spare marks.old }
+    ensures entries { marks.new.entries ≡ marks.old.entries ++ named (Commit id) aliases.now }
+    ensures room { index_map_len marks.old + spare marks.old
+        ≤ index_map_len marks.new + spare marks.new }
+{
+    for alias in aliases {
+        note(marks, alias.number(), AnyId::Commit(id));
+    }
+}
+
+// Notes the mark of a commit and its aliases.
+fn note_commit(marks: &mut IndexMap<u64, AnyId>, mark: Mark, aliases: &[Mark], id: CommitId)
+    requires once { AreMarkedOnce (marks.old.entries ++ named (Commit id) (mark ∷ aliases.now)) }
+    requires room { length aliases.now < spare marks.old }
+    ensures entries { marks.new.entries
+        ≡ marks.old.entries ++ named (Commit id) (mark ∷ aliases.now) }
+    ensures room { index_map_len marks.old + spare marks.old
+        ≤ index_map_len marks.new + spare marks.new }
+{
+    note(marks, mark.number(), AnyId::Commit(id));
+    note_aliases(marks, aliases, id);
+}
+
+// Notes the marks of an event.
 fn note_event(marks: &mut IndexMap<u64, AnyId>, event: &PlainEvent)
-    requires once { AreMarkedOnce (marks.old.entries ++ own_mark event.now) }
-    requires room { length (own_mark event.now) ≤ spare marks.old }
-    ensures entries { marks.new.entries ≡ marks.old.entries ++ own_mark event.now }
+    requires once { AreMarkedOnce (marks.old.entries ++ own_marks event.now) }
+    requires room { length (own_marks event.now) ≤ spare marks.old }
+    ensures entries { marks.new.entries ≡ marks.old.entries ++ own_marks event.now }
     ensures room { index_map_len marks.old + spare marks.old
         ≤ index_map_len marks.new + spare marks.new }
 {
     match event {
         PlainEvent::Blob { id, mark, .. } => note(marks, mark.number(), AnyId::Blob(*id)),
-        PlainEvent::Commit { id, mark, .. } => note(marks, mark.number(), AnyId::Commit(*id)),
+        PlainEvent::Commit {
+            id,
+            mark,
+            aliases,
+            ..
+        } => note_commit(marks, *mark, aliases.as_slice(), *id),
+        PlainEvent::Tag { id, mark, .. } => {
+            if let Some(mark) = mark {
+                note(marks, mark.number(), AnyId::Tag(*id));
+            }
+        }
         _ => {}
     }
 }

@@ -5,15 +5,16 @@ ghost use Rattle.event_arena.specs.Needs.{event_need, need};
 ghost use Rattle.plain_model.specs.Lookups.{
   AreIdsBelow,
   greatest_mark,
+  greatest_of,
   id_number,
-  mark_number,
   next_number,
   op_blobs,
   referents_of,
+  top_mark,
 };
 
 use crate::table::EventTable;
-use plain_model::{AnyId, Content, FileOp, PlainEvent};
+use plain_model::{AnyId, Content, FileOp, Mark, PlainEvent};
 
 // How many blobs an operation names.
 fn blobs_in(op: &FileOp) -> usize
@@ -46,14 +47,21 @@ fn need_of_event(event: &PlainEvent) -> Option<usize>
 {
     match event {
         PlainEvent::Blob { .. } => Some(2),
-        PlainEvent::Commit { parents, ops, .. } => {
+        PlainEvent::Commit {
+            parents,
+            ops,
+            aliases,
+            ..
+        } => {
             let named = parents
                 .as_slice()
                 .len()
                 .checked_add(blob_count(ops.as_slice()))?;
-            named.checked_add(2)
+            let more = named.checked_add(aliases.as_slice().len())?;
+            more.checked_add(2)
         }
-        PlainEvent::Tag { .. } => Some(2),
+        PlainEvent::Tag { mark: Some(_), .. } => Some(3),
+        PlainEvent::Tag { mark: None, .. } => Some(2),
         PlainEvent::Reset {
             target: Some(_),
             ..
@@ -75,14 +83,30 @@ pub fn need_of(table: &EventTable) -> Option<usize>
     Some(total)
 }
 
-// The mark of an event, or 0.
-fn mark_number(event: &PlainEvent) -> u64
-    ensures value { result ≡ mark_number event.now }
+// The greatest of a mark and others.
+fn greatest_of(first: Mark, marks: &[Mark]) -> u64
+    ensures value { result ≡ greatest_of first marks.now }
+    ensures range { result < 2 ^ 32 }
+{
+    let mut greatest: u64 = first.number();
+    for mark in marks {
+        greatest = greatest.max(mark.number());
+    }
+    greatest
+}
+
+// The greatest mark of an event, or 0.
+fn top_mark(event: &PlainEvent) -> u64
+    ensures value { result ≡ top_mark event.now }
     ensures range { result < 2 ^ 32 }
 {
     match event {
         PlainEvent::Blob { mark, .. } => mark.number(),
-        PlainEvent::Commit { mark, .. } => mark.number(),
+        PlainEvent::Commit { mark, aliases, .. } => greatest_of(*mark, aliases.as_slice()),
+        PlainEvent::Tag {
+            mark: Some(mark),
+            ..
+        } => mark.number(),
         _ => 0,
     }
 }
@@ -94,7 +118,7 @@ pub fn greatest_mark(table: &EventTable) -> u64
 {
     let mut greatest: u64 = 0;
     for place in 0..table.count() {
-        greatest = greatest.max(mark_number(table.nth(place)));
+        greatest = greatest.max(top_mark(table.nth(place)));
     }
     greatest
 }

@@ -24,13 +24,16 @@ ghost use Rattle.event_arena.specs.Changes.{
   IsOrderOf,
   changed,
   has_comment,
+  has_label,
   has_mark,
   has_signed,
   has_target,
   in_order,
   put_after,
+  with_aliases,
   with_comment,
   with_field,
+  with_label,
   with_mark,
   with_ops,
   with_parents,
@@ -56,7 +59,7 @@ use crate::events::Events;
 use crate::field::{Field, Role};
 use crate::table::EventTable;
 use plain_model::{
-    AnyId, CommitId, IdList, Mark, NoMemory, OpList, ParentList, PlainEvent, Signed, Text,
+    AnyId, CommitId, IdList, Mark, MarkList, NoMemory, OpList, ParentList, PlainEvent, Signed, Text,
 };
 use std::alloc::Global;
 use std::marker::Model;
@@ -134,7 +137,8 @@ impl Plan {
     /// The event before which so many stand after.
     pub fn nth(&self, place: usize) -> &PlainEvent
         requires { place < length self.now.after }
-        ensures { slice_get self.now.after place ≡ Some result.now }
+        ensures event { slice_get self.now.after place ≡ Some result.now }
+        ensures found { find_event (id_of result.now) self.now.after ≡ Some result.now }
     {
         self.after.nth(place)
     }
@@ -150,7 +154,8 @@ impl Plan {
     /// The event before which so many stood before.
     pub fn old_nth(&self, place: usize) -> &PlainEvent
         requires { place < length self.now.before }
-        ensures { slice_get self.now.before place ≡ Some result.now }
+        ensures event { slice_get self.now.before place ≡ Some result.now }
+        ensures found { find_event (id_of result.now) self.now.before ≡ Some result.now }
     {
         self.before.nth(place)
     }
@@ -301,16 +306,39 @@ impl Plan {
         self.set(AnyId::Commit(id), Field::Ops(ops))
     }
 
-    /// Gives a blob or a commit another mark.
+    /// Gives a blob, a commit or a tag that has a mark another.
     pub fn set_mark(&mut self, id: AnyId, mark: Mark) -> Result<(), NoMemory>
         requires there { IsSome (find_event id self.old.after) }
-        requires field { IsTrue (has_mark id) }
+        requires field { IfSome (find_event id self.old.after) (λ event. IsTrue (has_mark event)) }
         ensures ok { OnOk result (self.new ≡ record self.old {
           after = changed id (with_mark mark) self.old.after;
         }) }
         ensures err { OnErr result (self.new ≡ self.old) }
     {
         self.set(id, Field::Mark(mark))
+    }
+
+    /// Gives a commit other aliases.
+    pub fn set_aliases(&mut self, id: CommitId, aliases: MarkList) -> Result<(), NoMemory>
+        requires { IsSome (find_event (Commit id) self.old.after) }
+        ensures ok { OnOk result (self.new ≡ record self.old {
+          after = changed (Commit id) (with_aliases aliases) self.old.after;
+        }) }
+        ensures err { OnErr result (self.new ≡ self.old) }
+    {
+        self.set(AnyId::Commit(id), Field::Aliases(aliases))
+    }
+
+    /// Puts a commit or a reset on another branch, or gives a tag another name.
+    pub fn set_label(&mut self, id: AnyId, label: Text) -> Result<(), NoMemory>
+        requires there { IsSome (find_event id self.old.after) }
+        requires field { IsTrue (has_label id) }
+        ensures ok { OnOk result (self.new ≡ record self.old {
+          after = changed id (with_label label) self.old.after;
+        }) }
+        ensures err { OnErr result (self.new ≡ self.old) }
+    {
+        self.set(id, Field::Label(label))
     }
 
     /// Sets a tag or a reset to another commit.

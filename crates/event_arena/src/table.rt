@@ -29,6 +29,7 @@ ghost use Rattle.event_arena.specs.Changes.{
   without,
   without_all,
 };
+ghost use Rattle.event_arena.specs.Numbers.{numbered};
 ghost use Rattle.event_arena.specs.Once.{AreDistinct};
 ghost use Rattle.event_arena.specs.Rows.{IsKeyed, events_of};
 ghost use Rattle.event_arena.specs.Spent.{AddsNone, AddsOnly};
@@ -117,13 +118,34 @@ impl EventTable {
         self.rows.len()
     }
 
-    /// The event before which so many stand.
-    pub fn nth(&self, place: usize) -> &PlainEvent
+    fn row(&self, place: usize) -> &PlainEvent
         requires { place < length self.now }
         ensures { slice_get self.now place ≡ Some result.now }
     {
         let (_, event) = self.rows.get_index(place).unwrap();
         event.as_ref()
+    }
+
+    /// The event before which so many stand.
+    pub fn nth(&self, place: usize) -> &PlainEvent
+        requires { place < length self.now }
+        ensures event { slice_get self.now place ≡ Some result.now }
+        ensures found { find_event (id_of result.now) self.now ≡ Some result.now }
+    {
+        let _count = self.count();
+        self.row(place)
+    }
+
+    /// The event with the number, from 1. `None` exactly where the list has no such number.
+    pub fn numbered(&self, number: u64) -> Option<&PlainEvent>
+        ensures event { option_map (λ event. event.now) result ≡ numbered number self.now }
+        ensures found { IfSome result
+            (λ event. find_event (id_of event.now) self.now ≡ Some event.now) }
+    {
+        if number == 0 || number > self.count() as u64 {
+            return None;
+        }
+        Some(self.nth((number - 1) as usize))
     }
 
     /// The event with the id.

@@ -1,5 +1,5 @@
-ghost use Rattle.std.specs.Prelude.{◌≡◌, ◌<◌, ◌^◌, ◌∷◌, ◌++◌, [], None, IfOk, IsSome, OnOk};
-ghost use Rattle.event_arena.specs.Changes.{without};
+ghost use Rattle.std.specs.Prelude.{◌≡◌, ◌<◌, ◌^◌, ◌∷◌, ◌++◌, [], None, IfOk, IfSome, IsSome, IsTrue, OnOk};
+ghost use Rattle.event_arena.specs.Changes.{has_mark, without};
 ghost use Rattle.event_arena.specs.Examples.{commit, example, other_order, signed, tag};
 ghost use Rattle.plain_model.specs.Lookups.{find_event};
 ghost use Rattle.plain_model.specs.Soundness.{IsSound};
@@ -41,8 +41,13 @@ fn signed(alloc: Global, seconds: u64) -> Result<Signed, Fail>
     })
 }
 
-fn commit(alloc: Global, number: u64, parents: &[CommitId]) -> Result<PlainEvent, Fail>
-    ensures { IfOk result (λ event. event ≡ commit number parents.now) }
+fn commit(
+    alloc: Global,
+    number: u64,
+    parents: &[CommitId],
+    aliases: &[Mark],
+) -> Result<PlainEvent, Fail>
+    ensures { IfOk result (λ event. event ≡ commit number parents.now aliases.now) }
 {
     Ok(PlainEvent::Commit {
         id: CommitId::new(number),
@@ -54,6 +59,7 @@ fn commit(alloc: Global, number: u64, parents: &[CommitId]) -> Result<PlainEvent
         comment: text(alloc, b"why")?,
         parents: Items::of(alloc, parents)?,
         ops: Items::new(alloc)?,
+        aliases: Items::of(alloc, aliases)?,
     })
 }
 
@@ -66,10 +72,12 @@ fn tag(alloc: Global, number: u64, target: u64) -> Result<PlainEvent, Fail>
         target: CommitId::new(target),
         tagger: None,
         comment: text(alloc, b"tagged")?,
+        mark: Some(mark(number)?),
     })
 }
 
-// A blob; a root, two children of it and their merge; a tag of the merge and a reset to the second child.
+// A blob; a root, two children of it, of which the first has an alias, and their merge; a tag of the merge and a
+// reset to the second child.
 #[tactic(auto, unfolding(crate::specs::Examples::example))]
 fn put_example(alloc: Global, list: &mut EventList) -> Result<(), Fail>
     requires { list.old ≡ [] }
@@ -80,10 +88,10 @@ fn put_example(alloc: Global, list: &mut EventList) -> Result<(), Fail>
         mark: mark(1)?,
         bytes: text(alloc, b"one")?,
     })?;
-    list.push(commit(alloc, 2, &[])?)?;
-    list.push(commit(alloc, 3, &[CommitId::new(2)])?)?;
-    list.push(commit(alloc, 4, &[CommitId::new(2)])?)?;
-    list.push(commit(alloc, 5, &[CommitId::new(3), CommitId::new(4)])?)?;
+    list.push(commit(alloc, 2, &[], &[])?)?;
+    list.push(commit(alloc, 3, &[CommitId::new(2)], &[mark(30)?])?)?;
+    list.push(commit(alloc, 4, &[CommitId::new(2)], &[])?)?;
+    list.push(commit(alloc, 5, &[CommitId::new(3), CommitId::new(4)], &[])?)?;
     list.push(tag(alloc, 6, 5)?)?;
     list.push(PlainEvent::Reset {
         id: ResetId::new(7),
@@ -131,6 +139,30 @@ fn find(plan: &Plan, id: AnyId) -> Result<(), Fail>
     Ok(())
 }
 
+fn is_marked(event: &PlainEvent) -> bool
+    ensures { result ≡ has_mark event.now }
+{
+    match event {
+        PlainEvent::Blob { .. } => true,
+        PlainEvent::Commit { .. } => true,
+        PlainEvent::Tag { mark, .. } => mark.is_some(),
+        _ => false,
+    }
+}
+
+fn find_marked(plan: &Plan, id: AnyId) -> Result<(), Fail>
+    ensures there { OnOk result (IsSome (find_event id plan.now.after)) }
+    ensures field { OnOk result
+        (IfSome (find_event id plan.now.after) (λ event. IsTrue (has_mark event))) }
+{
+    let event = plan.event(id).ok_or("no such event")?;
+    if is_marked(event) {
+        Ok(())
+    } else {
+        Err("no mark")?
+    }
+}
+
 fn miss(plan: &Plan, id: AnyId) -> Result<(), Fail>
     ensures { OnOk result (find_event id plan.now.after ≡ None) }
 {
@@ -140,9 +172,9 @@ fn miss(plan: &Plan, id: AnyId) -> Result<(), Fail>
     }
 }
 
-// A kind, an id, `:` and a mark; of a commit then the comment, the seconds of author and committer, the parents in
-// parentheses and the number of operations; of a tag or a reset `>` and the target; of a tag the comment and the
-// seconds of the tagger.
+// A kind, an id, `:` and a mark; of a commit then its aliases, the comment, the seconds of author and committer, the
+// parents and a word for each operation; of a tag or a reset `>` and the target; of a tag the comment and the seconds
+// of the tagger.
 fn put_event(out: &mut Text, event: &PlainEvent) -> Result<(), NoMemory> {
     match event {
         PlainEvent::Blob { id, mark, .. } => {
@@ -157,10 +189,14 @@ fn put_event(out: &mut Text, event: &PlainEvent) -> Result<(), NoMemory> {
             comment,
             parents,
             ops,
+            aliases,
             ..
         } => {
             put_number(out, b"c", id.number())?;
             put_number(out, b":", mark.number())?;
+            for alias in aliases.as_slice() {
+                put_number(out, b"=", alias.number())?;
+            }
             put_text(out, comment)?;
             put_number(out, b" ", author.when.seconds)?;
             put_number(out, b"/", committer.when.seconds)?;
@@ -177,9 +213,13 @@ fn put_event(out: &mut Text, event: &PlainEvent) -> Result<(), NoMemory> {
             target,
             tagger,
             comment,
+            mark,
             ..
         } => {
             put_number(out, b"t", id.number())?;
+            if let Some(mark) = mark {
+                put_number(out, b":", mark.number())?;
+            }
             put_number(out, b">", target.number())?;
             put_text(out, comment)?;
             match tagger {
@@ -261,13 +301,25 @@ fn put_found(out: &mut Text, id: Option<AnyId>) -> Result<(), NoMemory> {
     }
 }
 
-// The ids at the numbers from 0 to 8, those with the marks from :1 to :6, and a fresh mark.
+// The id of the event with the number.
+fn numbered(events: &Events, number: u64) -> Option<AnyId> {
+    match events.numbered(number) {
+        Some(event) => Some(event.id()),
+        None => None,
+    }
+}
+
+// The ids at the numbers from 0 to 8, and at some of them again; those with some marks, and a fresh mark.
 fn put_all_found(out: &mut Text, events: &Events) -> Result<(), Fail> {
     for number in 0..9 {
         put_found(out, events.at(number))?;
     }
     out.push(b',')?;
-    for number in 1..7 {
+    for number in [0, 1, 7, 8] {
+        put_found(out, numbered(events, number))?;
+    }
+    out.push(b',')?;
+    for number in [1, 2, 3, 4, 5, 6, 8, 30] {
         put_found(out, events.by_mark(mark(number)?))?;
     }
     let fresh = events.fresh_mark().ok_or("no mark is left")?;
@@ -334,7 +386,7 @@ fn history_seen(alloc: Global) -> Result<Text, Fail> {
 #[test]
 fn events_are_found_by_number_mark_id_and_parent(rt: HostRuntime) -> Result<(), Fail> {
     let want: &[u8] =
-        b" - b1 c2 c3 c4 c5 t6 r7 -, b1 c2 c3 c4 c5 -, :6, 7 7 8, 6*, -, 3 4 <3 5 <5 5 <5 - -;";
+        b" - b1 c2 c3 c4 c5 t6 r7 -, - b1 r7 -, b1 c2 c3 c4 c5 t6 - c3, :31, 7 7 8, 6*, -, 3 4 <3 5 <5 5 <5 - -;";
     assert_eq!(rt; history_seen(rt.alloc())?.as_slice(), want);
     Ok(())
 }
@@ -344,8 +396,12 @@ fn set_fields(alloc: Global, plan: &mut Plan) -> Result<(), Fail> {
     plan.set_parents(CommitId::new(5), Items::of(alloc, &[CommitId::new(4)])?)?;
     find(plan, commit_id(3))?;
     plan.set_ops(CommitId::new(3), Items::of(alloc, &[FileOp::DeleteAll])?)?;
-    find(plan, blob_id(1))?;
+    find(plan, commit_id(3))?;
+    plan.set_aliases(CommitId::new(3), Items::of(alloc, &[mark(40)?, mark(41)?])?)?;
+    find_marked(plan, blob_id(1))?;
     plan.set_mark(blob_id(1), mark(9)?)?;
+    find_marked(plan, tag_id(6))?;
+    plan.set_mark(tag_id(6), mark(60)?)?;
     find(plan, tag_id(6))?;
     plan.set_target(tag_id(6), CommitId::new(4))?;
     find(plan, reset_id(7))?;
@@ -379,8 +435,49 @@ fn with_fields_set(alloc: Global) -> Result<Text, Fail> {
 #[test]
 fn fields_are_set_by_id(rt: HostRuntime) -> Result<(), Fail> {
     let want: &[u8] =
-        b"b1:9,c2:2 why 2/2,c3:3 why 3/3 ^2 op,c4:4 because 44/4 ^2,c5:5 why 5/55 ^4,t6>4 tagged 66,r7>5,";
+        b"b1:9,c2:2 why 2/2,c3:3=40=41 why 3/3 ^2 op,c4:4 because 44/4 ^2,c5:5 why 5/55 ^4,t6:60>4 tagged 66,r7>5,";
     assert_eq!(rt; with_fields_set(rt.alloc())?.as_slice(), want);
+    Ok(())
+}
+
+fn set_labels(alloc: Global, plan: &mut Plan) -> Result<(), Fail> {
+    find(plan, commit_id(4))?;
+    plan.set_label(commit_id(4), text(alloc, b"other")?)?;
+    find(plan, tag_id(6))?;
+    plan.set_label(tag_id(6), text(alloc, b"v2")?)?;
+    find(plan, reset_id(7))?;
+    plan.set_label(reset_id(7), text(alloc, b"old")?)?;
+    Ok(())
+}
+
+// The branch of a commit or a reset, or the name of a tag.
+fn put_label(out: &mut Text, event: &PlainEvent) -> Result<(), NoMemory> {
+    match event {
+        PlainEvent::Commit { branch, .. } => put_text(out, branch),
+        PlainEvent::Tag { name, .. } => put_text(out, name),
+        PlainEvent::Reset { branch, .. } => put_text(out, branch),
+        _ => Ok(()),
+    }
+}
+
+fn labels_set(alloc: Global, plan: &mut Plan) -> Result<Text, Fail> {
+    set_labels(alloc, plan)?;
+    let mut out = Items::new(alloc)?;
+    for place in 0..plan.count() {
+        put_label(&mut out, plan.nth(place))?;
+    }
+    Ok(out)
+}
+
+fn with_labels_set(alloc: Global) -> Result<Text, Fail> {
+    let mut plan = plan(alloc)?;
+    labels_set(alloc, &mut plan)
+}
+
+#[test]
+fn branches_and_names_are_set_by_id(rt: HostRuntime) -> Result<(), Fail> {
+    let want: &[u8] = b" main main other main v2 old";
+    assert_eq!(rt; with_labels_set(rt.alloc())?.as_slice(), want);
     Ok(())
 }
 
@@ -390,7 +487,10 @@ fn put_in(alloc: Global, plan: &mut Plan) -> Result<(), Fail>
     let number = plan.unused();
     find(plan, commit_id(2))?;
     miss(plan, commit_id(number))?;
-    plan.insert_after(commit_id(2), commit(alloc, number, &[CommitId::new(2)])?)?;
+    plan.insert_after(
+        commit_id(2),
+        commit(alloc, number, &[CommitId::new(2)], &[])?,
+    )?;
     let number = plan.unused();
     miss(plan, tag_id(number))?;
     plan.append(tag(alloc, number, 8)?)?;
@@ -441,7 +541,7 @@ fn put_in_and_taken_away(alloc: Global) -> Result<Text, Fail> {
 #[test]
 fn events_are_put_in_and_taken_away(rt: HostRuntime) -> Result<(), Fail> {
     let want: &[u8] =
-        b"b1:1,c2:2 why 2/2,c8:8 why 8/8 ^2,c4:4 why 4/4 ^2,c5:5 why 5/5 ^3 ^4,t9>8 tagged, \
+        b"b1:1,c2:2 why 2/2,c8:8 why 8/8 ^2,c4:4 why 4/4 ^2,c5:5 why 5/5 ^3 ^4,t9:9>8 tagged, \
 - b1 c2 c3 c4 c5 t6 r7 -, 7, 2<2*, 0<3*, 3<0";
     assert_eq!(rt; put_in_and_taken_away(rt.alloc())?.as_slice(), want);
     Ok(())
@@ -478,7 +578,7 @@ fn reordered(alloc: Global) -> Result<Text, Fail> {
 #[test]
 fn events_are_put_in_another_order(rt: HostRuntime) -> Result<(), Fail> {
     let want: &[u8] =
-        b"c2:2 why 2/2,b1:1,c3:3 why 3/3 ^2,c4:4 why 4/4 ^2,c5:5 why 5/5 ^3 ^4,r7>4,t6>5 tagged,";
+        b"c2:2 why 2/2,b1:1,c3:3=30 why 3/3 ^2,c4:4 why 4/4 ^2,c5:5 why 5/5 ^3 ^4,r7>4,t6:6>5 tagged,";
     assert_eq!(rt; reordered(rt.alloc())?.as_slice(), want);
     Ok(())
 }
@@ -559,8 +659,8 @@ fn retagged(alloc: Global) -> Result<Text, Fail> {
 #[test]
 fn a_removed_id_is_gone_and_never_comes_back(rt: HostRuntime) -> Result<(), Fail> {
     let want: &[u8] =
-        b" - b1 c2 c3 c4 c5 r7 - -, b1 c2 c3 c4 c5 -, :6, 6 6 8, -, -, 3 4 <3 5 <5 5 <5 - -; \
-- b1 c2 c3 c4 c5 r7 t8 -, b1 c2 c3 c4 c5 -, :6, 7 7 10, -, -, 3 4 <3 5 <5 5 <5 - -;";
+        b" - b1 c2 c3 c4 c5 r7 - -, - b1 - -, b1 c2 c3 c4 c5 - - c3, :31, 6 6 8, -, -, 3 4 <3 5 <5 5 <5 - -; \
+- b1 c2 c3 c4 c5 r7 t8 -, - b1 t8 -, b1 c2 c3 c4 c5 - t8 c3, :31, 7 7 10, -, -, 3 4 <3 5 <5 5 <5 - -;";
     assert_eq!(rt; retagged(rt.alloc())?.as_slice(), want);
     Ok(())
 }

@@ -4,7 +4,8 @@ use Rattle.plain_model.specs.Lookups.{find_event}
 use Rattle.event_arena.specs.Changes.{IsOrderOf, in_order}
 use Rattle.event_arena.specs.Rows.{events_of}
 use Rattle.event_arena.specs.Spent.{AddsNone}
-use Rattle.event_arena.proofs.ChangeLemmas.{listed-before, order-misses, order-more, order-once, take-ids}
+use Rattle.event_arena.proofs.ChangeLemmas.{listed-before, order-misses, order-more, order-once}
+use Rattle.event_arena.proofs.ListLemmas.{take-all}
 use Rattle.event_arena.proofs.SpentLemmas.{adds-in_order}
 use Rattle.event_arena.proofs.table.EventTable.set_order.Goals as goal
 
@@ -27,9 +28,9 @@ loop-id-preserved c =
 
 pub returns-clause-ok : goal.returns-clause-ok
 returns-clause-ok c =
-    rw (← c.self.view_is) (c.loop-id.invariant.events ∙ ap (λ ids. in_order ids (events_of c.self.inside.rows.entries)) (take-ids c.args.order.now c.loop-id.id-index c.loop-id-test.false))
+    rw (← c.self.view_is) (c.loop-id.invariant.events ∙ ap (λ ids. in_order ids (events_of c.self.inside.rows.entries)) (take-all c.args.order.now c.loop-id.id-index c.loop-id-test.false))
 
 pub returns-clause-adds : goal.returns-clause-adds
 returns-clause-adds c =
-    let all = c.loop-id.invariant.events ∙ ap (λ ids. in_order ids (events_of c.self.inside.rows.entries)) (take-ids c.args.order.now c.loop-id.id-index c.loop-id-test.false) in
+    let all = c.loop-id.invariant.events ∙ ap (λ ids. in_order ids (events_of c.self.inside.rows.entries)) (take-all c.args.order.now c.loop-id.id-index c.loop-id-test.false) in
     rw (← c.self.view_is) (subst (AddsNone (events_of c.self.inside.rows.entries)) (sym all) (adds-in_order c.args.order.now (events_of c.self.inside.rows.entries)))

@@ -5,7 +5,7 @@ use Rattle.event_arena.proofs.table.EventTable.to_list.Goals as goal
 pub loop-place-preserved : goal.loop-place-preserved
 loop-place-preserved c =
     let so_far : c.loop-place.list ≡ take c.loop-place.place c.args.self.now = c.loop-place.invariant in
-    rw add-one (c.in_ok-push.ensures.ok ∙ (λ i. so_far i ++ c.in_ok-copied.ensures i ∷ []) ∙ sym (take-item c.args.self.now c.loop-place.place c.nth.result.now c.nth.ensures))
+    rw add-one (c.in_ok-push.ensures.ok ∙ (λ i. so_far i ++ c.in_ok-copied.ensures i ∷ []) ∙ sym (take-item c.args.self.now c.loop-place.place c.nth.result.now c.nth.ensures.event))
 
 pub returns : goal.returns
 returns c =
