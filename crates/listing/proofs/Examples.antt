@@ -44,16 +44,16 @@ exported_sound =
         (
           (refl, refl, tt),
           (
-            (refl, refl, refl, first, first, tt, tt, refl, lit≤ tt, (refl, tt)),
+            (refl, refl, refl, first, first, tt, tt, refl, lit≤ tt, (refl, tt), tt, refl),
             (
               (refl, refl),
               (
-                (refl, refl, refl, topic, topic, tt, (refl, tt), refl, lit≤ tt, (refl, tt)),
+                (refl, refl, refl, topic, topic, tt, (refl, tt), refl, lit≤ tt, (refl, tt), tt, refl),
                 (
-                  (refl, refl, refl, second, second, tt, (refl, tt), refl, lit≤ tt, (tt, tt)),
+                  (refl, refl, refl, second, second, tt, (refl, tt), refl, lit≤ tt, (tt, tt), tt, refl),
                   (
-                    (refl, refl, refl, merge, merge, tt, (refl, (refl, tt)), refl, lit≤ tt, (refl, tt)),
-                    ((refl, refl, refl), ((refl, refl, refl, release), tt)),
+                    (refl, refl, refl, merge, merge, tt, (refl, (refl, tt)), refl, lit≤ tt, (refl, tt), tt, refl),
+                    ((refl, refl, refl), ((refl, refl, refl, release, tt), tt)),
                   ),
                 ),
               ),
@@ -63,7 +63,7 @@ exported_sound =
       );
       spelled = (
         (lit≤ tt, lit≤ tt),
-        (tt, (((lit≤ tt, lit≤ tt), ((tt, refl), tt)), ((lit≤ tt, lit≤ tt), (((lit≤ tt, lit≤ tt), ((tt, refl), tt)), (((lit≤ tt, lit≤ tt), ((refl, refl), tt)), (((lit≤ tt, lit≤ tt), ((tt, refl), tt)), (tt, (tt, tt)))))))),
+        (tt, (((lit≤ tt, lit≤ tt), ((tt, refl), tt), tt), ((lit≤ tt, lit≤ tt), (((lit≤ tt, lit≤ tt), ((tt, refl), tt), tt), (((lit≤ tt, lit≤ tt), ((refl, refl), tt), tt), (((lit≤ tt, lit≤ tt), ((tt, refl), tt), tt), (tt, (tt, tt)))))))),
       );
       trees = exported_trees;
     }
@@ -84,13 +84,13 @@ rarer_sound = record {
   formed = (
     (refl, refl),
     (
-      (refl, refl, refl, formed 5 (lit≤ tt), formed 86400 (lit≤ tt), tt, tt, refl, lit≤ tt, tt),
+      (refl, refl, refl, formed 5 (lit≤ tt), formed 86400 (lit≤ tt), tt, tt, refl, lit≤ tt, tt, tt, refl),
       (
-        (refl, refl, refl, formed 5 (lit≤ tt), formed 3 (lit≤ tt), tt, (refl, tt), refl, lit≤ tt, tt),
+        (refl, refl, refl, formed 5 (lit≤ tt), formed 3 (lit≤ tt), tt, (refl, tt), refl, lit≤ tt, tt, (refl, tt), refl),
         (
-          (refl, refl, refl, tt),
+          (refl, refl, refl, tt, tt),
           (
-            (refl, refl, refl, formed 0 (lit≤ tt)),
+            (refl, refl, refl, formed 0 (lit≤ tt), refl),
             (
               (refl, refl, refl),
               (
@@ -106,7 +106,7 @@ rarer_sound = record {
       ),
     ),
   );
-  spelled = (tt, (((lit≤ tt, lit≤ tt), tt), (((lit≤ tt, lit≤ tt), tt), (tt, (tt, (tt, (tt, (tt, tt))))))));
+  spelled = (tt, (((lit≤ tt, lit≤ tt), tt, tt), (((lit≤ tt, lit≤ tt), tt, ((lit≤ tt, lit≤ tt), tt)), (tt, ((lit≤ tt, lit≤ tt), (tt, (tt, (tt, tt))))))));
   trees = rarer_trees;
 }
 

@@ -76,18 +76,19 @@ pub record ExportedLists : Type 0 where
 -- ---- rarer events
 
 -- a commit by Ann that another day was committed
-abbrev pub plain_commit : ℕ → ℕ → Bytes → ℕ → Bytes → List ℕ → PlainEvent
-plain_commit id mark branch seconds comment parents = Commit id mark branch (signed 5) (signed seconds) None comment parents [] []
+abbrev pub plain_commit : ℕ → ℕ → Bytes → ℕ → Bytes → List ℕ → List ℕ → PlainEvent
+plain_commit id mark branch seconds comment parents aliases = Commit id mark branch (signed 5) (signed seconds) None comment parents [] aliases
 
--- a line that is passed through; comments without an LF, empty and of two lines; a tag without a tagger; a branch that
--- is taken away again, and one that stands before another that is older
+-- a line that is passed through; comments without an LF, empty and of two lines; an alias, and a tag that has a mark,
+-- neither of which is shown; a tag without a tagger; a branch that is taken away again, and one that stands before
+-- another that is older
 unfoldable pub rarer : List PlainEvent
 rarer =
     Pass 1 (codes "progress half")
-    ∷ plain_commit 2 70 (codes "main") 86400 (codes "no end") []
-    ∷ plain_commit 3 8 (codes "main") 3 [] (2 ∷ [])
+    ∷ plain_commit 2 70 (codes "main") 86400 (codes "no end") [] []
+    ∷ plain_commit 3 8 (codes "main") 3 [] (2 ∷ []) (9 ∷ [])
     ∷ Tag 4 (codes "v1") 2 None [] None
-    ∷ Tag 5 (codes "a") 3 (Some (signed 0)) (codes "two\nlines") None
+    ∷ Tag 5 (codes "a") 3 (Some (signed 0)) (codes "two\nlines") (Some 80)
     ∷ Reset 6 (codes "side") (Some 2)
     ∷ Reset 7 (codes "side") None
     ∷ Reset 8 (codes "Old") (Some 2)

@@ -1,15 +1,5 @@
-//! Events of a history, found by their places and ids.
-ghost use Rattle.std.specs.Prelude.{
-  ◌≡◌,
-  ◌<◌,
-  Some,
-  length,
-  map,
-  option_map,
-  slice_get,
-  IfOk,
-  IfSome,
-};
+//! Events of a history, found by their ids.
+ghost use Rattle.std.specs.Prelude.{◌≡◌, map, option_map, IfOk, IfSome};
 ghost use Rattle.listing.specs.Finding.{IsDated, own_commit_mark};
 ghost use Rattle.plain_model.specs.Lookups.{find_event, id_of};
 ghost use Rattle.plain_model.specs.Snapshots.{commit_mark};
@@ -17,25 +7,6 @@ ghost use Rattle.plain_model.specs.Snapshots.{commit_mark};
 use event_arena::Events;
 use plain_model::{AnyId, CommitId, IdList, NoMemory, PlainEvent};
 use std::alloc::Global;
-
-// The id of the event before which so many stand.
-fn id_at(events: &Events, place: usize) -> AnyId
-    requires { place < length events.now.list }
-    ensures { option_map id_of (slice_get events.now.list place) ≡ Some result }
-{
-    let _count = events.count();
-    events.at(place + 1).unwrap()
-}
-
-/// The event before which so many stand.
-pub fn event_at(events: &Events, place: usize) -> &PlainEvent
-    requires { place < length events.now.list }
-    ensures { slice_get events.now.list place ≡ Some result.now }
-{
-    let _count = events.count();
-    let id = id_at(events, place);
-    events.event(id).unwrap()
-}
 
 /// The event with the id. Its dates are within their limit, since the history is sound.
 pub fn event_of(events: &Events, id: AnyId) -> Option<&PlainEvent>
@@ -71,7 +42,7 @@ pub fn all(alloc: Global, events: &Events) -> Result<IdList, NoMemory>
 {
     let mut ids = IdList::new(alloc)?;
     for place in 0..events.count() {
-        ids.push(id_at(events, place))?;
+        ids.push(events.nth(place).id())?;
     }
     Ok(ids)
 }

@@ -14,7 +14,7 @@ ghost use Rattle.plain_model.specs.Lookups.{find_event, number_of};
 ghost use Rattle.plain_model.specs.Snapshots.{refs};
 
 use crate::events::{push_indexed, push_listed, push_name, push_tag_name};
-use crate::finding::{event_at, event_of, mark_of};
+use crate::finding::{event_of, mark_of};
 use branch_tips::{TipList, Tips};
 use event_arena::Events;
 use plain_model::{AnyId, NoMemory, Text};
@@ -76,7 +76,7 @@ fn last_tips(alloc: Global, events: &Events) -> Result<TipList, NoMemory>
 {
     let mut tips = Tips::new(alloc);
     for place in 0..events.count() {
-        tips.note(event_at(events, place))?;
+        tips.note(events.nth(place))?;
     }
     tips.entries()
 }
@@ -95,7 +95,7 @@ fn push_tags(events: &Events, into: &mut Text) -> Result<(), NoMemory>
         (into.new ≡ into.old ++ flat_map (tag_line events.now.list) events.now.list) }
 {
     for place in 0..events.count() {
-        push_tag_name(events, event_at(events, place), into)?;
+        push_tag_name(events, events.nth(place), into)?;
     }
     Ok(())
 }

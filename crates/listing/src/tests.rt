@@ -102,6 +102,7 @@ fn commit(
         comment: text(alloc, comment)?,
         parents: Items::of(alloc, parents)?,
         ops,
+        aliases: Items::new(alloc)?,
     })
 }
 
@@ -113,9 +114,10 @@ fn plain_commit(
     seconds: u64,
     comment: &[u8],
     parents: &[CommitId],
+    aliases: &[Mark],
 ) -> Result<PlainEvent, Fail>
     ensures { IfOk result (λ event. event ≡
-        plain_commit id number branch.now seconds comment.now parents.now) }
+        plain_commit id number branch.now seconds comment.now parents.now aliases.now) }
 {
     Ok(PlainEvent::Commit {
         id: CommitId::new(id),
@@ -127,6 +129,7 @@ fn plain_commit(
         comment: text(alloc, comment)?,
         parents: Items::of(alloc, parents)?,
         ops: Items::new(alloc)?,
+        aliases: Items::of(alloc, aliases)?,
     })
 }
 
@@ -162,8 +165,9 @@ fn tag(
     target: u64,
     tagger: Option<Signed>,
     comment: &[u8],
+    mark: Option<Mark>,
 ) -> Result<PlainEvent, Fail>
-    ensures { IfOk result (λ event. event ≡ a.Tag id name.now target tagger comment.now) }
+    ensures { IfOk result (λ event. event ≡ a.Tag id name.now target tagger comment.now mark) }
 {
     Ok(PlainEvent::Tag {
         id: TagId::new(id),
@@ -171,6 +175,7 @@ fn tag(
         target: CommitId::new(target),
         tagger,
         comment: text(alloc, comment)?,
+        mark,
     })
 }
 
@@ -199,12 +204,12 @@ fn put_exported(alloc: Global, list: &mut EventList) -> Result<(), Fail>
     list.push(commit(alloc, 7, 6, master, 1306283400, b"merge\n", &both, merged)?)?;
     list.push(reset(alloc, 8, b"refs/tags/light", Some(CommitId::new(7)))?)?;
     let tagger = signed(alloc, 1306284000)?;
-    list.push(tag(alloc, 9, b"v1.0", 7, Some(tagger), b"release\n")?)?;
+    list.push(tag(alloc, 9, b"v1.0", 7, Some(tagger), b"release\n", None)?)?;
     Ok(())
 }
 
-// Comments without an LF, empty and of two lines; a tag without a tagger; a branch that is taken
-// away again.
+// Comments without an LF, empty and of two lines; an alias and a tag's mark, which aren't shown; a tag without a tagger;
+// a branch that is taken away again.
 #[tactic(auto, unfolding(crate::specs::Examples::rarer))]
 fn put_rarer(alloc: Global, list: &mut EventList) -> Result<(), Fail>
     requires { list.old ≡ [] }
@@ -215,11 +220,12 @@ fn put_rarer(alloc: Global, list: &mut EventList) -> Result<(), Fail>
         id: PassId::new(1),
         line: text(alloc, b"progress half")?,
     })?;
-    list.push(plain_commit(alloc, 2, 70, b"main", 86400, b"no end", &[])?)?;
-    list.push(plain_commit(alloc, 3, 8, b"main", 3, b"", &[first])?)?;
-    list.push(tag(alloc, 4, b"v1", 2, None, b"")?)?;
+    list.push(plain_commit(alloc, 2, 70, b"main", 86400, b"no end", &[], &[])?)?;
+    list.push(plain_commit(alloc, 3, 8, b"main", 3, b"", &[first], &[mark(9)?])?)?;
+    list.push(tag(alloc, 4, b"v1", 2, None, b"", None)?)?;
     let tagger = signed(alloc, 0)?;
-    list.push(tag(alloc, 5, b"a", 3, Some(tagger), b"two\nlines")?)?;
+    let comment = b"two\nlines";
+    list.push(tag(alloc, 5, b"a", 3, Some(tagger), comment, Some(mark(80)?))?)?;
     list.push(reset(alloc, 6, b"side", Some(first))?)?;
     list.push(reset(alloc, 7, b"side", None)?)?;
     list.push(reset(alloc, 8, b"Old", Some(first))?)?;

@@ -1,15 +1,16 @@
 -- A history such as reading gives it has no more marks than there are: each is 1 to 4,294,967,295, and stands once.
-use Rattle.std.proofs.Common.{◌≡◌, ℕ, suc, ◌+◌, ◌<◌, ◌≤◌, Bool, true, false, cond, List, [], ◌∷◌, length, Some, None, refl, ap, inl, inr, ◌⊎◌, arith, eqb, eqb-true}
+use Rattle.std.proofs.Common.{◌≡◌, ℕ, suc, ◌+◌, ◌<◌, ◌≤◌, Bool, true, false, cond, List, [], ◌∷◌, ◌++◌, length, Some, None, refl, ap, sym, subst, inl, inr, ◌⊎◌, arith, eqb, eqb-true}
 use Rattle.std.specs.Prelude.{map}
 use Rattle.std.specs.List.{AllByRecursion, IsDistinct, list_any}
 use Rattle.std.specs.Map.{lookup}
 use Rattle.std.proofs.lemmas.Bool.{or_cases, false_from_ne_true}
+use Rattle.std.proofs.lemmas.List.{map-append}
 use Rattle.std.proofs.lemmas.Map.Steps.{length-le_from_distinct_below}
 use Rattle.plain_model.specs.declared.limit.TheConstants.{MAX_MARK}
 use Rattle.plain_model.specs.declared.id.AnyId.{AnyId}
 use Rattle.plain_model.specs.declared.event.PlainEvent.{PlainEvent}
 use Rattle.plain_model.specs.declared.event.PlainEvent.TheVariants.{Blob, Commit, Tag, Reset, Pass}
-use Rattle.plain_model.specs.Lookups.{marks_of}
+use Rattle.plain_model.specs.Lookups.{event_marks, id_of, marks_of, own_marks}
 use Rattle.plain_model.specs.Marks.{IsMark}
 use Rattle.event_arena.specs.Once.{AreMarkedOnce}
 use Rattle.event_arena.proofs.SoundLemmas.{sound-once}
@@ -36,11 +37,21 @@ numbers_distinct (x ∷ marks) h = (all_differ x.0 marks h.0, numbers_distinct m
 -- they are marks
 are_marks : (events : List PlainEvent) → AllByRecursion IsFormedEvent events → AllByRecursion IsMark (numbers (marks_of events))
 are_marks [] h = tt
-are_marks (Blob id mark bytes ∷ events) h = (h.0, are_marks events h.1)
-are_marks (Commit id mark branch author committer encoding comment parents ops aliases ∷ events) h = (h.0.0, are_marks events h.1)
-are_marks (Tag id name target tagger comment mark ∷ events) h = are_marks events h.1
-are_marks (Reset id branch target ∷ events) h = are_marks events h.1
-are_marks (Pass id line ∷ events) h = are_marks events h.1
+are_marks (e ∷ events) h =
+    subst (AllByRecursion IsMark) (sym (map-append (λ (own : ℕ × AnyId). own.0) (own_marks e) (marks_of events)))
+    (both (event_marks e) (numbers (marks_of events)) (id_of e) (own e h.0) (are_marks events h.1))
+  where
+    own : (e : PlainEvent) → IsFormedEvent e → AllByRecursion IsMark (event_marks e)
+    own (Blob id mark bytes) h = (h, tt)
+    own (Commit id mark branch author committer encoding comment parents ops aliases) h = (h.0, h.2)
+    own (Tag id name target tagger comment None) h = tt
+    own (Tag id name target tagger comment (Some mark)) h = (h, tt)
+    own (Reset id branch target) h = tt
+    own (Pass id line) h = tt
+
+    both : (ms ns : List ℕ) (id : AnyId) → AllByRecursion IsMark ms → AllByRecursion IsMark ns → AllByRecursion IsMark (numbers (map (λ m. (m, id)) ms) ++ ns)
+    both [] ns id h more = more
+    both (m ∷ ms) ns id h more = (h.0, both ms ns id h.1 more)
 
 -- so 0 is none of them
 none_is_0 : (ns : List ℕ) → AllByRecursion IsMark ns → AllByRecursion (λ n. eqb 0 n ≡ false) ns

@@ -18,12 +18,15 @@ formed = (
   (
     (refl, refl),
     (
-      (refl, refl, refl, ann-formed, ann-formed, tt, tt, refl, lit≤ tt, (refl, (refl, tt))),
+      (refl, refl, refl, ann-formed, ann-formed, tt, tt, refl, lit≤ tt, (refl, (refl, tt)), (refl, tt), refl),
       (
         (refl, refl),
         (
-          (refl, refl, refl, tt),
-          ((refl, refl, refl, ann-formed, ann-formed, tt, (refl, tt), refl, lit≤ tt, tt), ((refl, refl, refl), tt)),
+          (refl, refl, refl, tt, tt),
+          (
+            (refl, refl, refl, tt, refl),
+            ((refl, refl, refl, ann-formed, ann-formed, tt, (refl, tt), refl, lit≤ tt, tt, tt, refl), ((refl, refl, refl), tt)),
+          ),
         ),
       ),
     ),
@@ -33,16 +36,16 @@ formed = (
 trees : (c : ℕ) → IsCommitOf falling c → IsSome (tree falling c)
 trees c h = elim (cases_Bool (eqb 3 c)) [
   | inl it ↦ subst (λ n. IsSome (tree falling n)) (eqb-true 3 c it) refl
-  | inr no_3 ↦ elim (cases_Bool (eqb 6 c)) [
-    | inl it ↦ subst (λ n. IsSome (tree falling n)) (eqb-true 6 c it) refl
-    | inr no_6 ↦ absurd (true≢false (sym (rw (no_3, no_6) at h)))
+  | inr no_3 ↦ elim (cases_Bool (eqb 7 c)) [
+    | inl it ↦ subst (λ n. IsSome (tree falling n)) (eqb-true 7 c it) refl
+    | inr no_7 ↦ absurd (true≢false (sym (rw (no_3, no_7) at h)))
   ]
 ]
 
 pub falling-sound : IsSound falling
 falling-sound = record {
   formed = formed;
-  spelled = ((lit≤ tt, lit≤ tt), ((lit≤ tt, lit≤ tt), (((lit≤ tt, lit≤ tt), ((tt, refl), ((tt, refl), tt))), (tt, (tt, (((lit≤ tt, lit≤ tt), tt), (tt, tt)))))));
+  spelled = ((lit≤ tt, lit≤ tt), ((lit≤ tt, lit≤ tt), (((lit≤ tt, lit≤ tt), ((tt, refl), ((tt, refl), tt)), ((lit≤ tt, lit≤ tt), tt)), (tt, (tt, ((lit≤ tt, lit≤ tt), (((lit≤ tt, lit≤ tt), tt, tt), (tt, tt))))))));
   trees = trees;
 }
 
@@ -50,7 +53,7 @@ pub counted-sound : IsSound counted
 counted-sound = sound_again falling falling-sound
 
 pub falling-low : AreIdsBelow 4611686018427387904 falling
-falling-low = ids-below 4611686018427387904 falling (lit< tt, (lit< tt, (lit< tt, (lit< tt, (lit< tt, (lit< tt, (lit< tt, tt)))))))
+falling-low = ids-below 4611686018427387904 falling (lit< tt, (lit< tt, (lit< tt, (lit< tt, (lit< tt, (lit< tt, (lit< tt, (lit< tt, tt))))))))
 
 pub counted-low : AreIdsBelow 4611686018427387904 counted
-counted-low = ids-below 4611686018427387904 counted (lit< tt, (lit< tt, (lit< tt, (lit< tt, (lit< tt, (lit< tt, (lit< tt, tt)))))))
+counted-low = ids-below 4611686018427387904 counted (lit< tt, (lit< tt, (lit< tt, (lit< tt, (lit< tt, (lit< tt, (lit< tt, (lit< tt, tt))))))))

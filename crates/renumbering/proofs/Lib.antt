@@ -1,5 +1,6 @@
-mod Kept
-mod Few
-mod Sound
-mod Steps
-mod Histories
+pub mod Few
+pub mod Histories
+pub mod Kept
+pub mod Marks
+pub mod Sound
+pub mod Steps

@@ -1,25 +1,26 @@
 //! Laws of renumbering. Each function's contract is one, and its body is empty.
 ghost use Rattle.std.specs.Prelude.{◌≡◌, ℕ, List, length, map};
 ghost use Rattle.std.specs.List.{enumerate_from};
-ghost use Rattle.event_arena.specs.Changes.{with_mark};
 ghost use Rattle.plain_model.specs.declared.event.PlainEvent.{PlainEvent};
 ghost use Rattle.plain_model.specs.Histories.{tree};
 ghost use Rattle.plain_model.specs.Lookups.{id_of, marks_of};
 ghost use Rattle.plain_model.specs.Snapshots.{refs, shown_tree};
 ghost use Rattle.plain_model.specs.Soundness.{IsSound};
 ghost use Rattle.round_trip_laws.specs.AsRead.{IsAsRead};
-ghost use Rattle.renumbering.specs.Renumbered.{renumbered};
+ghost use Rattle.renumbering.specs.Renumbered.{all_marked, renumbered};
 
-/// Blobs and commits, in the order of the list, have the marks 1, 2, 3, ..
+/// All marks, in the order of the list, are 1, 2, 3, ..: a blob's, a commit's and then its aliases, a tag's.
+/// The events that have them are the same.
 pub fn marks_count_up()
     ensures { (events : List PlainEvent) → marks_of (renumbered events)
         ≡ enumerate_from 1 (map (λ own. own.1) (marks_of events)) }
 {}
 
-/// But for their marks, the events are the same.
+/// But for the numbers that its marks are, each event is the same: a commit keeps as many aliases, and a tag has a
+/// mark where it had one.
 pub fn nothing_else_changes()
     ensures { (events : List PlainEvent) (mark : ℕ) →
-        map (with_mark mark) (renumbered events) ≡ map (with_mark mark) events }
+        map (all_marked mark) (renumbered events) ≡ map (all_marked mark) events }
 {}
 
 /// Each commit keeps its tree, with the same bytes in it, and each branch stands where it stood.
@@ -38,12 +39,12 @@ pub fn ids_stay()
     ensures count { (events : List PlainEvent) → length (renumbered events) ≡ length events }
 {}
 
-/// A sound history stays sound.
+/// A sound history stays sound. Its marks stand once, so there are no more than marks.
 pub fn renumbering_keeps_soundness()
     ensures { (events : List PlainEvent) → IsSound events → IsSound (renumbered events) }
 {}
 
-/// A history such as reading gives it stays one. Its marks stand once, so there are no more than marks.
+/// A history such as reading gives it stays one.
 pub fn renumbering_keeps_what_reading_gives()
     ensures { (events : List PlainEvent) → IsAsRead events → IsAsRead (renumbered events) }
 {}

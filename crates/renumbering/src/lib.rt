@@ -1,4 +1,4 @@
-//! Blobs and commits get the marks 1, 2, 3, .. in the order of a history, and nothing else changes.
+//! The marks of a history become 1, 2, 3, .. in its order, and nothing else changes.
 #![tactic(auto)]
 
 mod laws;

@@ -1,87 +1,144 @@
 //! The plan of a renumbering.
-ghost use Rattle.std.specs.Prelude.{
-  ◌≡◌,
-  ◌≤◌,
-  ◌+◌,
-  ◌-◌,
-  Some,
-  length,
-  map,
-  option_to_list,
-  slice_get,
-  IfOk,
-  OnOk,
-};
-ghost use Rattle.event_arena.specs.Changes.{changed, with_mark};
-ghost use Rattle.plain_model.specs.Lookups.{find_event, id_of, own_mark};
+ghost use Rattle.std.specs.Prelude.{◌≡◌, ◌≤◌, ◌+◌, Some, length, IfOk, IfSome, IsSome, IsTrue, OnOk};
+ghost use Rattle.std.specs.Bool.{OnTrue};
+ghost use Rattle.event_arena.specs.Changes.{changed, has_mark, with_aliases, with_mark};
+ghost use Rattle.plain_model.specs.Lookups.{event_marks, find_event, id_of};
 ghost use Rattle.plain_model.specs.Marks.{IsMark};
 ghost use Rattle.plain_model.specs.Soundness.{IsSound};
-ghost use Rattle.plain_model.specs.declared.limit.TheConstants.{MAX_EVENTS};
-ghost use Rattle.renumbering.specs.Renumbered.{renumbered};
+ghost use Rattle.plain_model.specs.declared.id.AnyId.TheVariants.{Commit};
+ghost use Rattle.plain_model.specs.declared.limit.TheConstants.{MAX_MARK};
+ghost use Rattle.renumbering.specs.Renumbered.{marked_from, marks_from, renumbered};
 
 use event_arena::{Events, Plan};
-use plain_model::{Mark, NoMemory, PlainEvent};
+use plain_model::{AnyId, CommitId, Mark, MarkList, NoMemory, PlainEvent};
 use std::alloc::Global;
 
-// The event with the number, from 1.
-fn numbered(events: &Events, number: usize) -> &PlainEvent
-    requires sound { IsSound events.now.list }
-    requires from_one { 1 ≤ number }
-    requires within { number ≤ length events.now.list }
-    ensures { slice_get events.now.list (number - 1) ≡ Some result.now }
+// As many marks as these, from the first on.
+fn marks_from(alloc: Global, first: u64, marks: &[Mark]) -> Result<MarkList, NoMemory>
+    requires low { 1 ≤ first }
+    requires fits { first + length marks.now ≤ MAX_MARK + 1 }
+    ensures { IfOk result (λ list. list ≡ marks_from first marks.now) }
 {
-    let id = events.at(number).unwrap();
-    events.event(id).unwrap()
+    let mut list = MarkList::new(alloc)?;
+    for done in 0..marks.len() {
+        list.push(Mark::new(first + done as u64).unwrap())?;
+    }
+    Ok(list)
 }
 
-// The mark of a blob or a commit.
-fn mark_of(event: &PlainEvent) -> Option<Mark>
-    ensures { option_to_list result ≡ map (λ own. own.0) (own_mark event.now) }
+// Whether the marks go on from the first.
+fn go_from(first: u64, marks: &[Mark]) -> bool
+    requires { first + length marks.now ≤ MAX_MARK + 1 }
+    ensures { OnTrue result (marks.now ≡ marks_from first marks.now) }
+{
+    let mut next = first;
+    for mark in marks {
+        if mark.number() != next {
+            return false;
+        }
+        next += 1;
+    }
+    true
+}
+
+// Gives an event that has the one mark the other.
+fn give_mark(plan: &mut Plan, id: AnyId, old: Mark, new: u64) -> Result<(), NoMemory>
+    requires there { IsSome (find_event id plan.old.after) }
+    requires field { IfSome (find_event id plan.old.after) (λ event. IsTrue (has_mark event)) }
+    requires own { IfSome (find_event id plan.old.after) (λ event. with_mark old event ≡ event) }
+    requires fits { IsMark new }
+    ensures { OnOk result
+        (plan.new ≡ record plan.old { after = changed id (with_mark new) plan.old.after }) }
+{
+    if old.number() == new {
+        return Ok(());
+    }
+    plan.set_mark(id, Mark::new(new).unwrap())
+}
+
+// Gives a commit that has these aliases as many from the first on.
+fn give_aliases(
+    alloc: Global,
+    plan: &mut Plan,
+    id: CommitId,
+    old: &[Mark],
+    first: u64,
+) -> Result<(), NoMemory>
+    requires there { IsSome (find_event (Commit id) plan.old.after) }
+    requires own { IfSome (find_event (Commit id) plan.old.after)
+        (λ event. with_aliases old.now event ≡ event) }
+    requires low { 1 ≤ first }
+    requires fits { first + length old.now ≤ MAX_MARK + 1 }
+    ensures { OnOk result (plan.new ≡ record plan.old {
+      after = changed (Commit id) (with_aliases (marks_from first old.now)) plan.old.after;
+    }) }
+{
+    if go_from(first, old) {
+        return Ok(());
+    }
+    plan.set_aliases(id, marks_from(alloc, first, old)?)
+}
+
+// Gives an event its marks from the next one on, and answers which is next after them.
+fn give_marks(
+    alloc: Global,
+    plan: &mut Plan,
+    event: &PlainEvent,
+    next: u64,
+) -> Result<u64, NoMemory>
+    requires there { find_event (id_of event.now) plan.old.after ≡ Some event.now }
+    requires low { 1 ≤ next }
+    requires fits { next + length (event_marks event.now) ≤ MAX_MARK + 1 }
+    ensures given { OnOk result (plan.new ≡ record plan.old {
+      after = changed (id_of event.now) (marked_from next) plan.old.after;
+    }) }
+    ensures next { IfOk result (λ after. after ≡ next + length (event_marks event.now)) }
 {
     match event {
-        PlainEvent::Blob { mark, .. } => Some(*mark),
-        PlainEvent::Commit { mark, .. } => Some(*mark),
-        _ => None,
+        PlainEvent::Blob { id, mark, .. } => {
+            give_mark(plan, AnyId::Blob(*id), *mark, next)?;
+            Ok(next + 1)
+        }
+        PlainEvent::Commit {
+            id,
+            mark,
+            aliases,
+            ..
+        } => {
+            give_aliases(alloc, plan, *id, aliases.as_slice(), next + 1)?;
+            give_mark(plan, AnyId::Commit(*id), *mark, next)?;
+            Ok(next + 1 + aliases.as_slice().len() as u64)
+        }
+        PlainEvent::Tag { id, mark, .. } => match mark {
+            Some(mark) => {
+                give_mark(plan, AnyId::Tag(*id), *mark, next)?;
+                Ok(next + 1)
+            }
+            None => Ok(next),
+        },
+        PlainEvent::Reset { .. } => Ok(next),
+        PlainEvent::Pass { .. } => Ok(next),
     }
 }
 
-// Gives a blob or a commit the mark that is due, and tells the one that is due after it.
-fn give_mark(plan: &mut Plan, event: &PlainEvent, expected: u64) -> Result<u64, NoMemory>
-    requires there { find_event (id_of event.now) plan.old.after ≡ Some event.now }
-    requires fits { IsMark expected }
-    ensures given { OnOk result (plan.new ≡ record plan.old {
-      after = changed (id_of event.now) (with_mark expected) plan.old.after;
-    }) }
-    ensures next { IfOk result (λ next. next ≡ expected + length (own_mark event.now)) }
-{
-    let Some(mark) = mark_of(event) else {
-        return Ok(expected);
-    };
-    if mark.number() != expected {
-        plan.set_mark(event.id(), Mark::new(expected).unwrap())?;
-    }
-    Ok(expected + 1)
-}
-
-// Goes over the events once, and gives each blob and each commit its mark.
-fn give_marks(events: &Events, plan: &mut Plan) -> Result<(), NoMemory>
-    requires few { length events.now.list ≤ MAX_EVENTS }
-    requires begun { plan.old.after ≡ events.now.list }
+// Goes over the events once, and gives each its marks.
+fn give_all(alloc: Global, events: &Events, plan: &mut Plan) -> Result<(), NoMemory>
+    requires { plan.old.after ≡ events.now.list }
     ensures given { OnOk result
         (plan.new ≡ record plan.old { after = renumbered events.now.list }) }
     ensures sound { OnOk result (IsSound plan.new.after) }
 {
-    let mut expected: u64 = 1;
+    let mut next: u64 = 1;
     for place in 0..events.count() {
-        expected = give_mark(plan, numbered(events, place + 1), expected)?;
+        next = give_marks(alloc, plan, events.nth(place), next)?;
     }
     Ok(())
 }
 
-/// The plan that gives blobs and commits the marks 1, 2, 3, .. in the order of the list. An event that has
-/// its mark already isn't copied.
+/// The plan that gives the marks 1, 2, 3, .. in the order of the list: to a blob its mark, to a commit its mark and
+/// then its aliases, to a tag its mark where it has one. There are always enough, since marks stand once. An event
+/// whose marks are right already isn't copied.
 pub fn renumber(alloc: Global, events: &Events) -> Result<Plan, NoMemory>
-    requires few { length events.now.list ≤ MAX_EVENTS }
     ensures before { IfOk result (λ plan. plan.before ≡ events.now.list) }
     ensures after { IfOk result (λ plan. plan.after ≡ renumbered events.now.list) }
     ensures made_at { IfOk result (λ plan. plan.made_at ≡ events.now.next_id) }
@@ -89,6 +146,6 @@ pub fn renumber(alloc: Global, events: &Events) -> Result<Plan, NoMemory>
     ensures sound { IfOk result (λ plan. IsSound plan.after) }
 {
     let mut plan = Plan::new(alloc, events)?;
-    give_marks(events, &mut plan)?;
+    give_all(alloc, events, &mut plan)?;
     Ok(plan)
 }

@@ -1,6 +1,6 @@
-ghost use Rattle.std.specs.Prelude.{◌≡◌, ◌∷◌, [], IfOk};
+ghost use Rattle.std.specs.Prelude.{◌≡◌, ◌∷◌, [], None, IfOk};
 ghost use Rattle.plain_model.specs.Soundness.{IsSound};
-ghost use Rattle.plain_model.specs.declared.event.PlainEvent.TheVariants.{Blob};
+ghost use Rattle.plain_model.specs.declared.event.PlainEvent.TheVariants.{Blob, Tag};
 ghost use Rattle.renumbering.specs.Worked.{ann, commit, counted, falling, put_in, with_the_marks};
 
 use crate::renumber;
@@ -54,10 +54,11 @@ fn commit(
     alloc: Global,
     id: u64,
     mark_number: u64,
+    aliases: &[Mark],
     parents: &[CommitId],
     ops: OpList,
 ) -> Result<PlainEvent, Fail>
-    ensures { IfOk result (λ event. event ≡ commit id mark_number parents.now ops) }
+    ensures { IfOk result (λ event. event ≡ commit id mark_number aliases.now parents.now ops) }
 {
     Ok(PlainEvent::Commit {
         id: CommitId::new(id),
@@ -69,6 +70,26 @@ fn commit(
         comment: text(alloc, b"why")?,
         parents: Items::of(alloc, parents)?,
         ops,
+        aliases: Items::of(alloc, aliases)?,
+    })
+}
+
+fn tag(
+    alloc: Global,
+    id: u64,
+    name: &[u8],
+    comment: &[u8],
+    mark: Option<Mark>,
+) -> Result<PlainEvent, Fail>
+    ensures { IfOk result (λ event. event ≡ Tag id name.now 3 None comment.now mark) }
+{
+    Ok(PlainEvent::Tag {
+        id: TagId::new(id),
+        name: text(alloc, name)?,
+        target: CommitId::new(3),
+        tagger: None,
+        comment: text(alloc, comment)?,
+        mark,
     })
 }
 
@@ -92,29 +113,39 @@ fn root_ops(alloc: Global) -> Result<OpList, Fail>
 }
 
 // The worked history with these marks.
-fn list(alloc: Global, one: u64, two: u64, root: u64, child: u64) -> Result<EventList, Fail>
-    ensures { IfOk result (λ list. list ≡ with_the_marks one two root child) }
+fn list(
+    alloc: Global,
+    one: u64,
+    two: u64,
+    root: u64,
+    alias: u64,
+    tagged: u64,
+    child: u64,
+) -> Result<EventList, Fail>
+    ensures { IfOk result (λ list. list ≡ with_the_marks one two root alias tagged child) }
 {
     let mut list = Items::new(alloc)?;
     list.push(blob(alloc, 1, one, b"x")?)?;
     list.push(blob(alloc, 2, two, b"y")?)?;
-    list.push(commit(alloc, 3, root, &[], root_ops(alloc)?)?)?;
+    list.push(commit(alloc, 3, root, &[mark(alias)?], &[], root_ops(alloc)?)?)?;
     list.push(PlainEvent::Pass {
         id: PassId::new(4),
         line: text(alloc, b"checkpoint")?,
     })?;
-    list.push(PlainEvent::Tag {
-        id: TagId::new(5),
-        name: text(alloc, b"v1")?,
-        target: CommitId::new(3),
-        tagger: None,
-        comment: text(alloc, b"first")?,
-    })?;
-    list.push(commit(alloc, 6, child, &[CommitId::new(3)], Items::new(alloc)?)?)?;
+    list.push(tag(alloc, 5, b"v1", b"first", None)?)?;
+    list.push(tag(alloc, 6, b"v2", b"second", Some(mark(tagged)?))?)?;
+    list.push(commit(
+        alloc,
+        7,
+        child,
+        &[],
+        &[CommitId::new(3)],
+        Items::new(alloc)?,
+    )?)?;
     list.push(PlainEvent::Reset {
-        id: ResetId::new(7),
+        id: ResetId::new(8),
         branch: text(alloc, b"side")?,
-        target: Some(CommitId::new(6)),
+        target: Some(CommitId::new(7)),
     })?;
     Ok(list)
 }
@@ -122,13 +153,13 @@ fn list(alloc: Global, one: u64, two: u64, root: u64, child: u64) -> Result<Even
 fn falling(alloc: Global) -> Result<Events, Fail>
     ensures { IfOk result (λ events. events.list ≡ falling) }
 {
-    Ok(Events::from_plain(alloc, list(alloc, 30, 20, 10, 5)?)?)
+    Ok(Events::from_plain(alloc, list(alloc, 40, 30, 20, 15, 10, 5)?)?)
 }
 
 fn counted(alloc: Global) -> Result<Events, Fail>
     ensures { IfOk result (λ events. events.list ≡ counted) }
 {
-    Ok(Events::from_plain(alloc, list(alloc, 1, 2, 3, 4)?)?)
+    Ok(Events::from_plain(alloc, list(alloc, 1, 2, 3, 4, 5, 6)?)?)
 }
 
 fn carry(events: &mut Events, plan: Plan) -> Result<(), Fail>
@@ -190,9 +221,9 @@ fn put_marks(out: &mut Text, events: &Events, marks: &[u64]) -> Result<(), Fail>
 // The ids with the marks, those at the numbers from 1, and the first that isn't spent.
 fn seen(alloc: Global, events: &Events) -> Result<Text, Fail> {
     let mut out = Items::new(alloc)?;
-    put_marks(&mut out, events, &[1, 2, 3, 4, 5])?;
-    put_marks(&mut out, events, &[10, 20, 30])?;
-    for number in 1..9 {
+    put_marks(&mut out, events, &[1, 2, 3, 4, 5, 6, 7])?;
+    put_marks(&mut out, events, &[10, 15, 20, 30, 40])?;
+    for number in 1..10 {
         put_found(&mut out, events.at(number))?;
     }
     put_number(&mut out, b", ", events.next_id())?;
@@ -213,14 +244,14 @@ fn counted_seen(alloc: Global) -> Result<Text, Fail> {
 
 #[test]
 fn marks_that_fall_become_those_by_place(rt: HostRuntime) -> Result<(), Fail> {
-    let want: &[u8] = b" b1 b2 c3 c6 -, - - -, b1 b2 c3 p4 t5 c6 r7 -, 8";
+    let want: &[u8] = b" b1 b2 c3 c3 t6 c7 -, - - - - -, b1 b2 c3 p4 t5 t6 c7 r8 -, 9";
     assert_eq!(rt; falling_seen(rt.alloc())?.as_slice(), want);
     Ok(())
 }
 
 #[test]
 fn marks_by_place_stay(rt: HostRuntime) -> Result<(), Fail> {
-    let want: &[u8] = b" b1 b2 c3 c6 -, - - -, b1 b2 c3 p4 t5 c6 r7 -, 8";
+    let want: &[u8] = b" b1 b2 c3 c3 t6 c7 -, - - - - -, b1 b2 c3 p4 t5 t6 c7 r8 -, 9";
     assert_eq!(rt; counted_seen(rt.alloc())?.as_slice(), want);
     Ok(())
 }

@@ -1,6 +1,5 @@
-use Rattle.std.proofs.Common.{◌∷◌, [], sym, subst, append_assoc}
 use Rattle.plain_model.specs.declared.id.AnyId.TheVariants.{Commit}
-use Rattle.event_arena.specs.Once.{AreMarkedOnce, named}
+use Rattle.event_arena.specs.Once.{named}
 use Rattle.event_arena.proofs.OnceLemmas.{marked-absent}
 use Rattle.event_arena.proofs.index.note_commit.Goals as goal
 

@@ -1,4 +1,4 @@
-use Rattle.std.proofs.Common.{◌≡◌, ◌∙◌, suc, take, max, ap, sym, add-one, arith}
+use Rattle.std.proofs.Common.{◌≡◌, ◌∙◌, suc, take, max, ap, add-one, arith}
 use Rattle.plain_model.specs.Lookups.{greatest_of}
 use Rattle.event_arena.proofs.ListLemmas.{fold-push, take-all, take-more}
 use Rattle.event_arena.proofs.measure.greatest_of.Goals as goal

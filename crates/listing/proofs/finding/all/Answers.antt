@@ -1,4 +1,5 @@
-use Rattle.std.proofs.Common.{◌∙◌, map, arith}
+use Rattle.std.proofs.Common.{◌∙◌, Some, ap, sym, map, arith}
+use Rattle.std.specs.Prelude.{option_map}
 use Rattle.plain_model.specs.Lookups.{id_of}
 use Rattle.std.proofs.lemmas.List.{length-map}
 use Rattle.listing.proofs.Found.{get_map}
@@ -9,8 +10,8 @@ pub loop-place-preserved : goal.loop-place-preserved
 loop-place-preserved c =
     let list = c.args.events.now.list in
     let place = c.loop-place.place in
-    let here = get_map id_of list place ∙ c.id_at.ensures in
-    begun_by_one (map id_of list) place c.id_at.result c.loop-place.ids c.push.new.self here c.in_ok-push.ensures.ok c.loop-place.invariant
+    let here = get_map id_of list place ∙ ap (option_map id_of) c.nth.ensures.event ∙ ap Some (sym c.id.ensures) in
+    begun_by_one (map id_of list) place c.id.result c.loop-place.ids c.push.new.self here c.in_ok-push.ensures.ok c.loop-place.invariant
 
 pub returns : goal.returns
 returns c =

@@ -4,7 +4,7 @@ use Rattle.listing.proofs.lists.last_tips.Goals as goal
 
 pub loop-place-preserved : goal.loop-place-preserved
 loop-place-preserved c =
-    noted_at c.args.events.now.list c.loop-place.place c.event_at.result.now c.loop-place.tips c.note.new.self c.event_at.ensures c.in_ok-note.ensures.ok
+    noted_at c.args.events.now.list c.loop-place.place c.nth.result.now c.loop-place.tips c.note.new.self c.nth.ensures.event c.in_ok-note.ensures.ok
     ∙ c.loop-place.invariant
 
 pub returns : goal.returns

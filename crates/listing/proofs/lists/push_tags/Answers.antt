@@ -6,9 +6,9 @@ use Rattle.listing.proofs.lists.push_tags.Goals as goal
 pub loop-place-preserved : goal.loop-place-preserved
 loop-place-preserved c =
     let list = c.args.events.now.list in
-    let at = c.event_at.ensures in
+    let at = c.nth.ensures.event in
     let put = c.in_ok-push_tag_name.ensures in
-    to_come (tag_line list) list c.loop-place.place c.event_at.result.now c.loop-place.into c.push_tag_name.new.into at put
+    to_come (tag_line list) list c.loop-place.place c.nth.result.now c.loop-place.into c.push_tag_name.new.into at put
     ∙ c.loop-place.invariant
 
 pub returns : goal.returns
