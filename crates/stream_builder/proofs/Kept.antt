@@ -7,7 +7,7 @@ use Rattle.plain_model.specs.declared.operation.FileOp.TheVariants.{DeleteAll}
 use Rattle.plain_model.specs.Histories.{nodes, begun, folded, tree}
 use Rattle.plain_model.specs.Trees.{Tree}
 use Rattle.stream_grammar.specs.Known.{next_id, with_event}
-use Rattle.draft_trees.specs.declared.trees.KnownTree.{KnownTree}
+use Rattle.stream_builder.specs.declared.draft_trees.trees.KnownTree.{KnownTree}
 use Rattle.stream_builder.specs.declared.known.OpenTree.{OpenTree}
 use Rattle.stream_builder.specs.declared.known.OpenTree.TheVariants.{NotFolded}
 use Rattle.stream_builder.specs.declared.known.Trees.{Trees}

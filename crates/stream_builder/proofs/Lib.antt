@@ -6,3 +6,4 @@ mod Counting
 mod Built
 mod Fronts
 mod Limited
+mod FirstParents

@@ -2,3 +2,4 @@ pub mod Building
 pub mod Minding
 pub mod Pushing
 pub mod Operating
+pub mod Lines

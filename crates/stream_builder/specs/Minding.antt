@@ -6,7 +6,7 @@ use Rattle.plain_model.specs.declared.operation.FileOp.{FileOp}
 use Rattle.plain_model.specs.Histories.{begun, folded, tree}
 use Rattle.plain_model.specs.Trees.{Tree}
 use Rattle.stream_grammar.specs.Known.{next_id}
-use Rattle.draft_trees.specs.declared.trees.KnownTree.{KnownTree}
+use Rattle.stream_builder.specs.declared.draft_trees.trees.KnownTree.{KnownTree}
 use Rattle.stream_builder.specs.declared.known.OpenTree.{OpenTree}
 use Rattle.stream_builder.specs.declared.known.OpenTree.TheVariants.{NotFolded, Folded}
 use Rattle.stream_builder.specs.declared.known.Trees.{Trees}

@@ -1,5 +1,5 @@
 //! The trees that are known while a stream is read.
-use draft_trees::KnownTree;
+use crate::draft_trees::KnownTree;
 use path_tree::PathTree;
 
 /// The tree of the commit that is being read, where it was folded; none where an operation was refused.

@@ -3,6 +3,7 @@
 
 mod builder;
 mod closing;
+mod draft_trees;
 mod known;
 mod open;
 mod operations;

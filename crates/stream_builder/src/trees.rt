@@ -23,8 +23,8 @@ ghost use Rattle.stream_builder.specs.Pushing.{
   most_after,
 };
 
+use crate::draft_trees::{KnownTree, folded, nearest, tree_of};
 use crate::known::{OpenTree, Trees};
-use draft_trees::{KnownTree, folded, nearest, tree_of};
 use path_tree::{ApplyFault, PathTree};
 use plain_model::{CommitId, FileOp, MAX_KEPT_TREES, MAX_PATHS, NoMemory, Path, Steps};
 use std::alloc::Global;

@@ -1,3 +1,4 @@
 mod Steps
 mod Extents
 mod Turns
+mod Agreeing

@@ -6,6 +6,7 @@ ghost use Rattle.stream_fields.specs.Cursors.{Position};
 ghost use Rattle.stream_grammar.specs.Limits.{known_in};
 ghost use Rattle.stream_grammar.specs.Lines.{is_comment, nothing_known};
 ghost use Rattle.stream_lines.specs.Reading.{IsFaultIn, IsFirst, Turns, in_line};
+ghost use Rattle.stream_lines.specs.Taking.{Agrees, AgreesAfter};
 
 use crate::fault::{LineFault, ReadFault};
 use crate::keeping::KeepsEvents;
@@ -65,9 +66,11 @@ fn take<K: KeepsEvents>(
     standing: Standing,
     line: &[u8],
 ) -> Result<Reached, ReadFault>
-    requires { is_comment line.now ≡ false }
-    ensures { (old : Position) → IsFirst old line.now cursor.old →
+    requires plain { is_comment line.now ≡ false }
+    requires agrees { Agrees standing (K.known keeper.old) }
+    ensures turns { (old : Position) → IsFirst old line.now cursor.old →
         Turns old standing (K.known keeper.old) cursor.new (K.known keeper.new) result }
+    ensures agrees { AgreesAfter (K.known keeper.new) result }
 {
     let number = cursor.number();
     let word = Word::of(line);
@@ -98,7 +101,9 @@ fn read_line<K: KeepsEvents>(
     cursor: &mut Cursor,
     standing: Standing,
 ) -> Result<Reached, ReadFault>
-    ensures { Turns cursor.old standing (K.known keeper.old) cursor.new (K.known keeper.new) result }
+    requires { Agrees standing (K.known keeper.old) }
+    ensures turns { Turns cursor.old standing (K.known keeper.old) cursor.new (K.known keeper.new) result }
+    ensures agrees { AgreesAfter (K.known keeper.new) result }
 {
     let Some(line) = cursor.line() else {
         return Ok(Reached::End);

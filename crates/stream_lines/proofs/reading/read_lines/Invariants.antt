@@ -7,6 +7,7 @@ use Rattle.stream_grammar.specs.declared.lines.Standing.{Standing}
 use Rattle.stream_grammar.specs.Known.{Known}
 use Rattle.stream_grammar.specs.Limits.{stream_within}
 use Rattle.stream_lines.specs.Reading.{answer}
+use Rattle.stream_lines.specs.Taking.{Agrees}
 use Rattle.stream_lines.proofs.reading.read_lines.Given as goal
 
 -- the text answers what it answers from the cursor on
@@ -14,6 +15,7 @@ pub record IsReadTo (text : Bytes) (counter : ℕ) (cursor : Position) (standing
   pub same : (spelled : List Bytes) × (outcome stream_within all text ≡ answer cursor standing known spelled)
   pub whole : cursor.text ≡ text
   pub left : line_count (rest cursor) + counter ≤ line_count text
+  pub agrees : Agrees standing known
 
 abbrev pub invariant-loop : goal.invariant-loop
 invariant-loop g l = IsReadTo l.text l.counter l.cursor l.standing (g.K.KeepsEvents.known l.keeper)
