@@ -8,7 +8,8 @@ use Rattle.plain_model.specs.declared.status.Status.{Status}
 use Rattle.plain_model.specs.declared.status.Status.TheVariants as status
 use Rattle.script_reader.specs.declared.script.ScriptItem.{ScriptItem}
 use Rattle.history_machine.proofs.Runs.{IsBreak}
-use Rattle.file_calls.specs.Calls.{Carries, Refuses, Turns, CausedEnd}
+use Rattle.surgeon_session.specs.Calls.{Caused}
+use Rattle.surgeon_session.specs.Commands.{Carries, Refuses, Turns}
 use Rattle.surgeon_store.specs.Outside.{StoreState, SinkState}
 
 session_first : {X : Type 0} (t : Turn X) (run : Run X) (r : Status) (s s' : X) (w now : World) → SessionEndsAs run r t.session (after w t) s' now → SessionEndsAs (with_first t run) r s w s' now
@@ -82,7 +83,7 @@ quiet_after so_far status.Usage q = q
 quiet_after so_far status.NoScript q = q
 quiet_after so_far status.BadScript q = q
 
-pub caused_quiet : (s s' : StoreState) (k k' : SinkState) (r : Status) → IsQuiet r → CausedEnd s k r s' k'
+pub caused_quiet : (s s' : StoreState) (k k' : SinkState) (r : Status) → IsQuiet r → Caused s k r s' k'
 caused_quiet s s' k k' status.Done q = tt
 caused_quiet s s' k k' status.Refused q = tt
 caused_quiet s s' k k' status.SourceFault q = absurd q
