@@ -10,7 +10,8 @@ use Rattle.plain_model.specs.declared.status.Status.{Status}
 use Rattle.plain_model.specs.declared.status.Status.TheVariants as status
 use Rattle.script_reader.specs.Scripts.{script_of}
 use Rattle.script_reader.specs.declared.script.ScriptItem.{ScriptItem}
-use Rattle.history_machine.specs.Loading.{◌>>=◌, file_within}
+use Rattle.surgeon_store.specs.WholeFiles.{file_within}
+use Rattle.history_machine.specs.Loading.{◌>>=◌}
 use Rattle.history_machine.specs.Machine.{Run, run_on}
 use Rattle.history_machine.specs.Sessions.{Session, empty_session, line_step}
 use Rattle.history_machine.specs.Words.{Asked, asked}

@@ -12,9 +12,9 @@ use Rattle.plain_model.specs.declared.status.Status.{Status}
 use Rattle.plain_model.specs.declared.status.Status.TheVariants as status
 use Rattle.history_machine.proofs.Runs.{IsBreak, ends_broken}
 use Rattle.surgeon_store.specs.Outside.{StoreState, SinkState, Reads}
-use Rattle.file_calls.specs.Calls.{world, world_of, Later}
+use Rattle.surgeon_session.specs.Calls.{world, world_of, Later}
 use Rattle.surgeon_store.specs.Outside.{Puts, PutsSome}
-use Rattle.file_calls.proofs.Rounds.{mapped, printed_world, some_printed_world}
+use Rattle.surgeon_session.proofs.Rounds.{mapped, no_part, printed_world, same_world, some_printed_world}
 
 -- a status with which a run ends after it printed a line
 abbrev pub IsPrinted : Status → Type 0
@@ -46,10 +46,6 @@ pub printed_part : (s : StoreState) (k k' : SinkState) (ends r : Status) (line :
 printed_part s k k' ends r line b h =
     mapped (world s k) (world s k') (λ w now e. ends_broken (only_prints ends line) r w now b (zero, e)) (some_printed_world s k k' (line ++ 10 ∷ []) h)
 
-no_part : (to : Option (List ℕ)) (bytes : List ℕ) (w : World) → PartSent to bytes w w
-no_part None bytes w = (zero, λ i. record { files = w.files; printed = sym (append-nil w.printed) i })
-no_part (Some name) bytes w = inl refl
-
 no_turn : {X : Type 0} (turns : List (Turn X)) (w : World) → BreaksAfter zero turns w w
 no_turn [] w = refl
 no_turn (t ∷ ts) w = no_part t.to t.bytes w
@@ -57,10 +53,6 @@ no_turn (t ∷ ts) w = no_part t.to t.bytes w
 -- a run that hasn't begun
 pub not_begun : {X : Type 0} (run : Run X) (r : Status) (w : World) → IsBreak r → EndsAs run r w w
 not_begun run r w b = ends_broken run r w w b (zero, no_turn run.turns w)
-
-same_world : (P : World → World → Type 0) (v : Option World) → ((w : World) → P w w) → IfSome v (λ a. IfSome v (λ b. P a b))
-same_world P None f = tt
-same_world P (Some a) f = f a
 
 -- the world before a run that hasn't begun is that after it
 pub not_begun_worlds : {X : Type 0} (run : World → Run X) (r : Status) (v : Option World) → IsBreak r → IfSome v (λ w. IfSome v (λ now. EndsAs (run w) r w now))
@@ -70,22 +62,9 @@ pub printed_status : (why : Fault) → IsPrinted (unread_status why)
 printed_status (fault.Absent name) = tt
 printed_status other = tt
 
-still : (v : Option World) → IfSome v (λ w. IsSome v)
-still None = tt
-still (Some a) = refl
-
 -- a run that hasn't begun, after the reading of a file
 pub unread_worlds : {X : Type 0} (run : World → Run X) (r : Status) (s s' : StoreState) (k : SinkState) → IsBreak r → Reads s s' → IfSome (world s k) (λ w. IfSome (world s' k) (λ now. EndsAs (run w) r w now))
 unread_worlds run r s s' k b frame = rw frame.files (not_begun_worlds run r (world s k) b)
-
-pub read_later : (s s' : StoreState) (k : SinkState) → Reads s s' → Later s k s' k
-read_later s s' k frame = record {
-  read_faults = frame.read_faults;
-  write_faults = omega (arith, frame.write_faults);
-  misses = frame.misses;
-  faults = omega arith;
-  reports = rw frame.files (still (world s k));
-}
 
 unread_reported_worlds : (files : Option Files) (p q : Option (List ℕ)) (what : Asked) (why : Fault) (expected : Files → Result (List ScriptItem) Fault) (r : Status) → IfSome files (λ f. expected f ≡ Err why)
     → IfSome (world_of files p) (λ w. IfSome (world_of files q) (λ now. EndsAs (unread what.script why) r w now))

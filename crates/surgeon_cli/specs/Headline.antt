@@ -12,7 +12,7 @@ use Rattle.history_machine.specs.Sessions.{Repo}
 use Rattle.history_machine.specs.Machine.{Completes, EndsAs}
 use Rattle.history_machine.specs.Whole.{run}
 use Rattle.history_machine.specs.Words.{asked}
-use Rattle.file_calls.specs.Calls.{NoFaults, world}
+use Rattle.surgeon_session.specs.Calls.{NoFaults, world}
 
 -- Files and output are those of the machine's run of these words: at its end, with its status, or where a fault of
 -- the outside or out of memory broke it off.

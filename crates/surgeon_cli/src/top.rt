@@ -30,7 +30,8 @@ ghost use Rattle.history_machine.specs.Whole.{
   unread_status,
   usage,
 };
-ghost use Rattle.file_calls.specs.Calls.{CausedByReading, CausedEnd, Gives, Later, world};
+ghost use Rattle.surgeon_store.specs.WholeFiles.{ReturnsOrBreaks};
+ghost use Rattle.surgeon_session.specs.Calls.{Caused, Later, Outcome, world};
 ghost use Rattle.surgeon_cli.specs.Headline.{
   AnswersWords,
   AsPrescribed,
@@ -41,7 +42,6 @@ ghost use Rattle.surgeon_cli.specs.Headline.{
 ghost use Rattle.plain_model.specs.Files.{Files};
 
 use crate::words::asked_in;
-use file_calls::{Halted, read_file};
 use plain_model::{Fault, Items, MAX_SCRIPT_BYTES, NoMemory, Status, Text};
 use renumbering::{ids_stay, renumbering_keeps_soundness};
 use script_reader::Script;
@@ -49,7 +49,7 @@ use shown_laws::what_is_written_shows_the_history;
 use soundness_laws::{what_is_read_is_sound, what_is_read_passes_no_limit};
 use std::alloc::Global;
 use surgeon_session::Session;
-use surgeon_store::{Sink, Store, WriteEnd, write_all};
+use surgeon_store::{ReadEnd, Sink, Store, WriteEnd, read_file, write_all};
 
 fn status_of(why: &Fault) -> Status
     ensures { result ≡ unread_status why.now }
@@ -146,21 +146,22 @@ fn print_usage<T: Sink>(alloc: Global, out: &mut T) -> Status
 }
 
 // The script of a file.
-fn script_in<S: Store>(alloc: Global, store: &mut S, name: &str) -> Result<Script, Halted>
-    ensures prescribed { IfSome (S.state store.old).files
-        (λ files. Gives (λ script. script) result (script_in files name.now)) }
-    ensures missed { (name : _) → result ≡ Err (Halted.Refused (Fault.Absent name))
+fn script_in<S: Store>(alloc: Global, store: &mut S, name: &str) -> Result<Script, ReadEnd>
+    ensures returns { IfSome (S.state store.old).files
+        (λ files. ReturnsOrBreaks (λ script. script) result (script_in files name.now)) }
+    ensures missed { (name : _) → result ≡ Err (ReadEnd.Refused (Fault.Absent name))
         → Rose (S.state store.old).misses (S.state store.new).misses }
-    ensures caused { CausedByReading (S.state store.old) result (S.state store.new) }
+    ensures failed { IsErrOf result ReadEnd.SourceFault
+        → Rose (S.state store.old).read_faults (S.state store.new).read_faults }
     ensures frame { Reads (S.state store.old) (S.state store.new) }
 {
     let bytes = match read_file(alloc, store, name, MAX_SCRIPT_BYTES) {
         Ok(bytes) => bytes,
-        Err(halted) => return Err(halted),
+        Err(end) => return Err(end),
     };
     match Script::read(alloc, bytes.as_slice()) {
         Ok(script) => Ok(script),
-        Err(halt) => Err(Halted::from(halt)),
+        Err(halt) => Err(ReadEnd::from(halt)),
     }
 }
 
@@ -172,13 +173,9 @@ fn run_script<S: Store, T: Sink>(
     store: &mut S,
     out: &mut T,
 ) -> Status
-    ensures prescribed { IfSome (world (S.state store.old) (T.state out.old))
-        (λ w. IfSome (world (S.state store.new) (T.state out.new))
-        (λ now. EndsAs (run_from empty_session w.files script.now keep_going) result w now)) }
-    ensures caused { CausedEnd (S.state store.old) (T.state out.old) result
-        (S.state store.new) (T.state out.new) }
-    ensures later { Later (S.state store.old) (T.state out.old)
-        (S.state store.new) (T.state out.new) }
+    ensures outcome { Outcome
+        (λ w now. EndsAs (run_from empty_session w.files script.now keep_going) result w now)
+        (S.state store.old) (T.state out.old) result (S.state store.new) (T.state out.new) }
     ensures words { result ≢ Status.Usage }
 {
     match Session::new(alloc) {
@@ -195,22 +192,17 @@ fn run_file<S: Store, T: Sink>(
     store: &mut S,
     out: &mut T,
 ) -> Status
-    ensures prescribed { IfSome (world (S.state store.old) (T.state out.old))
-        (λ w. IfSome (world (S.state store.new) (T.state out.new))
-        (λ now. EndsAs (run_asked w.files
-        (Some (record { keep_going = keep_going; script = name.now }))) result w now)) }
-    ensures caused { CausedEnd (S.state store.old) (T.state out.old) result
-        (S.state store.new) (T.state out.new) }
-    ensures later { Later (S.state store.old) (T.state out.old)
-        (S.state store.new) (T.state out.new) }
+    ensures outcome { Outcome
+        (λ w now. EndsAs (run_asked w.files
+        (Some (record { keep_going = keep_going; script = name.now }))) result w now)
+        (S.state store.old) (T.state out.old) result (S.state store.new) (T.state out.new) }
     ensures words { result ≢ Status.Usage }
 {
     match script_in(alloc, store, name) {
         Ok(script) => run_script(alloc, &script, keep_going, store, out),
-        Err(Halted::Refused(why)) => unread_script(alloc, name.as_bytes(), &why, out),
-        Err(Halted::SourceFault) => Status::SourceFault,
-        Err(Halted::SinkFault) => Status::SinkFault,
-        Err(Halted::Memory) => Status::Memory,
+        Err(ReadEnd::Refused(why)) => unread_script(alloc, name.as_bytes(), &why, out),
+        Err(ReadEnd::SourceFault) => Status::SourceFault,
+        Err(ReadEnd::Memory) => Status::Memory,
     }
 }
 
@@ -222,13 +214,9 @@ fn run_words<S: Store, T: Sink>(
     store: &mut S,
     out: &mut T,
 ) -> Status
-    ensures prescribed { IfSome (world (S.state store.old) (T.state out.old))
-        (λ w. IfSome (world (S.state store.new) (T.state out.new))
-        (λ now. EndsAs (run (map string_bytes words.now) w.files) result w now)) }
-    ensures caused { CausedEnd (S.state store.old) (T.state out.old) result
-        (S.state store.new) (T.state out.new) }
-    ensures later { Later (S.state store.old) (T.state out.old)
-        (S.state store.new) (T.state out.new) }
+    ensures outcome { Outcome
+        (λ w now. EndsAs (run (map string_bytes words.now) w.files) result w now)
+        (S.state store.old) (T.state out.old) result (S.state store.new) (T.state out.new) }
     ensures words { AnswersWords (map string_bytes words.now) result }
 {
     match asked_in(words) {
@@ -250,7 +238,7 @@ pub fn surgeon<S: Store, T: Sink>(
         result (S.state store.new) (T.state out.new) }
 
     // A status that tells of the outside is one whose count rose, and without them success is due.
-    ensures caused { CausedEnd (S.state store.old) (T.state out.old) result
+    ensures caused { Caused (S.state store.old) (T.state out.old) result
         (S.state store.new) (T.state out.new) }
     ensures complete { Succeeds (map string_bytes words.now) (S.state store.old) (T.state out.old)
         result (S.state store.new) (T.state out.new) }

@@ -1,16 +1,19 @@
 //! The lines of a script, one after another.
-ghost use Rattle.std.specs.Prelude.{◌≡◌, ◌≤◌, IfSome, IsErrOf, OnOk};
+ghost use Rattle.std.specs.Prelude.{◌≡◌, ◌≢◌, ◌≤◌, IsErrOf, OnErr, OnOk};
 ghost use Rattle.plain_model.specs.Faults.{refusal};
 ghost use Rattle.plain_model.specs.Counts.{Rose};
 ghost use Rattle.surgeon_store.specs.Outside.{Puts, PutsSome};
-ghost use Rattle.history_machine.specs.Machine.{SessionEndsAs, World, so_far_after, stops};
+ghost use Rattle.history_machine.specs.Machine.{SessionEndsAs, so_far_after, stops};
 ghost use Rattle.history_machine.specs.Sessions.{line_step};
 ghost use Rattle.history_machine.specs.Whole.{run_from};
-ghost use Rattle.file_calls.specs.Calls.{Caused, CausedEnd, Later, Steps, Turns, world};
-ghost use Rattle.surgeon_session.specs.Changes.{IsEnd};
+ghost use Rattle.plain_model.specs.Files.{Files};
+ghost use Rattle.script_reader.specs.Commands.{command_of};
+ghost use Rattle.surgeon_session.specs.Calls.{Outcome};
+ghost use Rattle.surgeon_session.specs.Commands.{Agrees, LineReadsNoFile, Steps, Turns};
+ghost use Rattle.surgeon_session.specs.Ends.{IsEnd, status_of};
 
+use crate::halted::Halted;
 use crate::session::Session;
-use file_calls::Halted;
 use plain_model::{Fault, NoMemory, Status};
 use script_reader::{Command, Script, ScriptItem};
 use std::alloc::Global;
@@ -25,19 +28,16 @@ fn carry_out<S: Store, T: Sink>(
     store: &mut S,
     out: &mut T,
 ) -> Result<(), Halted>
-    ensures prescribed { IfSome (world (S.state store.old) (T.state out.old))
-        (λ w. IfSome (world (S.state store.new) (T.state out.new))
-        (λ now. Steps result session.old w (line_step session.old w.files line.now)
-        session.new now)) }
-    ensures caused { Caused (S.state store.old) (T.state out.old) result
+    ensures outcome { Outcome
+        (λ w now. Steps result session.old w (line_step session.old w.files line.now)
+        session.new now) (S.state store.old) (T.state out.old) (status_of result)
         (S.state store.new) (T.state out.new) }
-    ensures later { Later (S.state store.old) (T.state out.old)
-        (S.state store.new) (T.state out.new) }
+    ensures exact { LineReadsNoFile (command_of line.now) → (files : Files) →
+        Agrees result (line_step session.old files line.now) session.new }
+    ensures kept { OnErr result (session.new ≡ session.old) }
 {
-    match Command::read(alloc, line) {
-        Ok(command) => session.step(&command, store, out),
-        Err(halt) => Err(Halted::from(halt)),
-    }
+    let command = Command::read(alloc, line)?;
+    session.step(&command, store, out)
 }
 
 // Prints that a line is refused.
@@ -67,14 +67,11 @@ fn turn<S: Store, T: Sink>(
     store: &mut S,
     out: &mut T,
 ) -> Status
-    ensures prescribed { IfSome (world (S.state store.old) (T.state out.old))
-        (λ w. IfSome (world (S.state store.new) (T.state out.new))
-        (λ now. Turns result session.old w item.now.line
-        (line_step session.old w.files item.now.text) session.new now)) }
-    ensures caused { CausedEnd (S.state store.old) (T.state out.old) result
-        (S.state store.new) (T.state out.new) }
-    ensures later { Later (S.state store.old) (T.state out.old)
-        (S.state store.new) (T.state out.new) }
+    ensures outcome { Outcome
+        (λ w now. Turns result session.old w item.now.line
+        (line_step session.old w.files item.now.text) session.new now)
+        (S.state store.old) (T.state out.old) result (S.state store.new) (T.state out.new) }
+    ensures kept { result ≢ Status.Done → session.new ≡ session.old }
     ensures ends { IsEnd result }
 {
     match carry_out(alloc, session, item.text.as_str(), store, out) {
@@ -120,14 +117,10 @@ fn run_items<S: Store, T: Sink>(
     store: &mut S,
     out: &mut T,
 ) -> Status
-    ensures prescribed { IfSome (world (S.state store.old) (T.state out.old))
-        (λ w. IfSome (world (S.state store.new) (T.state out.new))
-        (λ now. SessionEndsAs (run_from session.old w.files items.now keep_going) result
-        session.old w session.new now)) }
-    ensures caused { CausedEnd (S.state store.old) (T.state out.old) result
-        (S.state store.new) (T.state out.new) }
-    ensures later { Later (S.state store.old) (T.state out.old)
-        (S.state store.new) (T.state out.new) }
+    ensures outcome { Outcome
+        (λ w now. SessionEndsAs (run_from session.old w.files items.now keep_going) result
+        session.old w session.new now)
+        (S.state store.old) (T.state out.old) result (S.state store.new) (T.state out.new) }
     ensures ends { IsEnd result }
 {
     let mut so_far = Status::Done;
@@ -151,14 +144,10 @@ impl Session {
         store: &mut S,
         out: &mut T,
     ) -> Status
-        ensures prescribed { IfSome (world (S.state store.old) (T.state out.old))
-            (λ w. IfSome (world (S.state store.new) (T.state out.new))
-            (λ now. SessionEndsAs (run_from self.old w.files script.now keep_going) result
-            self.old w self.new now)) }
-        ensures caused { CausedEnd (S.state store.old) (T.state out.old) result
-            (S.state store.new) (T.state out.new) }
-        ensures later { Later (S.state store.old) (T.state out.old)
-            (S.state store.new) (T.state out.new) }
+        ensures outcome { Outcome
+            (λ w now. SessionEndsAs (run_from self.old w.files script.now keep_going) result
+            self.old w self.new now)
+            (S.state store.old) (T.state out.old) result (S.state store.new) (T.state out.new) }
 
         // A run of a script never ends with Usage, NoScript or BadScript.
         ensures ends { IsEnd result }

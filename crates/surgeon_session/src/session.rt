@@ -1,20 +1,20 @@
 //! What a session holds, and one command. The parts: `loading` reads histories, `choosing` chooses and forgets them,
-//! `changing` edits them, `telling` makes the texts that are written and listed.
-ghost use Rattle.std.specs.Prelude.{◌≡◌, IfOk, IfSome};
-ghost use Rattle.file_calls.specs.Calls.{Caused, GivesAlone, Later, Steps, world};
-ghost use Rattle.history_machine.specs.Machine.{World};
-ghost use Rattle.history_machine.specs.Sessions.{empty_session, step};
+//! `changing` edits them, `showing` makes the texts that are written and listed.
+ghost use Rattle.std.specs.Prelude.{◌≡◌, IfOk};
+ghost use Rattle.history_machine.specs.Sessions.{empty_session};
+ghost use Rattle.surgeon_session.specs.Commands.{CarriesOut};
+ghost use Rattle.surgeon_session.specs.Ends.{Returns};
 ghost use Rattle.surgeon_session.specs.Entries.{chosen_history, chosen_name};
 
 mod changing;
 mod choosing;
 mod loading;
-mod telling;
+mod showing;
 
+use crate::halted::Halted;
 use crate::repositories::Repositories;
 use event_arena::Events;
-use file_calls::Halted;
-use plain_model::{Fault, NoMemory, Text};
+use plain_model::{Fault, Halt, NoMemory, Text};
 use script_reader::Command;
 use std::alloc::Global;
 use std::marker::Model;
@@ -54,37 +54,37 @@ impl Session {
 
     // The chosen history.
     #[tactic(auto, unfolding(history_machine::specs::Sessions::chosen))]
-    fn chosen(&self) -> Result<&Events, Halted>
-        ensures { GivesAlone (λ events. events.now.list) result (chosen_history self.now) }
+    fn chosen(&self) -> Result<&Events, Halt>
+        ensures { Returns (λ events. events.now.list) result (chosen_history self.now) }
     {
         match &self.choice {
             Some(name) => match self.repositories.history(name.as_slice()) {
                 Some(events) => Ok(events),
-                None => Err(Halted::Refused(Fault::NoRepo)),
+                None => Err(Halt::Refused(Fault::NoRepo)),
             },
-            None => Err(Halted::Refused(Fault::NoRepo)),
+            None => Err(Halt::Refused(Fault::NoRepo)),
         }
     }
 
     // The name of the chosen repository.
     #[tactic(auto, unfolding(history_machine::specs::Sessions::chosen))]
-    fn chosen_name(&self) -> Result<Text, Halted>
-        ensures { GivesAlone (λ name. name) result (chosen_name self.now) }
+    fn chosen_name(&self) -> Result<Text, Halt>
+        ensures { Returns (λ name. name) result (chosen_name self.now) }
     {
         match &self.choice {
             Some(name) => {
                 if self.repositories.has(name.as_slice()) {
                     Ok(name.copy()?)
                 } else {
-                    Err(Halted::Refused(Fault::NoRepo))
+                    Err(Halt::Refused(Fault::NoRepo))
                 }
             }
-            None => Err(Halted::Refused(Fault::NoRepo)),
+            None => Err(Halt::Refused(Fault::NoRepo)),
         }
     }
 
-    /// Carries out one command, or refuses it and leaves session and files as they were. A fault of the outside and want
-    /// of memory leave the session as it was, and a first part of what the command writes or prints may be there.
+    /// Carries out one command, or refuses it and leaves session and files as they were. A fault of the outside and out of
+    /// memory leave the session as it was, and a first part of what the command writes or prints may be there.
     #[tactic(auto, unfolding(history_machine::specs::Sessions::step))]
     pub fn step<S: Store, T: Sink>(
         &mut self,
@@ -92,22 +92,17 @@ impl Session {
         store: &mut S,
         out: &mut T,
     ) -> Result<(), Halted>
-        ensures prescribed { IfSome (world (S.state store.old) (T.state out.old))
-            (λ w. IfSome (world (S.state store.new) (T.state out.new))
-            (λ now. Steps result self.old w (step self.old w.files command.now) self.new now)) }
-        ensures caused { Caused (S.state store.old) (T.state out.old) result
-            (S.state store.new) (T.state out.new) }
-        ensures later { Later (S.state store.old) (T.state out.old)
+        ensures { CarriesOut (S.state store.old) (T.state out.old) self.old command.now result self.new
             (S.state store.new) (T.state out.new) }
     {
         match command {
-            Command::Read { file, name } => self.read(store, file, name),
+            Command::Read { file, name } => Ok(self.read(store, file, name)?),
             Command::Write { to } => self.write(store, out, to),
-            Command::Choose { name } => self.choose(name.as_slice()),
+            Command::Choose { name } => Ok(self.choose(name.as_slice())?),
             Command::ShowRepos => self.show_repositories(store, out),
-            Command::Drop { name } => self.forget(name.as_slice()),
-            Command::DropChosen => self.forget_chosen(),
-            Command::Renumber => self.renumber(),
+            Command::Drop { name } => Ok(self.forget(name.as_slice())?),
+            Command::DropChosen => Ok(self.forget_chosen()?),
+            Command::Renumber => Ok(self.renumber()?),
             Command::List { to } => self.list(store, out, to),
             Command::Index { to } => self.index(store, out, to),
             Command::Names { to } => self.names(store, out, to),

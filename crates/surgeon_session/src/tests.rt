@@ -1,5 +1,4 @@
-use crate::Session;
-use file_calls::Halted;
+use crate::{Halted, Session};
 use plain_model::{Fault, Items, Status, Text};
 use script_reader::{Command, Script};
 use std::alloc::Global;

@@ -1,3 +1,5 @@
 pub mod EntryLemmas
 pub mod FileLemmas
 pub mod Parts
+mod Taken
+pub mod Written

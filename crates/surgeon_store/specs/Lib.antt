@@ -4,3 +4,4 @@ pub mod Failing
 pub mod Memory
 pub mod Outside
 pub mod Promises
+pub mod WholeFiles

@@ -9,6 +9,7 @@ mod store_sink;
 mod sure;
 #[cfg(test)]
 mod tests;
+mod whole_files;
 mod writing;
 
 pub use disk::{DiskStore, StdSink};
@@ -17,4 +18,5 @@ pub use memory::{MemorySink, MemoryStore};
 pub use outside::{CreateFault, Failed, OpenFault, Sink, Store, WriteFault};
 pub use store_sink::StoreSink;
 pub use sure::{SureSink, SureStore};
+pub use whole_files::{ReadEnd, read_file, read_front, write_text};
 pub use writing::{WriteEnd, write_all};

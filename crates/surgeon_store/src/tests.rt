@@ -1,3 +1,5 @@
+mod whole_files;
+
 use crate::*;
 use plain_model::{Items, NumberList, Text};
 use std::alloc::Global;

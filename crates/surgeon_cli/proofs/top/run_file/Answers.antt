@@ -1,8 +1,8 @@
 use Rattle.std.specs.Prelude.{Some}
 use Rattle.history_machine.specs.Whole.{run_asked, script_in}
 use Rattle.plain_model.specs.declared.status.Status.TheVariants as status
-use Rattle.file_calls.proofs.Rounds.{later_later}
-use Rattle.surgeon_cli.proofs.Prints.{unread_reported, unread_worlds, read_later}
+use Rattle.surgeon_session.proofs.Rounds.{later_later, read_later}
+use Rattle.surgeon_cli.proofs.Prints.{unread_reported, unread_worlds}
 use Rattle.surgeon_cli.proofs.top.run_file.Goals as goal
 
 pub returns-in-Err-Refused-clause-later : goal.returns-in-Err-Refused-clause-later

@@ -1,7 +1,7 @@
 use Rattle.history_machine.specs.Sessions.{empty_session}
 use Rattle.history_machine.specs.Whole.{run_from}
 use Rattle.plain_model.specs.declared.status.Status.TheVariants as status
-use Rattle.file_calls.specs.Calls.{world}
+use Rattle.surgeon_session.specs.Calls.{world}
 use Rattle.surgeon_cli.proofs.Prints.{not_begun_worlds}
 use Rattle.surgeon_cli.proofs.top.run_script.Goals as goal
 

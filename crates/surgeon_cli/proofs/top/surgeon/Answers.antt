@@ -1,6 +1,6 @@
 use Rattle.std.specs.Prelude.{map, string_bytes}
 use Rattle.history_machine.specs.Whole.{run}
-use Rattle.file_calls.proofs.Rounds.{all_completes}
+use Rattle.surgeon_session.proofs.Rounds.{all_completes}
 use Rattle.surgeon_cli.proofs.ShownHistories.{histories_shown}
 use Rattle.surgeon_cli.proofs.top.surgeon.Goals as goal
 

@@ -4,8 +4,8 @@ use Rattle.plain_model.specs.declared.status.Status.{Status}
 use Rattle.plain_model.specs.declared.status.Status.TheVariants as status
 use Rattle.history_machine.specs.Machine.{World, SessionEndsAs, run_on}
 use Rattle.history_machine.specs.Sessions.{Session, line_step}
-use Rattle.file_calls.specs.Calls.{Later, world}
-use Rattle.file_calls.proofs.SessionRounds.{IsQuiet}
+use Rattle.surgeon_session.specs.Calls.{Later, world}
+use Rattle.surgeon_session.proofs.SessionRounds.{IsQuiet}
 use Rattle.surgeon_session.proofs.run.run_items.Given as goal
 
 abbrev pub invariant-loop-item : goal.invariant-loop-item

@@ -1,0 +1,149 @@
+-- Commands that aren't done: refused, or broken off by a fault in reading or out of memory.
+use Rattle.std.proofs.Common.{◌≡◌, inl, ℕ, zero, List, Option, Some, None, Result, Ok, Err, refl, sym, ap, subst, arith}
+use Rattle.std.specs.Prelude.{IfSome, IsSome, IsErrOf, OnErr}
+use Rattle.std.specs.Result.{IsErrAnd}
+use Rattle.plain_model.specs.Counts.{Rose}
+use Rattle.plain_model.specs.Files.{Files}
+use Rattle.plain_model.specs.Paths.{Bytes}
+use Rattle.plain_model.specs.declared.fault.Fault.{Fault}
+use Rattle.plain_model.specs.declared.fault.Halt.{Halt}
+use Rattle.plain_model.specs.declared.fault.Halt.TheVariants as halt
+use Rattle.script_reader.specs.Answering.{Answers}
+use Rattle.script_reader.specs.declared.command.Command.{Command}
+use Rattle.script_reader.specs.declared.command.Command.TheVariants as command
+use Rattle.surgeon_store.specs.Outside.{StoreState, SinkState, Reads}
+use Rattle.surgeon_store.specs.WholeFiles.{ReturnsOrBreaks}
+use Rattle.surgeon_store.specs.declared.whole_files.ReadEnd.{ReadEnd}
+use Rattle.surgeon_store.specs.declared.whole_files.ReadEnd.TheVariants as read
+use Rattle.history_machine.specs.Loading.{◌>>=◌}
+use Rattle.history_machine.specs.Machine.{World, Turn, PartSent}
+use Rattle.history_machine.specs.Sessions.{Session, after_read, changes, reports, step}
+use Rattle.surgeon_session.specs.Calls.{Later, Outcome, world, world_of}
+use Rattle.surgeon_session.specs.Commands.{Agrees, CarriesOut, PartOf, Steps}
+use Rattle.surgeon_session.specs.Ends.{Returns, of_halt, of_read_end, status_of}
+use Rattle.surgeon_session.specs.declared.halted.Halted.{Halted}
+use Rattle.surgeon_session.specs.declared.halted.Halted.TheVariants as halted
+use Rattle.surgeon_session.proofs.Rounds.{mapped, no_part, read_later, same_world}
+
+-- ---- a call that meets nothing outside
+
+-- a refusal is the one that is specified
+abbrev pub Halts : {Y : Type 0} → Halt → Result Y Fault → Type 0
+Halts (halt.Refused fault) specified = specified ≡ Err fault
+Halts halt.Memory specified = Unit {0}
+
+pub returned : {X Y : Type 0} (view : X → Y) (h : Halt) (specified : Result Y Fault) → Returns view (Err h) specified → Halts h specified
+returned view (halt.Refused fault) specified r = r
+returned view halt.Memory specified r = tt
+
+pub answered : {X Y : Type 0} (view : X → Y) (h : Halt) (specified : Result Y Fault) → Answers view (Err h) specified → Halts h specified
+answered view (halt.Refused fault) specified r = r
+answered view halt.Memory specified r = tt
+
+-- then so does what goes on from there
+pub halts_after : {A B : Type 0} (h : Halt) (r : Result A Fault) (f : A → Result B Fault) → Halts h r → Halts h (r >>= f)
+halts_after (halt.Refused fault) r f is = ap (λ q. q >>= f) is
+halts_after halt.Memory r f is = tt
+
+-- ---- commands
+
+part_none : {X : Type 0} (w : World) (specified : Result (Turn X) Fault) → PartOf w specified w
+part_none w (Ok t) = no_part t.to t.bytes w
+part_none w (Err fault) = refl
+
+module _ {X : Type 0} (s : StoreState) (k : SinkState) (old new : X) (specified : Files → Result (Turn X) Fault) (same : new ≡ old) where
+  by_halt : (h : Halt) → ((files : Files) → Halts h (specified files))
+      → Outcome (λ w now. Steps {Y = Unit {0}} (Err (of_halt h)) old w (specified w.files) new now) s k (status_of {X = Unit {0}} (Err (of_halt h))) s k
+  by_halt (halt.Refused fault) halts = record {
+    prescribed = same_world (λ w now. Steps {Y = Unit {0}} (Err (halted.Refused fault)) old w (specified w.files) new now) (world s k) (λ w. (halts w.files, same, refl));
+    caused = tt;
+    later = read_later s s k (record { files = refl; writing = refl; write_faults = refl; read_faults = omega arith; misses = omega arith });
+  }
+  by_halt halt.Memory halts = record {
+    prescribed = same_world (λ w now. Steps {Y = Unit {0}} (Err halted.Memory) old w (specified w.files) new now) (world s k) (λ w. (same, part_none w (specified w.files)));
+    caused = tt;
+    later = read_later s s k (record { files = refl; writing = refl; write_faults = refl; read_faults = omega arith; misses = omega arith });
+  }
+
+  -- nothing outside is touched
+  pub halted_outcome : (h : Halt) (r : Result (Unit {0}) Halted) → IsErrAnd r (λ e. e ≡ of_halt h) → ((files : Files) → Halts h (specified files))
+      → Outcome (λ w now. Steps r old w (specified w.files) new now) s k (status_of r) s k
+  halted_outcome h (Ok y) is halts = absurd is
+  halted_outcome h (Err e) is halts = rw is (by_halt h halts)
+
+  agrees_halt : (h : Halt) (files : Files) → Halts h (specified files) → Agrees {Y = Unit {0}} (Err (of_halt h)) (specified files) new
+  agrees_halt (halt.Refused fault) files halts = halts
+  agrees_halt halt.Memory files halts = tt
+
+  -- whatever is reported
+  pub halted_agrees : (h : Halt) (r : Result (Unit {0}) Halted) → IsErrAnd r (λ e. e ≡ of_halt h) → (files : Files) → Halts h (specified files) → Agrees r (specified files) new
+  halted_agrees h (Ok y) is files halts = absurd is
+  halted_agrees h (Err e) is files halts = rw is (agrees_halt h files halts)
+
+  pub halted_keeps : (r : Result (Unit {0}) Halted) → OnErr r (new ≡ old)
+  halted_keeps (Ok y) = tt
+  halted_keeps (Err e) = same
+
+-- a command that meets nothing outside
+pub halted_alone : (s : StoreState) (k : SinkState) (old new : Session) (what : Command) (h : Halt) (r : Result (Unit {0}) Halted) → IsErrAnd r (λ e. e ≡ of_halt h)
+    → ((files : Files) → Halts h (step old files what)) → new ≡ old → CarriesOut s k old what r new s k
+halted_alone s k old new what h r is halts same = record {
+  outcome = halted_outcome s k old new (λ files. step old files what) same h r is halts;
+  exact = λ _ files. halted_agrees s k old new (λ files. step old files what) same h r is files (halts files);
+  kept = halted_keeps s k old new (λ files. step old files what) same r;
+}
+
+-- ---- `read`
+
+module _ (s s' : StoreState) (k : SinkState) (old new : Session) (file name : Bytes) (same : new ≡ old) (frame : Reads s s') where
+  read_worlds : (P : World → World → Type 0) → ((f : Files) → s.files ≡ Some f → (w : World) → w.files ≡ f → P w w) → IfSome (world s k) (λ w. IfSome (world s' k) (λ now. P w now))
+  read_worlds P f = rw frame.files (go s.files f k.written)
+    where
+      go : (files : Option Files) → ((f : Files) → files ≡ Some f → (w : World) → w.files ≡ f → P w w) → (out : Option Bytes)
+          → IfSome (world_of files out) (λ w. IfSome (world_of files out) (λ now. P w now))
+      go None f out = tt
+      go (Some files) f None = tt
+      go (Some files) f (Some out) = f files refl _ refl
+
+  by_end : (e : ReadEnd) → IfSome s.files (λ files. ReturnsOrBreaks {X = Unit {0}} (λ _. new) (Err e) (after_read old files file name))
+      → (IsErrOf {T = Unit {0}} (Err e) read.SourceFault → Rose s.read_faults s'.read_faults)
+      → CarriesOut s k old (command.Read file name) (Err (of_read_end e)) new s' k
+  unfolding step
+  by_end (read.Refused fault) returns failed = record {
+    outcome = record {
+      prescribed = read_worlds (λ w now. Steps {Y = Unit {0}} (Err (halted.Refused fault)) old w (step old w.files (command.Read file name)) new now)
+          (λ f is w its. (ap changes (subst (λ (g : Files). after_read old g file name ≡ Err fault) (sym its) (rw is at returns)), same, refl));
+      caused = tt;
+      later = read_later s s' k frame;
+    };
+    exact = λ no. absurd no;
+    kept = same;
+  }
+  by_end read.SourceFault returns failed = record {
+    outcome = record {
+      prescribed = read_worlds (λ w now. Steps {Y = Unit {0}} (Err halted.SourceFault) old w (step old w.files (command.Read file name)) new now)
+          (λ f is w its. (same, part_none w (step old w.files (command.Read file name))));
+      caused = failed refl;
+      later = read_later s s' k frame;
+    };
+    exact = λ no. absurd no;
+    kept = same;
+  }
+  by_end read.Memory returns failed = record {
+    outcome = record {
+      prescribed = read_worlds (λ w now. Steps {Y = Unit {0}} (Err halted.Memory) old w (step old w.files (command.Read file name)) new now)
+          (λ f is w its. (same, part_none w (step old w.files (command.Read file name))));
+      caused = tt;
+      later = read_later s s' k frame;
+    };
+    exact = λ no. absurd no;
+    kept = same;
+  }
+
+  -- a file that isn't read
+  pub halted_read : (e : ReadEnd) (r : Result (Unit {0}) Halted) → IsErrAnd r (λ x. x ≡ of_read_end e)
+      → IfSome s.files (λ files. ReturnsOrBreaks {X = Unit {0}} (λ _. new) (Err e) (after_read old files file name))
+      → (IsErrOf {T = Unit {0}} (Err e) read.SourceFault → Rose s.read_faults s'.read_faults)
+      → CarriesOut s k old (command.Read file name) r new s' k
+  halted_read e (Ok y) is returns failed = absurd is
+  halted_read e (Err x) is returns failed = rw is (by_end e returns failed)

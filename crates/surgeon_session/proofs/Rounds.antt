@@ -1,0 +1,141 @@
+-- One command of a run, and what stands after it.
+use Rattle.std.proofs.Common.{◌≡◌, inl, inr, ℕ, zero, suc, List, [], ◌∷◌, ◌++◌, Bool, false, Option, Some, None, Result, Ok, Err, take, drop, length, get_or, ◌≤◌, ◌<◌, ◌+◌, ◌≢◌, drop-cons, append-nil, refl, sym, ap, subst, ◌∙◌, arith}
+use Rattle.std.specs.Prelude.{IfSome, IsSome}
+use Rattle.std.proofs.lemmas.Option.{same_Some}
+use Rattle.plain_model.specs.Files.{Files}
+use Rattle.history_machine.specs.Machine.{World, Turn, Run, sent, after, PartSent, EndsAs, Completes, run_on}
+use Rattle.plain_model.specs.declared.fault.Fault.{Fault}
+use Rattle.plain_model.specs.declared.status.Status.{Status}
+use Rattle.plain_model.specs.declared.status.Status.TheVariants as status
+use Rattle.script_reader.specs.declared.script.ScriptItem.{ScriptItem}
+use Rattle.plain_model.specs.Counts.{Rose}
+use Rattle.surgeon_store.specs.Outside.{StoreState, SinkState, Reads}
+use Rattle.surgeon_session.specs.Calls.{world, world_of, Later, Caused, NoFaults}
+use Rattle.surgeon_store.specs.Outside.{Puts, PutsSome}
+
+-- what holds of two worlds, and of the second and a third
+pub joined : {P Q R : World → World → Type 0} (v0 v v' : Option World)
+    → IfSome v0 (λ a. IsSome v)
+    → IfSome v0 (λ a. IfSome v (λ b. P a b))
+    → IfSome v (λ b. IfSome v' (λ c. Q b c))
+    → ((a b c : World) → P a b → Q b c → R a c)
+    → IfSome v0 (λ a. IfSome v' (λ c. R a c))
+joined None v v' reports p q f = tt
+joined (Some a) None v' reports p q f = absurd cc
+joined (Some a) (Some b) None reports p q f = tt
+joined (Some a) (Some b) (Some c) reports p q f = f a b c p q
+
+pub mapped : {P Q : World → World → Type 0} (v v' : Option World) → ((a b : World) → P a b → Q a b) → IfSome v (λ a. IfSome v' (λ b. P a b)) → IfSome v (λ a. IfSome v' (λ b. Q a b))
+mapped None v' f h = tt
+mapped (Some a) None f h = tt
+mapped (Some a) (Some b) f h = f a b h
+
+-- a count that rose later rose
+rose_later : (a b c : ℕ) → a ≤ b → Rose b c → Rose a c
+rose_later a b c le h = omega (arith, le, h)
+
+pub caused_later : (s m n : StoreState) (k l o : SinkState) (r : Status) → Later s k m l → Caused m l r n o → Caused s k r n o
+caused_later s m n k l o status.SourceFault later h = rose_later s.read_faults m.read_faults n.read_faults later.read_faults h
+caused_later s m n k l o status.SinkFault later h = elim h [
+  | inl x ↦ inl (rose_later s.write_faults m.write_faults n.write_faults later.write_faults x)
+  | inr x ↦ inr (rose_later k.faults l.faults o.faults later.faults x)
+]
+caused_later s m n k l o status.NoScript later h = rose_later s.misses m.misses n.misses later.misses h
+caused_later s m n k l o status.Done later h = tt
+caused_later s m n k l o status.Refused later h = tt
+caused_later s m n k l o status.Usage later h = tt
+caused_later s m n k l o status.BadScript later h = tt
+caused_later s m n k l o status.Memory later h = tt
+
+reports_later : (v w u : Option World) → IfSome v (λ x. IsSome w) → IfSome w (λ x. IsSome u) → IfSome v (λ x. IsSome u)
+reports_later None w u a b = tt
+reports_later (Some x) None u a b = absurd cc
+reports_later (Some x) (Some y) u a b = b
+
+pub later_later : (s m n : StoreState) (k l o : SinkState) → Later s k m l → Later m l n o → Later s k n o
+later_later s m n k l o a b = record {
+  read_faults = omega (arith, a.read_faults, b.read_faults);
+  write_faults = omega (arith, a.write_faults, b.write_faults);
+  misses = omega (arith, a.misses, b.misses);
+  faults = omega (arith, a.faults, b.faults);
+  reports = reports_later (world s k) (world m l) (world n o) a.reports b.reports;
+  finished = λ h. b.finished (a.finished h);
+}
+
+-- bytes that are printed
+printed_worlds : (files : Option Files) (old new : Option (List ℕ)) (bytes : List ℕ) → IfSome old (λ w. new ≡ Some (w ++ bytes))
+    → IfSome (world_of files old) (λ w. IfSome (world_of files new) (λ now. now ≡ sent None bytes w))
+printed_worlds None old new bytes h = tt
+printed_worlds (Some fs) None new bytes h = tt
+printed_worlds (Some fs) (Some w) None bytes h = tt
+printed_worlds (Some fs) (Some w) (Some n) bytes h = ap (λ (l : List ℕ). record { files = fs; printed = l }) (same_Some n (w ++ bytes) h)
+
+pub printed_world : (s : StoreState) (k k' : SinkState) (bytes : List ℕ) → Puts k bytes k'
+    → IfSome (world s k) (λ w. IfSome (world s k') (λ now. now ≡ sent None bytes w))
+printed_world s k k' bytes h = printed_worlds s.files k.written k'.written bytes h
+
+some_printed_worlds : (files : Option Files) (old new : Option (List ℕ)) (bytes : List ℕ) → IfSome old (λ w. (n : ℕ) × (new ≡ Some (w ++ take n bytes)))
+    → IfSome (world_of files old) (λ w. IfSome (world_of files new) (λ now. PartSent None bytes w now))
+some_printed_worlds None old new bytes h = tt
+some_printed_worlds (Some fs) None new bytes h = tt
+some_printed_worlds (Some fs) (Some w) None bytes h = tt
+some_printed_worlds (Some fs) (Some w) (Some n) bytes h = (h.0, ap (λ (l : List ℕ). record { files = fs; printed = l }) (same_Some n (w ++ take h.0 bytes) h.1))
+
+pub some_printed_world : (s : StoreState) (k k' : SinkState) (bytes : List ℕ) → PutsSome k bytes k'
+    → IfSome (world s k) (λ w. IfSome (world s k') (λ now. PartSent None bytes w now))
+some_printed_world s k k' bytes h = some_printed_worlds s.files k.written k'.written bytes h
+
+-- the item at a place, and those after it
+pub item_next : {A : Type 0} (xs : List A) (i : ℕ) (x : A) → i < length xs → x ≡ get_or xs i x → drop i xs ≡ x ∷ drop (i + 1) xs
+item_next xs i x lt is =
+    let k : suc i ≡ i + 1 = omega arith in
+    drop-cons xs i x lt ∙ ap (λ y. y ∷ drop (suc i) xs) (sym is) ∙ ap (λ j. x ∷ drop j xs) k
+
+pub drop_past : {A : Type 0} (xs : List A) (i : ℕ) → length xs ≤ i → drop i xs ≡ []
+drop_past [] zero le = refl
+drop_past [] (suc i) le = refl
+drop_past (x ∷ xs) zero le = absurd (omega (arith, le))
+drop_past (x ∷ xs) (suc i) le = drop_past xs i (omega (arith, le))
+
+completes : {X : Type 0} (run : Run X) (s s' : StoreState) (k k' : SinkState) (r : Status) (w now : World) → Caused s k r s' k' → NoFaults s k s' k' → r ≢ status.Memory
+    → EndsAs run r w now → Completes run r w now
+completes run s s' k k' status.SourceFault w now caused quiet enough h = absurd (quiet.0 caused)
+completes run s s' k k' status.SinkFault w now caused quiet enough h = absurd (elim caused [ inl x ↦ quiet.1 x | inr x ↦ quiet.2 x ])
+completes run s s' k k' status.Memory w now caused quiet enough h = absurd (enough refl)
+completes run s s' k k' status.Done w now caused quiet enough h = h
+completes run s s' k k' status.Refused w now caused quiet enough h = h
+completes run s s' k k' status.Usage w now caused quiet enough h = h
+completes run s s' k k' status.NoScript w now caused quiet enough h = h
+completes run s s' k k' status.BadScript w now caused quiet enough h = h
+
+-- with memory and no fault of the outside, a run comes to its end
+pub all_completes : {X : Type 0} (run : World → Run X) (s s' : StoreState) (k k' : SinkState) (r : Status) → Caused s k r s' k' → NoFaults s k s' k' → r ≢ status.Memory
+    → IfSome (world s k) (λ w. IfSome (world s' k') (λ now. EndsAs (run w) r w now))
+    → IfSome (world s k) (λ w. IfSome (world s' k') (λ now. Completes (run w) r w now))
+all_completes run s s' k k' r caused quiet enough h = mapped (world s k) (world s' k') (λ w now. completes (run w) s s' k k' r w now caused quiet enough) h
+
+-- ---- worlds that stay
+
+-- nothing of the bytes is sent
+pub no_part : (to : Option (List ℕ)) (bytes : List ℕ) (w : World) → PartSent to bytes w w
+no_part None bytes w = (zero, λ i. record { files = w.files; printed = sym (append-nil w.printed) i })
+no_part (Some name) bytes w = inl refl
+
+pub same_world : (P : World → World → Type 0) (v : Option World) → ((w : World) → P w w) → IfSome v (λ a. IfSome v (λ b. P a b))
+same_world P None f = tt
+same_world P (Some a) f = f a
+
+still : (v : Option World) → IfSome v (λ w. IsSome v)
+still None = tt
+still (Some a) = refl
+
+-- what is read only adds to the counts of a store
+pub read_later : (s s' : StoreState) (k : SinkState) → Reads s s' → Later s k s' k
+read_later s s' k frame = record {
+  read_faults = frame.read_faults;
+  write_faults = omega (arith, frame.write_faults);
+  misses = frame.misses;
+  faults = omega arith;
+  reports = rw frame.files (still (world s k));
+  finished = rw frame.writing (λ none. none);
+}

@@ -1,0 +1,94 @@
+-- What one command does to a session and to the outside.
+use Rattle.std.specs.Prelude.{◌≡◌, ℕ, Option, None, Result, Ok, Err, OnErr}
+use Rattle.plain_model.specs.Faults.{refusal}
+use Rattle.plain_model.specs.Files.{Files}
+use Rattle.plain_model.specs.Paths.{Bytes}
+use Rattle.plain_model.specs.declared.fault.Fault.{Fault}
+use Rattle.plain_model.specs.declared.status.Status.{Status}
+use Rattle.plain_model.specs.declared.status.Status.TheVariants as status
+use Rattle.script_reader.specs.declared.command.Command.{Command}
+use Rattle.script_reader.specs.declared.command.Command.TheVariants as command
+use Rattle.surgeon_store.specs.Outside.{StoreState, SinkState}
+use Rattle.history_machine.specs.Machine.{World, Turn, PartSent, after, sent, turn_of}
+use Rattle.history_machine.specs.Sessions.{Session, step}
+use Rattle.surgeon_session.specs.Calls.{Outcome}
+use Rattle.surgeon_session.specs.Ends.{status_of}
+use Rattle.surgeon_session.specs.declared.halted.Halted.{Halted}
+use Rattle.surgeon_session.specs.declared.halted.Halted.TheVariants as halted
+
+-- ---- bytes that are sent
+
+-- bytes are printed or are the whole of a file, or a first part of them is sent; that is never refused
+abbrev pub Sends : {Y : Type 0} → Result Y Halted → Option Bytes → Bytes → World → World → Type 0
+Sends (Ok y) to bytes w now = now ≡ sent to bytes w
+Sends (Err (halted.Refused fault)) to bytes w now = ⊥
+Sends (Err other) to bytes w now = PartSent to bytes w now
+
+-- ---- one command, where the world is reported
+
+-- a first part of what is specified is sent, and of a refusal nothing
+abbrev pub PartOf : {X : Type 0} → World → Result (Turn X) Fault → World → Type 0
+PartOf w (Ok t) now = PartSent t.to t.bytes w now
+PartOf w (Err fault) now = now ≡ w
+
+-- what is specified is done, in the session and in the world
+abbrev pub Carries : {X : Type 0} → World → Result (Turn X) Fault → X → World → Type 0
+Carries w (Ok t) s' now = (s' ≡ t.session) × (now ≡ after w t)
+Carries w (Err fault) s' now = ⊥
+
+-- a command is carried out, or refused as is specified and nothing changed, or a first part of its bytes is sent and the
+-- session is as it was
+abbrev pub Steps : {X Y : Type 0} → Result Y Halted → X → World → Result (Turn X) Fault → X → World → Type 0
+Steps (Ok y) s w specified s' now = Carries w specified s' now
+Steps (Err (halted.Refused fault)) s w specified s' now = (specified ≡ Err fault) × (s' ≡ s) × (now ≡ w)
+Steps (Err other) s w specified s' now = (s' ≡ s) × PartOf w specified now
+
+-- ---- one command, over every store
+
+-- the command is not `read`
+abbrev pub ReadsNoFile : Command → Type 0
+ReadsNoFile (command.Read file name) = ⊥
+ReadsNoFile other = Unit {0}
+
+-- what is specified is done, in the session
+abbrev pub Leaves : {X : Type 0} → Result (Turn X) Fault → X → Type 0
+Leaves (Ok t) s' = s' ≡ t.session
+Leaves (Err fault) s' = ⊥
+
+-- a command is done or refused as is specified, whatever is reported of the outside
+abbrev pub Agrees : {X Y : Type 0} → Result Y Halted → Result (Turn X) Fault → X → Type 0
+Agrees (Ok y) specified s' = Leaves specified s'
+Agrees (Err (halted.Refused fault)) specified s' = specified ≡ Err fault
+Agrees (Err other) specified s' = Unit {0}
+
+-- What a command does that ends so. Where the world is reported: what the machine specifies. Of every store and sink: it
+-- is done or refused as the machine says, unless it reads a file; and if it isn't done, the session is as it was.
+pub record CarriesOut (s : StoreState) (k : SinkState) (old : Session) (what : Command) (result : Result (Unit {0}) Halted) (new : Session) (s' : StoreState) (k' : SinkState) : Type 0 where
+  pub outcome : Outcome (λ w now. Steps result old w (step old w.files what) new now) s k (status_of result) s' k'
+  pub exact : ReadsNoFile what → (files : Files) → Agrees result (step old files what) new
+  pub kept : OnErr result (new ≡ old)
+
+-- ---- one line of a run
+
+-- a refusal is specified, and its line is printed
+abbrev pub Refuses : {X : Type 0} → World → ℕ → Result (Turn X) Fault → World → Type 0
+Refuses w line (Ok t) now = ⊥
+Refuses w line (Err fault) now = now ≡ sent None (refusal line fault) w
+
+-- a first part of what the command sends, or of the line of its refusal, is sent, and the session is as it was
+abbrev pub PartTurned : {X : Type 0} → X → World → ℕ → Result (Turn X) Fault → X → World → Type 0
+PartTurned s w line specified s' now = (s' ≡ s) × PartSent (turn_of s line specified).to (turn_of s line specified).bytes w now
+
+-- a command of a run is carried out, or refused with its line, or a first part of what it sends is sent
+abbrev pub Turns : {X : Type 0} → Status → X → World → ℕ → Result (Turn X) Fault → X → World → Type 0
+Turns status.Done s w line specified s' now = Carries w specified s' now
+Turns status.Refused s w line specified s' now = (s' ≡ s) × Refuses w line specified now
+Turns status.SourceFault s w line specified s' now = PartTurned s w line specified s' now
+Turns status.SinkFault s w line specified s' now = PartTurned s w line specified s' now
+Turns status.Memory s w line specified s' now = PartTurned s w line specified s' now
+Turns other s w line specified s' now = ⊥
+
+-- the command of a line, if it has one, is not `read`
+abbrev pub LineReadsNoFile : Result Command Fault → Type 0
+LineReadsNoFile (Ok what) = ReadsNoFile what
+LineReadsNoFile (Err fault) = Unit {0}

@@ -1,0 +1,50 @@
+-- How calls end: what a call answers that meets nothing outside, and the ends of smaller calls as those of greater ones.
+use Rattle.std.specs.Prelude.{◌≡◌, Result, Ok, Err}
+use Rattle.plain_model.specs.declared.fault.Fault.{Fault}
+use Rattle.plain_model.specs.declared.fault.Halt.{Halt}
+use Rattle.plain_model.specs.declared.fault.Halt.TheVariants as halt
+use Rattle.plain_model.specs.declared.status.Status.{Status}
+use Rattle.plain_model.specs.declared.status.Status.TheVariants as status
+use Rattle.surgeon_store.specs.declared.whole_files.ReadEnd.{ReadEnd}
+use Rattle.surgeon_store.specs.declared.whole_files.ReadEnd.TheVariants as read
+use Rattle.surgeon_store.specs.declared.writing.WriteEnd.{WriteEnd}
+use Rattle.surgeon_store.specs.declared.writing.WriteEnd.TheVariants as write
+use Rattle.surgeon_session.specs.declared.halted.Halted.{Halted}
+use Rattle.surgeon_session.specs.declared.halted.Halted.TheVariants as halted
+
+-- a value is the one that is specified, and so is a refusal; out of memory may come in their place
+abbrev pub Returns : {X Y : Type 0} → (X → Y) → Result X Halt → Result Y Fault → Type 0
+Returns view (Ok x) specified = specified ≡ Ok (view x)
+Returns view (Err (halt.Refused fault)) specified = specified ≡ Err fault
+Returns view (Err halt.Memory) specified = Unit {0}
+
+-- the end of a call that meets nothing outside
+abbrev pub of_halt : Halt → Halted
+of_halt (halt.Refused fault) = halted.Refused fault
+of_halt halt.Memory = halted.Memory
+
+-- the end of a call that reads
+abbrev pub of_read_end : ReadEnd → Halted
+of_read_end (read.Refused fault) = halted.Refused fault
+of_read_end read.SourceFault = halted.SourceFault
+of_read_end read.Memory = halted.Memory
+
+-- the end of a call that writes
+abbrev pub of_write_end : WriteEnd → Halted
+of_write_end write.SinkFault = halted.SinkFault
+of_write_end write.Memory = halted.Memory
+
+-- an answer as the status of a run
+abbrev pub status_of : {X : Type 0} → Result X Halted → Status
+status_of (Ok x) = status.Done
+status_of (Err (halted.Refused fault)) = status.Refused
+status_of (Err halted.SourceFault) = status.SourceFault
+status_of (Err halted.SinkFault) = status.SinkFault
+status_of (Err halted.Memory) = status.Memory
+
+-- a status with which the run of a script ends
+abbrev pub IsEnd : Status → Type 0
+IsEnd status.Usage = ⊥
+IsEnd status.NoScript = ⊥
+IsEnd status.BadScript = ⊥
+IsEnd other = Unit {0}

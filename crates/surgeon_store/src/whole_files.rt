@@ -1,0 +1,199 @@
+//! Whole files: all bytes of one, the first of them, or one that is made of some bytes.
+ghost use Rattle.std.specs.Prelude.{
+  ◌≡◌,
+  ◌+◌,
+  ◌<◌,
+  ◌≤◌,
+  ◌^◌,
+  IfOk,
+  IfSome,
+  IsErrOf,
+  IsSome,
+  None,
+  OnErr,
+  OnOk,
+  Some,
+  Err,
+  drop,
+  take,
+};
+ghost use Rattle.std.specs.FinMap.{get, insert};
+ghost use Rattle.plain_model.specs.Counts.{Rose};
+ghost use Rattle.surgeon_store.specs.Outside.{Reads, Writes, beside_of};
+ghost use Rattle.surgeon_store.specs.WholeFiles.{
+  Grows,
+  GrowsSome,
+  LeavesAfter,
+  PartWritten,
+  ReturnsOrBreaks,
+  file_within,
+  front_of,
+  read_end_of,
+};
+ghost use Rattle.surgeon_store.specs.declared.whole_files.ReadEnd.TheVariants as ended;
+
+use crate::outside::{CreateFault, Failed, OpenFault, Store};
+use crate::store_sink::StoreSink;
+use crate::writing::{WriteEnd, write_all};
+use plain_model::{Fault, Halt, Items, NoMemory, Text};
+use std::alloc::Global;
+
+/// Why a call that reads has no value.
+#[derive(Drop)]
+pub enum ReadEnd {
+    /// What is asked for is refused.
+    Refused(Fault),
+    /// Reading failed.
+    SourceFault,
+    Memory,
+}
+
+impl From<NoMemory> for ReadEnd {
+    ghost from_gives = { λ _ end. end ≡ ended.Memory };
+
+    fn from(_error: NoMemory) -> ReadEnd {
+        ReadEnd::Memory
+    }
+}
+
+impl From<Halt> for ReadEnd {
+    ghost from_gives = { λ halt end. end ≡ read_end_of halt };
+
+    fn from(halt: Halt) -> ReadEnd {
+        match halt {
+            Halt::Refused(fault) => ReadEnd::Refused(fault),
+            Halt::Memory => ReadEnd::Memory,
+        }
+    }
+}
+
+// What is left of the file that is read, up to so many bytes; no more of it is taken.
+fn rest_up_to<S: Store>(alloc: Global, store: &mut S, most: u64) -> Result<Text, ReadEnd>
+    ensures found { IfOk result
+        (λ text. IfSome (S.state store.old).rest (λ rest. text ≡ take most rest)) }
+    ensures taken { IfOk result
+        (λ _. IfSome (S.state store.old).rest
+        (λ rest. (S.state store.new).rest ≡ Some (drop most rest))) }
+    ensures failed { IsErrOf result ReadEnd.SourceFault
+        → Rose (S.state store.old).read_faults (S.state store.new).read_faults }
+    ensures never_refused { (fault : Fault) → result ≡ Err (ReadEnd.Refused fault) → ⊥ }
+    ensures frame { Reads (S.state store.old) (S.state store.new) }
+{
+    let mut text = Items::new(alloc)?;
+    let mut piece = [0u8; 4096];
+    // Each piece has a byte or more, so there are no more of them than bytes.
+    for _ in 0..most {
+        let room = (most - text.as_slice().len() as u64).min(4096) as usize;
+        match store.read(&mut piece[..room]) {
+            Ok(0) => return Ok(text),
+            Ok(count) => text.push_all(&piece[..count])?,
+            Err(Failed) => return Err(ReadEnd::SourceFault),
+        }
+    }
+    Ok(text)
+}
+
+/// The first bytes of a file which is there, as many as asked for or all. No more of it is taken.
+pub fn read_front<S: Store>(
+    alloc: Global,
+    store: &mut S,
+    name: &str,
+    most: u64,
+) -> Result<Text, ReadEnd>
+    ensures returns { IfSome (S.state store.old).files
+        (λ files. ReturnsOrBreaks (λ text. text) result (front_of files name.now most)) }
+    ensures taken { IfSome (S.state store.old).files
+        (λ files. IfSome (get files name.now)
+        (λ bytes. LeavesAfter most bytes result (S.state store.new))) }
+    ensures missed { (name : _) → result ≡ Err (ReadEnd.Refused (Fault.Absent name))
+        → Rose (S.state store.old).misses (S.state store.new).misses }
+    ensures failed { IsErrOf result ReadEnd.SourceFault
+        → Rose (S.state store.old).read_faults (S.state store.new).read_faults }
+    ensures frame { Reads (S.state store.old) (S.state store.new) }
+{
+    match store.begin_read(name) {
+        Ok(()) => rest_up_to(alloc, store, most),
+        Err(OpenFault::Absent) => Err(ReadEnd::Refused(Fault::Absent {
+            name: Items::of(alloc, name.as_bytes())?,
+        })),
+        Err(OpenFault::Failed) => Err(ReadEnd::SourceFault),
+        Err(OpenFault::Memory) => Err(ReadEnd::Memory),
+    }
+}
+
+/// All the bytes of a file, which is there and within a limit.
+pub fn read_file<S: Store>(
+    alloc: Global,
+    store: &mut S,
+    name: &str,
+    limit: u64,
+) -> Result<Text, ReadEnd>
+    requires { limit < 2 ^ 63 }
+    ensures returns { IfSome (S.state store.old).files
+        (λ files. ReturnsOrBreaks (λ text. text) result (file_within files name.now limit)) }
+    ensures taken { IfSome (S.state store.old).files
+        (λ files. IfSome (get files name.now)
+        (λ bytes. LeavesAfter (limit + 1) bytes result (S.state store.new))) }
+    ensures missed { (name : _) → result ≡ Err (ReadEnd.Refused (Fault.Absent name))
+        → Rose (S.state store.old).misses (S.state store.new).misses }
+    ensures failed { IsErrOf result ReadEnd.SourceFault
+        → Rose (S.state store.old).read_faults (S.state store.new).read_faults }
+    ensures frame { Reads (S.state store.old) (S.state store.new) }
+{
+    let text = match read_front(alloc, store, name, limit + 1) {
+        Ok(text) => text,
+        Err(end) => return Err(end),
+    };
+    if text.as_slice().len() as u64 > limit {
+        return Err(ReadEnd::Refused(Fault::TooLong {
+            name: Items::of(alloc, name.as_bytes())?,
+            limit,
+        }));
+    }
+    Ok(text)
+}
+
+// Writes all of the bytes into the file that is begun.
+fn write_begun<S: Store>(store: &mut S, bytes: &[u8]) -> Result<(), WriteEnd>
+    requires { IsSome (S.state store.old).writing }
+    ensures ok { OnOk result (Grows (S.state store.old) bytes.now (S.state store.new)) }
+    ensures part { GrowsSome (S.state store.old) bytes.now (S.state store.new) }
+    ensures beside { beside_of (S.state store.new) ≡ beside_of (S.state store.old) }
+    ensures writing { (S.state store.new).writing ≡ (S.state store.old).writing }
+    ensures read_faults { (S.state store.new).read_faults ≡ (S.state store.old).read_faults }
+    ensures misses { (S.state store.new).misses ≡ (S.state store.old).misses }
+    ensures later { (S.state store.old).write_faults ≤ (S.state store.new).write_faults }
+    ensures failed { IsErrOf result WriteEnd.SinkFault
+        → Rose (S.state store.old).write_faults (S.state store.new).write_faults }
+{
+    let mut sink = StoreSink::new(store);
+    write_all(&mut sink, bytes)
+}
+
+/// Makes a file that has the bytes. After a fault it may have a first part of them, or be as it was. Whatever happens, no
+/// file is left begun.
+pub fn write_text<S: Store>(store: &mut S, name: &str, bytes: &[u8]) -> Result<(), WriteEnd>
+    ensures ok { OnOk result
+        (IfSome (S.state store.old).files
+        (λ files. (S.state store.new).files ≡ Some (insert files name.now bytes.now))) }
+    ensures part { OnErr result
+        (IfSome (S.state store.old).files
+        (λ files. PartWritten name.now bytes.now files (S.state store.new).files)) }
+    ensures failed { IsErrOf result WriteEnd.SinkFault
+        → Rose (S.state store.old).write_faults (S.state store.new).write_faults }
+    ensures finished { (S.state store.new).writing ≡ None }
+    ensures frame { Writes (S.state store.old) (S.state store.new) }
+{
+    match store.begin_write(name) {
+        Ok(()) => {}
+        Err(CreateFault::Failed) => return Err(WriteEnd::SinkFault),
+        Err(CreateFault::Memory) => return Err(WriteEnd::Memory),
+    }
+    let written = write_begun(store, bytes);
+    let finished = store.finish_write();
+    written?;
+    match finished {
+        Ok(()) => Ok(()),
+        Err(Failed) => Err(WriteEnd::SinkFault),
+    }
+}
