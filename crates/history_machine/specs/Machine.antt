@@ -59,7 +59,7 @@ abbrev pub session_after : {X : Type 0} → X → List (Turn X) → X
 session_after s [] = s
 session_after s (t ∷ ts) = session_after t.session ts
 
--- ---- how things stand when a run answers
+-- ---- how things are when a run answers
 
 -- a first part of the bytes is sent; a file may also be as it was
 abbrev pub PartSent : Option Bytes → Bytes → World → World → Type 0
@@ -80,7 +80,7 @@ Breaks run w now = (k : ℕ) × BreaksAfter k run.turns w now
 abbrev pub Completes : {X : Type 0} → Run X → Status → World → World → Type 0
 Completes run answer w now = (answer ≡ run.status) × (now ≡ after_all w run.turns)
 
--- how things stand when a run answers a status: a fault of the outside or out of memory broke it off, or it came to
+-- how things are when a run answers a status: a fault of the outside or out of memory broke it off, or it came to
 -- its end
 abbrev pub EndsAs : {X : Type 0} → Run X → Status → World → World → Type 0
 EndsAs run status.SourceFault w now = Breaks run w now
@@ -96,7 +96,7 @@ SessionBreaks run s w s' now = (k : ℕ) × (s' ≡ session_after s (take k run.
 abbrev pub SessionCompletes : {X : Type 0} → Run X → Status → X → World → X → World → Type 0
 SessionCompletes run answer s w s' now = (s' ≡ session_after s run.turns) × Completes run answer w now
 
--- how things and the session stand when a run answers a status
+-- how things and the session are when a run answers a status
 abbrev pub SessionEndsAs : {X : Type 0} → Run X → Status → X → World → X → World → Type 0
 SessionEndsAs run status.SourceFault s w s' now = SessionBreaks run s w s' now
 SessionEndsAs run status.SinkFault s w s' now = SessionBreaks run s w s' now

@@ -177,6 +177,7 @@ fn events(alloc: Global) -> Result<EventList, Fail> {
         comment: text(alloc, b"why")?,
         parents: Items::of(alloc, &[CommitId::new(7)])?,
         ops: operations(alloc)?,
+        aliases: Items::of(alloc, &[mark(10)?, mark(11)?])?,
     })?;
     events.push(PlainEvent::Tag {
         id: TagId::new(3),
@@ -184,6 +185,7 @@ fn events(alloc: Global) -> Result<EventList, Fail> {
         target: CommitId::new(2),
         tagger: Some(signed(alloc, b"T", 3)?),
         comment: text(alloc, b"tagged")?,
+        mark: Some(mark(12)?),
     })?;
     events.push(PlainEvent::Reset {
         id: ResetId::new(4),
@@ -239,6 +241,7 @@ fn put_event(out: &mut Text, event: &PlainEvent) -> Result<(), NoMemory> {
             comment,
             parents,
             ops,
+            aliases,
         } => {
             out.push_all(b"commit")?;
             put_number(out, id.number())?;
@@ -256,6 +259,9 @@ fn put_event(out: &mut Text, event: &PlainEvent) -> Result<(), NoMemory> {
             for op in ops.as_slice() {
                 put_operation(out, op)?;
             }
+            for alias in aliases.as_slice() {
+                put_number(out, alias.number())?;
+            }
             Ok(())
         }
         PlainEvent::Tag {
@@ -264,6 +270,7 @@ fn put_event(out: &mut Text, event: &PlainEvent) -> Result<(), NoMemory> {
             target,
             tagger,
             comment,
+            mark,
         } => {
             out.push_all(b"tag")?;
             put_number(out, id.number())?;
@@ -272,7 +279,11 @@ fn put_event(out: &mut Text, event: &PlainEvent) -> Result<(), NoMemory> {
             if let Some(tagger) = tagger {
                 put_signed(out, tagger)?;
             }
-            put_word(out, comment)
+            put_word(out, comment)?;
+            if let Some(mark) = mark {
+                put_number(out, mark.number())?;
+            }
+            Ok(())
         }
         PlainEvent::Reset { id, branch, target } => {
             out.push_all(b"reset")?;
@@ -299,9 +310,9 @@ fn lists_of_events_are_filled_and_copied(rt: HostRuntime) -> Result<(), Fail> {
         ("a blob", b"blob 1 8 one"),
         (
             "a commit",
-            b"commit 2 9 main A e 1 -330 C e 2 -330 latin1 why 7 deleteall copy a b rename c d link 1 e gitlink 0123456789abcdef0123456789abcdef01234567 f delete g",
+            b"commit 2 9 main A e 1 -330 C e 2 -330 latin1 why 7 deleteall copy a b rename c d link 1 e gitlink 0123456789abcdef0123456789abcdef01234567 f delete g 10 11",
         ),
-        ("a tag", b"tag 3 v1 2 T e 3 -330 tagged"),
+        ("a tag", b"tag 3 v1 2 T e 3 -330 tagged 12"),
         ("a reset", b"reset 4 side 2"),
         ("a line passed through", b"pass 5 checkpoint"),
     ];
@@ -552,7 +563,9 @@ fn faults_of_commands_and_messages_have_their_texts(rt: HostRuntime) -> Result<(
     let path = text(alloc, b"a/b")?;
     let taken = text(alloc, b"n")?;
     let assigned = text(alloc, b"n")?;
-    let rows: [(Fault, &[u8]); 16] = [
+    let (collided, connected, counted, apart) = (mark(1)?, mark(2)?, mark(3)?, mark(4)?);
+    let moved = text(alloc, b"a/b")?;
+    let rows: [(Fault, &[u8]); 22] = [
         (Fault::WrongCount { found: 2 }, b"50 WrongCount found=2"),
         (Fault::NotACommit { event: 1 }, b"51 NotACommit event=1"),
         (
@@ -587,9 +600,34 @@ fn faults_of_commands_and_messages_have_their_texts(rt: HostRuntime) -> Result<(
             Fault::NameAssigned { name: assigned },
             b"62 NameAssigned name=n",
         ),
+        (
+            Fault::PathCollision {
+                mark: collided,
+                op: 3,
+                path: moved,
+            },
+            b"63 PathCollision mark=:1 op=3 path=a/b",
+        ),
+        (
+            Fault::StillConnected { mark: connected },
+            b"64 StillConnected mark=:2",
+        ),
+        (
+            Fault::ChildCount {
+                mark: counted,
+                found: 0,
+            },
+            b"65 ChildCount mark=:3 found=0",
+        ),
+        (
+            Fault::NotAdjacent { mark: apart },
+            b"66 NotAdjacent mark=:4",
+        ),
+        (Fault::MomentRange { event: 9 }, b"67 MomentRange event=9"),
         (Fault::BadMessage { line: 1 }, b"70 BadMessage line=1"),
         (Fault::NoSuchTarget { line: 2 }, b"71 NoSuchTarget line=2"),
         (Fault::CheckText { line: 3 }, b"72 CheckText line=3"),
+        (Fault::BadAuthors { line: 4 }, b"73 BadAuthors line=4"),
     ];
     for (fault, want) in rows {
         assert_eq!(rt; fault.text(alloc)?.as_slice(), want);
@@ -625,12 +663,13 @@ fn each_defect_of_a_stream_has_its_name(rt: HostRuntime) -> Result<(), Fail> {
 
 #[test]
 fn each_limit_has_its_name(rt: HostRuntime) -> Result<(), Fail> {
-    let rows: [(Which, &[u8]); 8] = [
+    let rows: [(Which, &[u8]); 9] = [
         (Which::Commands, b"60 Limit which=Commands number=1"),
         (Which::LineBytes, b"60 Limit which=LineBytes number=1"),
         (Which::Events, b"60 Limit which=Events number=1"),
         (Which::Operations, b"60 Limit which=Operations number=1"),
         (Which::Parents, b"60 Limit which=Parents number=1"),
+        (Which::Aliases, b"60 Limit which=Aliases number=1"),
         (Which::Paths, b"60 Limit which=Paths number=1"),
         (Which::PathBytes, b"60 Limit which=PathBytes number=1"),
         (Which::NameBytes, b"60 Limit which=NameBytes number=1"),

@@ -42,7 +42,7 @@ abbrev GoesWell : Result (Turn Session) Fault → Type 0
 GoesWell (Ok t) = AreHeld t.session.repos
 GoesWell (Err why) = Unit {0}
 
--- a change that is due does so
+-- a change that is expected does so
 abbrev ChangesWell : Result Session Fault → Type 0
 ChangesWell (Ok s) = AreHeld s.repos
 ChangesWell (Err why) = Unit {0}

@@ -175,7 +175,7 @@ fn copy_of(alloc: Global, text: Option<&Text>) -> Result<Option<Text>, Fail> {
     }
 }
 
-// How a run ends, what it prints, and what stands in the file `b.fi` then.
+// How a run ends, what it prints, and what is in the file `b.fi` then.
 #[derive(Drop)]
 struct Ending {
     status: Status,

@@ -1,4 +1,4 @@
--- One command of a run, and what stands after it.
+-- One command of a run, and what is after it.
 use Rattle.std.proofs.Common.{◌≡◌, inl, inr, ℕ, zero, suc, List, [], ◌∷◌, ◌++◌, Bool, false, Option, Some, None, Result, Ok, Err, take, drop, length, get_or, ◌≤◌, ◌<◌, ◌+◌, ◌≢◌, drop-cons, append-nil, refl, sym, ap, subst, ◌∙◌, arith}
 use Rattle.std.specs.Prelude.{IfSome, IsSome}
 use Rattle.std.proofs.lemmas.Option.{same_Some}

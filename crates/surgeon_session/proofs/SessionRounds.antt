@@ -1,4 +1,4 @@
--- One command of a run over a session, and what stands after it.
+-- One command of a run over a session, and what is after it.
 use Rattle.std.proofs.Common.{◌≡◌, ℕ, zero, suc, List, [], ◌∷◌, Bool, true, false, not, Result, Ok, Err, refl, sym, subst}
 use Rattle.std.specs.Prelude.{if◌then◌else◌}
 use Rattle.plain_model.specs.Files.{Files}

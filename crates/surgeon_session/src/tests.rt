@@ -29,7 +29,7 @@ fn files(alloc: Global) -> Result<FileList, Fail> {
     Ok(files)
 }
 
-// How a run ends, what it prints, and what stands in the file `out` then.
+// How a run ends, what it prints, and what is in the file `out` then.
 #[derive(Drop)]
 struct Ending {
     status: Status,

@@ -67,7 +67,7 @@ Appends old bytes new = IfSome old.files (λ files. IfSome old.writing (λ name.
 
 -- ---- sinks
 
--- what stands beside a sink, which no call of it changes
+-- what is beside a sink, which no call of it changes
 pub record Around : Type 0 where
   pub files : Option Files
   pub writing : Option (List ℕ)
@@ -83,7 +83,7 @@ pub record SinkState : Type 0 where
   pub faults : ℕ
   pub around : Around
 
--- nothing stands beside it
+-- nothing is beside it
 abbrev pub alone : Around
 alone = record { files = Some empty; writing = None; read_faults = 0; misses = 0; place = None }
 

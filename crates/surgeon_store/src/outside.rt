@@ -1,4 +1,4 @@
-//! What a store of files and a sink of bytes promise, whatever they stand on.
+//! What a store of files and a sink of bytes promise, whatever they are on.
 ghost use Rattle.std.specs.Prelude.{
   ◌≡◌,
   ◌≤◌,

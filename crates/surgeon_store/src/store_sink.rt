@@ -5,7 +5,7 @@ ghost use Rattle.surgeon_store.specs.Outside.{sink_of};
 use crate::outside::{Sink, Store, WriteFault};
 
 /// The file that a store has begun to write, as a sink: its bytes are written, and all else of the store,
-/// but the count of what went wrong in writing, stands around it.
+/// but the count of what went wrong in writing, is around it.
 #[derive(Drop)]
 pub struct StoreSink<'a, S: Store> {
     store: &'a mut S,
