@@ -1,4 +1,4 @@
-//! Fields of lines at the end of a text. Where memory is wanting, here and in the other modules,
+//! Fields of lines at the end of a text. Out of memory, here and in the other modules,
 //! it is left open how much of them stands there.
 ghost use Rattle.std.specs.Prelude.{◌≡◌, ◌≤◌, ◌++◌, codes, OnOk, IfSome};
 ghost use Rattle.listing.specs.Listings.{first_line, number_text, tagged_text};
