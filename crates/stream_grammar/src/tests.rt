@@ -27,6 +27,6 @@ fn a_stream_goes_on_or_stops(rt: HostRuntime) {
     );
     assert!(rt; start.after(Word::Data) == Err(Why::UnknownLine));
     assert!(rt; !start.must_go_on());
-    assert!(rt; Expected::TagFrom.follow(Word::Mark) == Follow::LeftOut);
+    assert!(rt; Expected::AliasMark.follow(Word::To) == Follow::Missing);
     assert!(rt; Expected::InlineData.is_required());
 }
