@@ -19,11 +19,7 @@ not-found : (xs ys : List PlainEvent) (e : PlainEvent) (id : AnyId) → find_eve
 not-found [] ys e id h = same_id-comm (id_of e) id ∙ (absent-cons id e ys h).0
 not-found (x ∷ xs) ys e id h = not-found xs ys e id (absent-cons id x (xs ++ e ∷ ys) h).1
 
-<<<<<<< HEAD
 -- what is before an event misses its id
-=======
--- what stands before an event has another id
->>>>>>> h1m
 pub distinct-absent : (xs ys : List PlainEvent) (e : PlainEvent) → AreDistinct (xs ++ e ∷ ys) → find_event (id_of e) xs ≡ None
 distinct-absent [] ys e h = refl
 distinct-absent (x ∷ xs) ys e h = rw (not-found xs ys e (id_of x) h.0) (distinct-absent xs ys e h.1)

@@ -1,10 +1,5 @@
-<<<<<<< HEAD
 //! Fields of lines at the end of a text. Where memory runs out, here and in the other modules,
 //! it is left open how much of them is there.
-=======
-//! Fields of lines at the end of a text. Out of memory, here and in the other modules,
-//! it is left open how much of them stands there.
->>>>>>> h1m
 ghost use Rattle.std.specs.Prelude.{◌≡◌, ◌≤◌, ◌++◌, codes, OnOk, IfSome};
 ghost use Rattle.listing.specs.Listings.{first_line, number_text, tagged_text};
 ghost use Rattle.plain_model.specs.Text.{line, marked};
