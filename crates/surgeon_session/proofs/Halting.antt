@@ -23,7 +23,7 @@ use Rattle.surgeon_session.specs.Commands.{Agrees, CarriesOut, PartOf, Steps}
 use Rattle.surgeon_session.specs.Ends.{Returns, of_halt, of_read_end, status_of}
 use Rattle.surgeon_session.specs.declared.halted.Halted.{Halted}
 use Rattle.surgeon_session.specs.declared.halted.Halted.TheVariants as halted
-use Rattle.surgeon_session.proofs.Rounds.{mapped, no_part, read_later, same_world}
+use Rattle.surgeon_session.proofs.Rounds.{mapped, no_part, read_later, same_later, same_world}
 
 -- ---- a call that meets nothing outside
 
@@ -57,12 +57,12 @@ module _ {X : Type 0} (s : StoreState) (k : SinkState) (old new : X) (specified 
   by_halt (halt.Refused fault) halts = record {
     prescribed = same_world (λ w now. Steps {Y = Unit {0}} (Err (halted.Refused fault)) old w (specified w.files) new now) (world s k) (λ w. (halts w.files, same, refl));
     caused = tt;
-    later = read_later s s k (record { files = refl; writing = refl; write_faults = refl; read_faults = omega arith; misses = omega arith });
+    later = same_later s k;
   }
   by_halt halt.Memory halts = record {
     prescribed = same_world (λ w now. Steps {Y = Unit {0}} (Err halted.Memory) old w (specified w.files) new now) (world s k) (λ w. (same, part_none w (specified w.files)));
     caused = tt;
-    later = read_later s s k (record { files = refl; writing = refl; write_faults = refl; read_faults = omega arith; misses = omega arith });
+    later = same_later s k;
   }
 
   -- nothing outside is touched

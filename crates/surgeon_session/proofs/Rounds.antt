@@ -139,3 +139,13 @@ read_later s s' k frame = record {
   reports = rw frame.files (still (world s k));
   finished = rw frame.writing (λ none. none);
 }
+
+pub same_later : (s : StoreState) (k : SinkState) → Later s k s k
+same_later s k = record {
+  read_faults = omega arith;
+  write_faults = omega arith;
+  misses = omega arith;
+  faults = omega arith;
+  reports = still (world s k);
+  finished = λ none. none;
+}

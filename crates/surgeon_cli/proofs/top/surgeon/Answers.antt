@@ -6,7 +6,7 @@ use Rattle.surgeon_cli.proofs.top.surgeon.Goals as goal
 
 pub returns-clause-complete : goal.returns-clause-complete
 returns-clause-complete g c = λ quiet enough.
-    all_completes (λ w. run (map string_bytes c.args.words.now) w.files) (g.S.Store.state c.args.store.now) (g.S.Store.state c.run_words.new.store) (g.T.Sink.state c.args.out.now) (g.T.Sink.state c.run_words.new.out) c.run_words.result c.run_words.ensures.caused quiet enough c.run_words.ensures.prescribed
+    all_completes (λ w. run (map string_bytes c.args.words.now) w.files) (g.S.Store.state c.args.store.now) (g.S.Store.state c.run_words.new.store) (g.T.Sink.state c.args.out.now) (g.T.Sink.state c.run_words.new.out) c.run_words.result c.run_words.ensures.outcome.caused quiet enough c.run_words.ensures.outcome.prescribed
 
 pub returns-clause-replayed : goal.returns-clause-replayed
 returns-clause-replayed g c = λ files.
