@@ -26,6 +26,11 @@ write_sends s files to t h = go (chosen s) refl h
     go (Ok repo) e h = (repo, e, cc)
     go (Err why) e h = absurd cc
 
+-- it is done where a repository is chosen
+pub write_done : (s : Session) (files : Files) (to : Option Bytes) (repo : Repo) → chosen s ≡ Ok repo → step s files (command.Write to) ≡ Ok (sends s to (text repo.history))
+unfolding step
+write_done s files to repo is = rw is refl
+
 -- the chosen repository is one of those that are loaded
 found_by : (repos : List Repo) (choice : Option Bytes) (repo : Repo) → chosen_by repos choice ≡ Ok repo → find_repo repo.name repos ≡ Some repo.history
 found_by repos None repo h = absurd cc

@@ -6,11 +6,16 @@ ghost use Rattle.plain_model.specs.Faults.{refusal};
 ghost use Rattle.plain_model.specs.Files.{Files};
 ghost use Rattle.plain_model.specs.Text.{text};
 ghost use Rattle.script_reader.specs.declared.command.Command.TheVariants as command;
+ghost use Rattle.script_reader.specs.declared.command.Command.{Command};
 ghost use Rattle.history_machine.specs.Kept.{KeepTrees};
+ghost use Rattle.history_machine.specs.Lawful.{IsLawful, IsLawfulHistory};
 ghost use Rattle.history_machine.specs.Machine.{Turn, turn_of};
-ghost use Rattle.history_machine.specs.Sessions.{Repo, Session, chosen, sends, step};
+ghost use Rattle.history_machine.specs.Sessions.{Repo, Session, chosen, line_step, sends, step};
 
-use renumbering::{ids_stay, renumbering_keeps_trees};
+use renumbering::{
+    ids_stay, nothing_else_changes, renumbering_keeps_soundness, renumbering_keeps_trees,
+};
+use soundness_laws::{what_is_read_is_sound, what_is_read_passes_no_limit};
 
 /// A line that is refused leaves the session and the files as they were, and one line is printed.
 pub fn a_refused_line_changes_nothing()
@@ -22,11 +27,14 @@ pub fn a_refused_line_changes_nothing()
         (turn_of s line (Err fault)).bytes ≡ refusal line fault }
 {}
 
-/// A `write` that is done sends the text of the chosen history, and changes nothing else.
+/// A `write` is done where a repository is chosen. It sends the text of that history, and changes nothing else.
 pub fn a_write_sends_the_stream()
-    ensures { (s : Session) (files : Files) (to : Option (List ℕ)) (t : Turn Session) →
+    ensures sent { (s : Session) (files : Files) (to : Option (List ℕ)) (t : Turn Session) →
         step s files (command.Write to) ≡ Ok t →
         (repo : Repo) × (chosen s ≡ Ok repo) × (t ≡ sends s to (text repo.history)) }
+    ensures done { (s : Session) (files : Files) (to : Option (List ℕ)) (repo : Repo) →
+        chosen s ≡ Ok repo →
+        step s files (command.Write to) ≡ Ok (sends s to (text repo.history)) }
 {}
 
 /// A `renumber` that is done leaves every loaded repository its name, and each of its commits its id and its tree.
@@ -37,3 +45,24 @@ pub fn a_renumber_keeps_trees()
     ids_stay();
     renumbering_keeps_trees();
 }
+
+/// A session whose histories are sound and within the limits stays one by every command that is done. So it does by
+/// every line.
+pub fn a_step_keeps_it()
+    ensures command { (s : Session) (files : Files) (what : Command) (t : Turn Session) →
+        step s files what ≡ Ok t → IsLawful s → IsLawful t.session }
+    ensures line { (s : Session) (files : Files) (words : List ℕ) (t : Turn Session) →
+        line_step s files words ≡ Ok t → IsLawful s → IsLawful t.session }
+{
+    what_is_read_is_sound();
+    what_is_read_passes_no_limit();
+    renumbering_keeps_soundness();
+    ids_stay();
+    nothing_else_changes();
+}
+
+/// The chosen history of such a session is sound and within the limits.
+pub fn the_chosen_history_is_lawful()
+    ensures { (s : Session) (repo : Repo) → chosen s ≡ Ok repo → IsLawful s →
+        IsLawfulHistory repo.history }
+{}

@@ -1,5 +1,5 @@
 -- What the top call promises, over a store that tells its files and a sink that tells what was written.
-use Rattle.std.specs.Prelude.{◌≡◌, ◌≢◌, List, None, IfSome}
+use Rattle.std.specs.Prelude.{◌≡◌, ◌≢◌, List, [], ◌∷◌, Some, None, Result, Ok, IfSome}
 use Rattle.std.specs.List.{AllByRecursion}
 use Rattle.plain_model.specs.declared.status.Status.{Status}
 use Rattle.plain_model.specs.declared.status.Status.TheVariants as status
@@ -8,10 +8,15 @@ use Rattle.plain_model.specs.Files.{Files}
 use Rattle.plain_model.specs.Text.{text}
 use Rattle.shown_laws.specs.Showing.{IsShownBy}
 use Rattle.surgeon_store.specs.Outside.{StoreState, SinkState}
-use Rattle.history_machine.specs.Sessions.{Repo}
-use Rattle.history_machine.specs.Machine.{Completes, EndsAs}
-use Rattle.history_machine.specs.Whole.{run}
-use Rattle.history_machine.specs.Words.{asked}
+use Rattle.plain_model.specs.declared.fault.Fault.{Fault}
+use Rattle.script_reader.specs.Commands.{command_of}
+use Rattle.script_reader.specs.declared.command.Command.{Command}
+use Rattle.script_reader.specs.declared.command.Command.TheVariants as command
+use Rattle.script_reader.specs.declared.script.ScriptItem.{ScriptItem}
+use Rattle.history_machine.specs.Sessions.{Repo, Session, chosen}
+use Rattle.history_machine.specs.Machine.{Completes, EndsAs, Turn}
+use Rattle.history_machine.specs.Whole.{run, script_in}
+use Rattle.history_machine.specs.Words.{Asked, asked}
 use Rattle.surgeon_session.specs.Calls.{NoFaults, world}
 
 -- Files and output are those of the machine's run of these words: at its end, with its status, or where a fault of
@@ -32,6 +37,22 @@ AreShown repos = AllByRecursion (λ r. IsShownBy (text r.history) r.history) rep
 -- that is so after each command of the run, whether it is done or refused
 abbrev pub ShowsHistories : List Bytes → Files → Type 0
 ShowsHistories words files = AllByRecursion (λ t. AreShown t.session.repos) (run words files).turns
+
+-- Where a repository is chosen, a `write` line sends the text of its history to the file that it names, or prints it; and
+-- by that text the history is shown.
+abbrev pub IsShownWrite : Result Command Fault → Turn Session → Type 0
+IsShownWrite (Ok (command.Write to)) t =
+    (repo : Repo) → chosen t.session ≡ Ok repo → (t.to ≡ to) × (t.bytes ≡ text repo.history) × IsShownBy t.bytes repo.history
+IsShownWrite other t = Unit {0}
+
+-- that is so of each line that was carried out
+abbrev pub AreShownWrites : List ScriptItem → List (Turn Session) → Type 0
+AreShownWrites (item ∷ items) (t ∷ turns) = IsShownWrite (command_of item.text) t × AreShownWrites items turns
+AreShownWrites items turns = Unit {0}
+
+-- and so of each line of the script that the words name
+abbrev pub ShowsWrites : List Bytes → Files → Type 0
+ShowsWrites words files = (what : Asked) (items : List ScriptItem) → asked words ≡ Some what → script_in files what.script ≡ Ok items → AreShownWrites items (run words files).turns
 
 -- how a run ends that tells how the program is called: so, or a fault of printing or out of memory broke it off
 abbrev pub IsUsageEnd : Status → Type 0

@@ -37,16 +37,16 @@ ghost use Rattle.surgeon_cli.specs.Headline.{
   AsPrescribed,
   IsUsageEnd,
   ShowsHistories,
+  ShowsWrites,
   Succeeds,
 };
 ghost use Rattle.plain_model.specs.Files.{Files};
 
 use crate::words::asked_in;
+use history_machine::{a_step_keeps_it, a_write_sends_the_stream, the_chosen_history_is_lawful};
 use plain_model::{Fault, Items, MAX_SCRIPT_BYTES, NoMemory, Status, Text};
-use renumbering::{ids_stay, renumbering_keeps_soundness};
 use script_reader::Script;
 use shown_laws::what_is_written_shows_the_history;
-use soundness_laws::{what_is_read_is_sound, what_is_read_passes_no_limit};
 use std::alloc::Global;
 use surgeon_session::Session;
 use surgeon_store::{ReadEnd, Sink, Store, WriteEnd, read_file, write_all};
@@ -252,11 +252,13 @@ pub fn surgeon<S: Store, T: Sink>(
     // Each history that the run holds, and so each that it writes, is shown by its text: that is a stream, what is read of
     // it is written as the same bytes, and a replay by plain maps shows what that history shows.
     ensures replayed { (files : Files) → ShowsHistories (map string_bytes words.now) files }
+
+    // What a `write` line has sent, to its file or as output, is the text of the history that was chosen, and shows it.
+    ensures written { (files : Files) → ShowsWrites (map string_bytes words.now) files }
 {
-    what_is_read_is_sound();
-    what_is_read_passes_no_limit();
     what_is_written_shows_the_history();
-    ids_stay();
-    renumbering_keeps_soundness();
+    a_step_keeps_it();
+    a_write_sends_the_stream();
+    the_chosen_history_is_lawful();
     run_words(alloc, words, store, out)
 }

@@ -1,7 +1,7 @@
 use Rattle.std.specs.Prelude.{map, string_bytes}
 use Rattle.history_machine.specs.Whole.{run}
 use Rattle.surgeon_session.proofs.Rounds.{all_completes}
-use Rattle.surgeon_cli.proofs.ShownHistories.{histories_shown}
+use Rattle.surgeon_cli.proofs.ShownHistories.{histories_shown, writes_shown}
 use Rattle.surgeon_cli.proofs.top.surgeon.Goals as goal
 
 pub returns-clause-complete : goal.returns-clause-complete
@@ -10,5 +10,9 @@ returns-clause-complete g c = λ quiet enough.
 
 pub returns-clause-replayed : goal.returns-clause-replayed
 returns-clause-replayed g c = λ files.
-    histories_shown c.what_is_read_is_sound.ensures (λ bytes events is. (c.what_is_read_passes_no_limit.ensures bytes events is).0) c.what_is_written_shows_the_history.ensures
-    c.renumbering_keeps_soundness.ensures c.ids_stay.ensures.count (map string_bytes c.args.words.now) files
+    histories_shown c.a_step_keeps_it.ensures.line c.what_is_written_shows_the_history.ensures (map string_bytes c.args.words.now) files
+
+pub returns-clause-written : goal.returns-clause-written
+returns-clause-written g c = λ files.
+    writes_shown c.a_step_keeps_it.ensures.line c.what_is_written_shows_the_history.ensures c.the_chosen_history_is_lawful.ensures c.a_write_sends_the_stream.ensures.sent c.a_write_sends_the_stream.ensures.done
+    (map string_bytes c.args.words.now) files
