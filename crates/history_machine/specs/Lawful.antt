@@ -4,7 +4,7 @@ use Rattle.std.specs.List.{AllByRecursion}
 use Rattle.plain_model.specs.Soundness.{IsSound}
 use Rattle.plain_model.specs.declared.event.PlainEvent.{PlainEvent}
 use Rattle.plain_model.specs.declared.limit.TheConstants.{MAX_ALIASES, MAX_EVENTS, MAX_OPERATIONS}
-use Rattle.soundness_laws.specs.Counts.{alias_count}
+use Rattle.plain_model.specs.Lookups.{alias_count}
 use Rattle.stream_grammar.specs.Limits.{ops_in}
 use Rattle.history_machine.specs.Sessions.{Session}
 
