@@ -245,7 +245,7 @@ pub fn surgeon<S: Store, T: Sink>(
     ensures later { Later (S.state store.old) (T.state out.old)
         (S.state store.new) (T.state out.new) }
 
-    // Usage comes exactly where the words aren't right, whatever the store tells; but a fault of printing or
+    // Usage comes exactly where the words aren't right, whatever the store says; but a fault of printing or
     // out of memory may come in its place.
     ensures words { AnswersWords (map string_bytes words.now) result }
 
