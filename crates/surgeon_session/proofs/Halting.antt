@@ -1,6 +1,6 @@
 -- Commands that aren't done: refused, or broken off by a fault in reading or out of memory.
-use Rattle.std.proofs.Common.{◌≡◌, inl, ℕ, zero, List, Option, Some, None, Result, Ok, Err, refl, sym, ap, subst, arith}
-use Rattle.std.specs.Prelude.{IfSome, IsSome, IsErrOf, OnErr}
+use Rattle.std.proofs.Common.{◌≡◌, Option, Some, None, Result, Ok, Err, refl, sym, ap, subst}
+use Rattle.std.specs.Prelude.{IfSome, IsErrOf, OnErr}
 use Rattle.std.specs.Result.{IsErrAnd}
 use Rattle.plain_model.specs.Counts.{Rose}
 use Rattle.plain_model.specs.Files.{Files}
@@ -16,14 +16,14 @@ use Rattle.surgeon_store.specs.WholeFiles.{ReturnsOrBreaks}
 use Rattle.surgeon_store.specs.declared.whole_files.ReadEnd.{ReadEnd}
 use Rattle.surgeon_store.specs.declared.whole_files.ReadEnd.TheVariants as read
 use Rattle.history_machine.specs.Loading.{◌>>=◌}
-use Rattle.history_machine.specs.Machine.{World, Turn, PartSent}
-use Rattle.history_machine.specs.Sessions.{Session, after_read, changes, reports, step}
-use Rattle.surgeon_session.specs.Calls.{Later, Outcome, world, world_of}
+use Rattle.history_machine.specs.Machine.{World, Turn}
+use Rattle.history_machine.specs.Sessions.{Session, after_read, changes, step}
+use Rattle.surgeon_session.specs.Calls.{Outcome, world, world_of}
 use Rattle.surgeon_session.specs.Commands.{Agrees, CarriesOut, PartOf, Steps}
 use Rattle.surgeon_session.specs.Ends.{Returns, of_halt, of_read_end, status_of}
 use Rattle.surgeon_session.specs.declared.halted.Halted.{Halted}
 use Rattle.surgeon_session.specs.declared.halted.Halted.TheVariants as halted
-use Rattle.surgeon_session.proofs.Rounds.{mapped, no_part, read_later, same_later, same_world}
+use Rattle.surgeon_session.proofs.Rounds.{no_part, read_later, same_later, same_world}
 
 -- ---- a call that meets nothing outside
 

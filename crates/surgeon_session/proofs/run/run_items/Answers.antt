@@ -37,10 +37,10 @@ returns-then-is_stop g c =
     record {
       outcome = record {
         prescribed = joined (world (s c.args.store.now) (k c.args.out.now)) (world (s c.loop-item.store) (k c.loop-item.out)) (world (s c.turn-ended.new.store) (k c.turn-ended.new.out)) c.loop-item.invariant.later.reports c.loop-item.invariant.prescribed c.turn-ended.ensures.outcome.prescribed
-          (λ a b d p q. p c.turn-ended.result c.turn-ended.new.session d (subst (λ (l : List ScriptItem). SessionEndsAs (run_on line_step keep c.loop-item.so_far c.loop-item.session b.files l) c.turn-ended.result c.loop-item.session b c.turn-ended.new.session d) (sym next)
-          (session_stops line_step keep c.loop-item.so_far c.loop-item.session c.turn-ended.new.session b d item (drop (c.loop-item.item-index + 1) items) c.turn-ended.result stop q)));
-      caused = caused_later (s c.args.store.now) (s c.loop-item.store) (s c.turn-ended.new.store) (k c.args.out.now) (k c.loop-item.out) (k c.turn-ended.new.out) c.turn-ended.result c.loop-item.invariant.later c.turn-ended.ensures.outcome.caused;
-      later = later_later (s c.args.store.now) (s c.loop-item.store) (s c.turn-ended.new.store) (k c.args.out.now) (k c.loop-item.out) (k c.turn-ended.new.out) c.loop-item.invariant.later c.turn-ended.ensures.outcome.later;
+            (λ a b d p q. p c.turn-ended.result c.turn-ended.new.session d (subst (λ (l : List ScriptItem). SessionEndsAs (run_on line_step keep c.loop-item.so_far c.loop-item.session b.files l) c.turn-ended.result c.loop-item.session b c.turn-ended.new.session d) (sym next)
+            (session_stops line_step keep c.loop-item.so_far c.loop-item.session c.turn-ended.new.session b d item (drop (c.loop-item.item-index + 1) items) c.turn-ended.result stop q)));
+        caused = caused_later (s c.args.store.now) (s c.loop-item.store) (s c.turn-ended.new.store) (k c.args.out.now) (k c.loop-item.out) (k c.turn-ended.new.out) c.turn-ended.result c.loop-item.invariant.later c.turn-ended.ensures.outcome.caused;
+        later = later_later (s c.args.store.now) (s c.loop-item.store) (s c.turn-ended.new.store) (k c.args.out.now) (k c.loop-item.out) (k c.turn-ended.new.out) c.loop-item.invariant.later c.turn-ended.ensures.outcome.later;
       };
       ends = c.turn-ended.ensures.ends;
     }
@@ -54,10 +54,10 @@ returns g c =
     record {
       outcome = record {
         prescribed = mapped (world (s c.args.store.now) (k c.args.out.now)) (world (s c.loop-item.store) (k c.loop-item.out))
-          (λ a b p. p c.loop-item.so_far c.loop-item.session b (subst (λ (l : List ScriptItem). SessionEndsAs (run_on line_step keep c.loop-item.so_far c.loop-item.session b.files l) c.loop-item.so_far c.loop-item.session b c.loop-item.session b) (sym (drop_past items c.loop-item.item-index (omega (arith, c.loop-item-test.false)))) (no_lines c.loop-item.so_far c.loop-item.session b)))
-          c.loop-item.invariant.prescribed;
-      caused = caused_quiet (s c.args.store.now) (s c.loop-item.store) (k c.args.out.now) (k c.loop-item.out) c.loop-item.so_far c.loop-item.invariant.quiet;
-      later = c.loop-item.invariant.later;
+            (λ a b p. p c.loop-item.so_far c.loop-item.session b (subst (λ (l : List ScriptItem). SessionEndsAs (run_on line_step keep c.loop-item.so_far c.loop-item.session b.files l) c.loop-item.so_far c.loop-item.session b c.loop-item.session b) (sym (drop_past items c.loop-item.item-index (omega (arith, c.loop-item-test.false)))) (no_lines c.loop-item.so_far c.loop-item.session b)))
+            c.loop-item.invariant.prescribed;
+        caused = caused_quiet (s c.args.store.now) (s c.loop-item.store) (k c.args.out.now) (k c.loop-item.out) c.loop-item.so_far c.loop-item.invariant.quiet;
+        later = c.loop-item.invariant.later;
       };
       ends = quiet_end c.loop-item.so_far c.loop-item.invariant.quiet;
     }
