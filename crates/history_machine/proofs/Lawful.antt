@@ -14,7 +14,7 @@ use Rattle.plain_model.specs.Paths.{Bytes}
 use Rattle.plain_model.specs.Soundness.{IsSound}
 use Rattle.round_trip_laws.specs.AsRead.{IsAsRead}
 use Rattle.plain_model.specs.Lookups.{alias_count}
-use Rattle.stream_grammar.specs.Limits.{ops_in, ops_in_event, stream_of}
+use Rattle.stream_grammar.specs.Limits.{ops_in, stream_of}
 use Rattle.renumbering.specs.Renumbered.{all_marked, renumbered}
 use Rattle.script_reader.specs.Commands.{command_of}
 use Rattle.script_reader.specs.declared.command.Command.{Command}

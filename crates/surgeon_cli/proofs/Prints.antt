@@ -1,8 +1,8 @@
 -- Runs that only print, and runs that haven't begun.
-use Rattle.std.proofs.Common.{◌≡◌, inl, ℕ, zero, List, [], ◌∷◌, ◌++◌, Option, Some, None, Result, Err, refl, sym, subst, append-nil, arith}
-use Rattle.std.specs.Prelude.{IfSome, IsSome}
+use Rattle.std.proofs.Common.{◌≡◌, ℕ, zero, List, [], ◌∷◌, ◌++◌, Option, Some, None, Result, Err, refl, sym, subst}
+use Rattle.std.specs.Prelude.{IfSome}
 use Rattle.plain_model.specs.Files.{Files}
-use Rattle.history_machine.specs.Machine.{World, Turn, Run, sent, PartSent, EndsAs, BreaksAfter}
+use Rattle.history_machine.specs.Machine.{World, Turn, Run, sent, EndsAs, BreaksAfter}
 use Rattle.script_reader.specs.declared.script.ScriptItem.{ScriptItem}
 use Rattle.history_machine.specs.Words.{Asked}
 use Rattle.history_machine.specs.Whole.{only_prints, run_read, unread, unread_status}
@@ -12,7 +12,7 @@ use Rattle.plain_model.specs.declared.status.Status.{Status}
 use Rattle.plain_model.specs.declared.status.Status.TheVariants as status
 use Rattle.history_machine.proofs.Runs.{IsBreak, ends_broken}
 use Rattle.surgeon_store.specs.Outside.{StoreState, SinkState, Reads}
-use Rattle.surgeon_session.specs.Calls.{world, world_of, Later}
+use Rattle.surgeon_session.specs.Calls.{world, world_of}
 use Rattle.surgeon_store.specs.Outside.{Puts, PutsSome}
 use Rattle.surgeon_session.proofs.Rounds.{mapped, no_part, printed_world, same_world, some_printed_world}
 

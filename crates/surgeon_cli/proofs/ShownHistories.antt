@@ -19,7 +19,7 @@ use Rattle.history_machine.specs.Lawful.{IsLawful, IsLawfulHistory}
 use Rattle.history_machine.specs.Loading.{◌>>=◌}
 use Rattle.history_machine.specs.Machine.{Run, Turn, goes_on, run_on, status_after, turn_of, files_after}
 use Rattle.history_machine.specs.Sessions.{Repo, Session, chosen, line_step, sends, step}
-use Rattle.history_machine.specs.Whole.{run, run_asked, run_from, run_read, script_in}
+use Rattle.history_machine.specs.Whole.{run, run_asked, run_read, script_in}
 use Rattle.history_machine.specs.Words.{Asked, asked}
 use Rattle.surgeon_cli.specs.Headline.{AreShown, AreShownWrites, IsShownWrite, ShowsHistories, ShowsWrites}
 
@@ -76,7 +76,7 @@ module _
     module _
         (chosen_lawful : (s : Session) (repo : Repo) → chosen s ≡ Ok repo → IsLawful s → IsLawfulHistory repo.history)
         (sent : (s : Session) (files : Files) (to : Option Bytes) (t : Turn Session) → step s files (command.Write to) ≡ Ok t
-            → (repo : Repo) × (chosen s ≡ Ok repo) × (t ≡ sends s to (text repo.history)))
+        → (repo : Repo) × (chosen s ≡ Ok repo) × (t ≡ sends s to (text repo.history)))
         (done : (s : Session) (files : Files) (to : Option Bytes) (repo : Repo) → chosen s ≡ Ok repo → step s files (command.Write to) ≡ Ok (sends s to (text repo.history)))
       where
         write_shown : (s : Session) (files : Files) (line : ℕ) (to : Option Bytes) → IsLawful s

@@ -1,6 +1,6 @@
 -- Commands that aren't done: refused, or broken off by a fault in reading or out of memory.
-use Rattle.std.proofs.Common.{◌≡◌, inl, ℕ, zero, List, Option, Some, None, Result, Ok, Err, refl, sym, ap, subst, arith}
-use Rattle.std.specs.Prelude.{IfSome, IsSome, IsErrOf, OnErr}
+use Rattle.std.proofs.Common.{◌≡◌, Option, Some, None, Result, Ok, Err, refl, sym, ap, subst}
+use Rattle.std.specs.Prelude.{IfSome, IsErrOf, OnErr}
 use Rattle.std.specs.Result.{IsErrAnd}
 use Rattle.plain_model.specs.Counts.{Rose}
 use Rattle.plain_model.specs.Files.{Files}
@@ -8,7 +8,6 @@ use Rattle.plain_model.specs.Paths.{Bytes}
 use Rattle.plain_model.specs.declared.fault.Fault.{Fault}
 use Rattle.plain_model.specs.declared.fault.Halt.{Halt}
 use Rattle.plain_model.specs.declared.fault.Halt.TheVariants as halt
-use Rattle.script_reader.specs.Answering.{Answers}
 use Rattle.script_reader.specs.declared.command.Command.{Command}
 use Rattle.script_reader.specs.declared.command.Command.TheVariants as command
 use Rattle.surgeon_store.specs.Outside.{StoreState, SinkState, Reads}
@@ -16,14 +15,15 @@ use Rattle.surgeon_store.specs.WholeFiles.{ReturnsOrBreaks}
 use Rattle.surgeon_store.specs.declared.whole_files.ReadEnd.{ReadEnd}
 use Rattle.surgeon_store.specs.declared.whole_files.ReadEnd.TheVariants as read
 use Rattle.history_machine.specs.Loading.{◌>>=◌}
-use Rattle.history_machine.specs.Machine.{World, Turn, PartSent}
-use Rattle.history_machine.specs.Sessions.{Session, after_read, changes, reports, step}
-use Rattle.surgeon_session.specs.Calls.{Later, Outcome, world, world_of}
+use Rattle.history_machine.specs.Machine.{World, Turn}
+use Rattle.history_machine.specs.Sessions.{Session, after_read, changes, step}
+use Rattle.surgeon_session.specs.Calls.{Outcome, world, world_of}
 use Rattle.surgeon_session.specs.Commands.{Agrees, CarriesOut, PartOf, Steps}
-use Rattle.surgeon_session.specs.Ends.{Returns, of_halt, of_read_end, status_of}
+use Rattle.plain_model.specs.Faults.{Returns}
+use Rattle.surgeon_session.specs.Ends.{of_halt, of_read_end, status_of}
 use Rattle.surgeon_session.specs.declared.halted.Halted.{Halted}
 use Rattle.surgeon_session.specs.declared.halted.Halted.TheVariants as halted
-use Rattle.surgeon_session.proofs.Rounds.{mapped, no_part, read_later, same_later, same_world}
+use Rattle.surgeon_session.proofs.Rounds.{no_part, read_later, same_later, same_world}
 
 -- ---- a call that meets nothing outside
 
@@ -35,10 +35,6 @@ Halts halt.Memory specified = Unit {0}
 pub returned : {X Y : Type 0} (view : X → Y) (h : Halt) (specified : Result Y Fault) → Returns view (Err h) specified → Halts h specified
 returned view (halt.Refused fault) specified r = r
 returned view halt.Memory specified r = tt
-
-pub answered : {X Y : Type 0} (view : X → Y) (h : Halt) (specified : Result Y Fault) → Answers view (Err h) specified → Halts h specified
-answered view (halt.Refused fault) specified r = r
-answered view halt.Memory specified r = tt
 
 -- then so does what goes on from there
 pub halts_after : {A B : Type 0} (h : Halt) (r : Result A Fault) (f : A → Result B Fault) → Halts h r → Halts h (r >>= f)

@@ -1,13 +1,11 @@
--- One command of a run, and what is after it.
-use Rattle.std.proofs.Common.{◌≡◌, inl, inr, ℕ, zero, suc, List, [], ◌∷◌, ◌++◌, Bool, false, Option, Some, None, Result, Ok, Err, take, drop, length, get_or, ◌≤◌, ◌<◌, ◌+◌, ◌≢◌, drop-cons, append-nil, refl, sym, ap, subst, ◌∙◌, arith}
+-- One command of a run, and what stands after it.
+use Rattle.std.proofs.Common.{◌≡◌, inl, inr, ℕ, zero, suc, List, [], ◌∷◌, ◌++◌, Option, Some, None, take, drop, length, get_or, ◌≤◌, ◌<◌, ◌+◌, ◌≢◌, drop-cons, append-nil, refl, sym, ap, ◌∙◌, arith}
 use Rattle.std.specs.Prelude.{IfSome, IsSome}
 use Rattle.std.proofs.lemmas.Option.{same_Some}
 use Rattle.plain_model.specs.Files.{Files}
-use Rattle.history_machine.specs.Machine.{World, Turn, Run, sent, after, PartSent, EndsAs, Completes, run_on}
-use Rattle.plain_model.specs.declared.fault.Fault.{Fault}
+use Rattle.history_machine.specs.Machine.{World, Run, sent, PartSent, EndsAs, Completes}
 use Rattle.plain_model.specs.declared.status.Status.{Status}
 use Rattle.plain_model.specs.declared.status.Status.TheVariants as status
-use Rattle.script_reader.specs.declared.script.ScriptItem.{ScriptItem}
 use Rattle.plain_model.specs.Counts.{Rose}
 use Rattle.surgeon_store.specs.Outside.{StoreState, SinkState, Reads}
 use Rattle.surgeon_session.specs.Calls.{world, world_of, Later, Caused, NoFaults}

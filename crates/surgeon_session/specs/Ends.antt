@@ -1,6 +1,5 @@
--- How calls end: what a call answers that meets nothing outside, and the ends of smaller calls as those of greater ones.
-use Rattle.std.specs.Prelude.{◌≡◌, Result, Ok, Err}
-use Rattle.plain_model.specs.declared.fault.Fault.{Fault}
+-- How calls end: the ends of smaller calls as those of greater ones.
+use Rattle.std.specs.Prelude.{Result, Ok, Err}
 use Rattle.plain_model.specs.declared.fault.Halt.{Halt}
 use Rattle.plain_model.specs.declared.fault.Halt.TheVariants as halt
 use Rattle.plain_model.specs.declared.status.Status.{Status}
@@ -11,12 +10,6 @@ use Rattle.surgeon_store.specs.declared.writing.WriteEnd.{WriteEnd}
 use Rattle.surgeon_store.specs.declared.writing.WriteEnd.TheVariants as write
 use Rattle.surgeon_session.specs.declared.halted.Halted.{Halted}
 use Rattle.surgeon_session.specs.declared.halted.Halted.TheVariants as halted
-
--- a value is the one that is specified, and so is a refusal; out of memory may come in their place
-abbrev pub Returns : {X Y : Type 0} → (X → Y) → Result X Halt → Result Y Fault → Type 0
-Returns view (Ok x) specified = specified ≡ Ok (view x)
-Returns view (Err (halt.Refused fault)) specified = specified ≡ Err fault
-Returns view (Err halt.Memory) specified = Unit {0}
 
 -- the end of a call that meets nothing outside
 abbrev pub of_halt : Halt → Halted

@@ -3,7 +3,7 @@
 ghost use Rattle.std.specs.Prelude.{◌≡◌, IfOk};
 ghost use Rattle.history_machine.specs.Sessions.{empty_session};
 ghost use Rattle.surgeon_session.specs.Commands.{CarriesOut};
-ghost use Rattle.surgeon_session.specs.Ends.{Returns};
+ghost use Rattle.plain_model.specs.Faults.{Returns};
 ghost use Rattle.surgeon_session.specs.Entries.{chosen_history, chosen_name};
 
 mod changing;

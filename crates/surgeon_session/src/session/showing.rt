@@ -11,7 +11,7 @@ ghost use Rattle.listing.specs.Listings.{names_text};
 ghost use Rattle.plain_model.specs.Text.{text};
 ghost use Rattle.script_reader.specs.declared.command.Command.TheVariants as command;
 ghost use Rattle.surgeon_session.specs.Commands.{CarriesOut};
-ghost use Rattle.surgeon_session.specs.Ends.{Returns};
+ghost use Rattle.plain_model.specs.Faults.{Returns};
 
 use super::Session;
 use crate::halted::Halted;
