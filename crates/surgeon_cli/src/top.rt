@@ -237,7 +237,7 @@ pub fn surgeon<S: Store, T: Sink>(
     ensures prescribed { AsPrescribed (map string_bytes words.now) (S.state store.old) (T.state out.old)
         result (S.state store.new) (T.state out.new) }
 
-    // A status that tells of the outside is one whose count rose, and without them success is expected.
+    // A status that tells of the outside is one whose count rose, and without them the run comes to its end.
     ensures caused { Caused (S.state store.old) (T.state out.old) result
         (S.state store.new) (T.state out.new) }
     ensures complete { Succeeds (map string_bytes words.now) (S.state store.old) (T.state out.old)
