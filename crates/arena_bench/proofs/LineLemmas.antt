@@ -18,6 +18,7 @@ use Rattle.plain_model.specs.Lookups.{AreIdsBelow, id_number}
 use Rattle.plain_model.specs.Soundness.{AreSoundAfter, IsCommitOf, IsFormedEvent, IsFormedSigned, IsSound, IsSoundEvent, are_distinct, has_id}
 use Rattle.plain_model.specs.Streams.{is_marked}
 use Rattle.plain_model.specs.Trees.{Tree}
+use Rattle.plain_model.proofs.Numbers.{eqb_lower}
 use Rattle.event_arena.proofs.SoundLemmas.{has_id-find}
 use Rattle.history_laws.proofs.Commits.{nodes_append}
 use Rattle.std.proofs.Math.Bool.{or-false, or-true}
@@ -25,9 +26,6 @@ use Rattle.history_laws.proofs.Ids.{has_id-append, is_marked-append}
 use Rattle.arena_bench.specs.Lines.{blob, commit, operation, parents_at, who}
 
 -- ---- tests and lists
-
-differ : (a b : ℕ) → a < b → eqb a b ≡ false
-differ a b h = grind (arith, nat_tests)
 
 self : (n : ℕ) → eqb n n ≡ true
 self n = grind (arith, nat_tests)
@@ -85,11 +83,11 @@ who-formed : IsFormedSigned who
 who-formed = (refl, lit≤ tt, lit≤ tt)
 
 blob-not : (n m : ℕ) (bytes : List ℕ) (id : AnyId) → n < id_number id → has_id (plain.Blob n m bytes ∷ []) id ≡ false
-blob-not n m bytes (any.Blob x) h = rw (differ n x h) refl
+blob-not n m bytes (any.Blob x) h = rw (eqb_lower n x h) refl
 blob-not n m bytes _ h = refl
 
 commit-not : (step : ℕ) (id : AnyId) → 2 * step + 2 < id_number id → has_id (commit step ∷ []) id ≡ false
-commit-not step (any.Commit x) h = rw (differ (2 * step + 2) x h) refl
+commit-not step (any.Commit x) h = rw (eqb_lower (2 * step + 2) x h) refl
 commit-not step _ h = refl
 
 module _ (step : ℕ) (events : List PlainEvent) (h : IsLine step events) where
@@ -101,7 +99,7 @@ module _ (step : ℕ) (events : List PlainEvent) (h : IsLine step events) where
   commit-sound =
       let new = any.Commit (2 * step + 2) in (
         has_id-append events (blob step ∷ []) new ∙ ap (λ t. t || false) (h.ids new (omega arith)),
-        is_marked-append events (blob step ∷ []) (2 * step + 2) ∙ (λ i. h.marks (2 * step + 2) (omega arith) i || (differ (2 * step + 1) (2 * step + 2) (omega arith) i || false)),
+        is_marked-append events (blob step ∷ []) (2 * step + 2) ∙ (λ i. h.marks (2 * step + 2) (omega arith) i || (eqb_lower (2 * step + 1) (2 * step + 2) (omega arith) i || false)),
         refl,
         who-formed,
         who-formed,
@@ -141,8 +139,8 @@ module _ (step : ℕ) (events : List PlainEvent) (h : IsLine step events) where
   unfolding mid
   no-later-mark m low =
       is_marked-append mid (commit step ∷ []) m
-      ∙ (λ i. (is_marked-append events (blob step ∷ []) m ∙ (λ j. h.marks m (omega arith) j || (differ (2 * step + 1) m (omega arith) j || false))) i
-      || (differ (2 * step + 2) m (omega arith) i || false))
+      ∙ (λ i. (is_marked-append events (blob step ∷ []) m ∙ (λ j. h.marks m (omega arith) j || (eqb_lower (2 * step + 1) m (omega arith) j || false))) i
+      || (eqb_lower (2 * step + 2) m (omega arith) i || false))
 
   is-last : has_id (mid ++ commit step ∷ []) (any.Commit (2 * (step + 1))) ≡ true
   is-last =

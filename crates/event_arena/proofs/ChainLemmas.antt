@@ -4,19 +4,16 @@ use Rattle.std.proofs.lemmas.List.{reverse-append, length-reverse}
 use Rattle.std.proofs.lemmas.Bool.{cases_Bool}
 use Rattle.std.proofs.lemmas.Bool.Decides.{nat_tests}
 use Rattle.std.proofs.Math.ListN.{set}
-use Rattle.history_laws.proofs.Ids.{eqb_turned}
+use Rattle.plain_model.proofs.Numbers.{eqb_turned, eqb_lower}
 use Rattle.event_arena.specs.declared.links.Link.{Link}
 use Rattle.event_arena.specs.Chains.{follow, chain_at, IsBelow, AreBack, AllBelow}
-
-not_here : (k n : ℕ) → k < n → eqb k n ≡ false
-not_here k n h = grind (arith, nat_tests)
 
 here : (n : ℕ) → eqb n n ≡ true
 here n = grind (arith, nat_tests)
 
 -- a new link changes no chain
 pub chain-new : (l : Link) (older : List Link) (k : ℕ) → k < length older → chain_at (l ∷ older) k ≡ chain_at older k
-chain-new l older k h = rw (not_here k (length older) h) refl
+chain-new l older k h = rw (eqb_lower k (length older) h) refl
 
 pub follow-new : (l : Link) (older : List Link) (o : Option ℕ) → IsBelow (length older) o → follow (chain_at (l ∷ older)) o ≡ follow (chain_at older) o
 follow-new l older None h = refl
@@ -75,7 +72,7 @@ link_at (l ∷ older) k d = cond (eqb k (length older)) l (link_at older k d)
 
 link_at-push-zero : (ys : List Link) (x d : Link) → link_at (ys ++ x ∷ []) 0 d ≡ x
 link_at-push-zero [] x d = refl
-link_at-push-zero (y ∷ ys) x d = rw (length_push ys x) (rw (not_here 0 (suc (length ys)) (omega arith)) (link_at-push-zero ys x d))
+link_at-push-zero (y ∷ ys) x d = rw (length_push ys x) (rw (eqb_lower 0 (suc (length ys)) (omega arith)) (link_at-push-zero ys x d))
   where
     length_push : (ys : List Link) (x : Link) → length (ys ++ x ∷ []) ≡ suc (length ys)
     length_push [] x = refl

@@ -12,7 +12,7 @@ use Rattle.plain_model.specs.Marks.{IsMark}
 use Rattle.plain_model.specs.Soundness.{AreSoundAfter, IsCommitOf, IsFormedEvent, IsFormedSigned, IsSound}
 use Rattle.event_arena.specs.Changes.{IsOrderOf, without}
 use Rattle.event_arena.specs.Examples.{example, front, other_order, reset, signed, tag}
-use Rattle.event_arena.proofs.MeasureLemmas.{ids-below}
+use Rattle.history_laws.proofs.Ids.{ids-below}
 
 signed-formed : (n : ℕ) → n ≤ 250000000000 → IsFormedSigned (signed n)
 signed-formed n h = (refl, h, lit≤ tt)

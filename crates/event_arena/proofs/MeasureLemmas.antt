@@ -1,9 +1,9 @@
 -- What a list of events comes to.
-use Rattle.std.proofs.Common.{◌≡◌, ◌∙◌, ℕ, zero, suc, ◌+◌, ◌<◌, ◌≤◌, inl, inr, List, [], ◌∷◌, Some, refl, sym, ap, subst, length, take, max, arith, length-append}
+use Rattle.std.proofs.Common.{◌≡◌, ◌∙◌, ℕ, zero, suc, ◌+◌, ◌<◌, ◌≤◌, inl, inr, List, [], ◌∷◌, Some, refl, sym, ap, length, take, max, arith, length-append}
 use Rattle.std.proofs.lemmas.Bool.{cases_Bool, true≢false}
 use Rattle.std.proofs.lemmas.List.{length-take}
 use Rattle.std.proofs.lemmas.Option.{none-some, same_Some}
-use Rattle.std.specs.List.{AllByRecursion, fold}
+use Rattle.std.specs.List.{fold}
 use Rattle.std.specs.Prelude.{flat_map, map, slice_get, IsSome}
 use Rattle.plain_model.specs.declared.id.AnyId.{AnyId}
 use Rattle.plain_model.specs.declared.event.PlainEvent.{PlainEvent}
@@ -83,10 +83,3 @@ below-next es = along es 1
           omega arith
       | inr no_it ↦ along es (max a (id_number (id_of e) + 1)) id (rw no_it at h)
     ]
-
-pub ids-below : (bound : ℕ) (es : List PlainEvent) → AllByRecursion (λ e. id_number (id_of e) < bound) es → AreIdsBelow bound es
-ids-below bound [] h id there = absurd (true≢false (sym there))
-ids-below bound (e ∷ es) h id there = elim (cases_Bool (same_id id (id_of e))) [
-  | inl it ↦ subst (λ x. id_number x < bound) (sym (same_id-true id (id_of e) it)) h.0
-  | inr no_it ↦ ids-below bound es h.1 id (rw no_it at there)
-]

@@ -26,7 +26,7 @@ use Rattle.plain_model.specs.Text.{marked, person, raw_content_text, raw_op_text
 use Rattle.plain_model.specs.Fields.{first_word, after_space, or_defect, mark_in, person_in, path_in, mode_in, content_in, marked_content, inline_content, is_any_hex, is_left_out_id, last_path_in, modify_in, paths_in, op_in, HasItsContent, ContentFits, OpFits, Extent, extent_by, extent_in, data_text, block_at, block_after, block_in}
 use Rattle.plain_model.specs.Fields.{◌>>=◌ as ◌then_field◌}
 use Rattle.field_laws.proofs.FieldSteps.{ok_then, or_defect_found}
-use Rattle.field_laws.proofs.Lines.{eqb_turned}
+use Rattle.plain_model.proofs.Numbers.{eqb_turned}
 use Rattle.field_laws.proofs.Numerals.{mark_read, numeral_read}
 use Rattle.field_laws.proofs.Persons.{all_pass, digit_isnt, person_in_read}
 use Rattle.field_laws.proofs.Written.{mark_numeral, person_written}

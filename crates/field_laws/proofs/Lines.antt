@@ -1,15 +1,15 @@
 -- Lines and words: they are cut off exactly where the text has them.
-use Rattle.std.proofs.Common.{◌≡◌, inl, inr, ℕ, suc, ◌+◌, ◌<◌, ◌≤◌, Bool, true, false, cond, not, ltb, eqb, [], ◌∷◌, ◌++◌, length, take, drop, get_or, Option, Some, None, refl, sym, ap, subst, ◌∙◌, arith, eqb-true, eq-eqb, ne_eqb, lt-ltb, le-ltb, length-append, take_at, drop_at, drop-drop, append_assoc}
+use Rattle.std.proofs.Common.{◌≡◌, inl, inr, ℕ, suc, ◌+◌, ◌≤◌, Bool, true, false, cond, not, ltb, [], ◌∷◌, ◌++◌, length, take, drop, get_or, Option, Some, None, refl, sym, ap, subst, ◌∙◌, arith, eqb-true, eq-eqb, lt-ltb, le-ltb, length-append, take_at, drop_at, drop-drop}
 use Rattle.std.specs.Prelude.{◌==◌, ◌&&◌, nat_eq, is_some}
 use Rattle.std.specs.Cmp.Lexicographic.{pointwise, same_text}
 use Rattle.std.specs.List.{list_all, position, prefix_len}
-use Rattle.std.proofs.lemmas.Bool.{cases_Bool, and_parts, and_from, cond-true, cond-false, eqb-false, ltb-false}
+use Rattle.std.proofs.lemmas.Bool.{and_parts, and_from, cond-true, cond-false, ltb-false}
 use Rattle.std.proofs.lemmas.List.{take-append-drop, drop_more, take_all}
 use Rattle.std.proofs.lemmas.List.Quantifiers.{position-Some}
-use Rattle.std.proofs.lemmas.Option.{same_Some, none-some, cond_some, some_pair_parts}
+use Rattle.std.proofs.lemmas.Option.{none-some, cond_some, some_pair_parts}
 use Rattle.plain_model.specs.Paths.{Bytes}
 use Rattle.plain_model.specs.Parts.{IsLine, begins}
-use Rattle.plain_model.specs.Parts.{cut_parts, cut_at, is_lf, line_cut, line_at, rest_after, skip_lf}
+use Rattle.plain_model.specs.Parts.{cut_parts, cut_at, is_lf, line_cut, line_at, rest_after}
 use Rattle.field_laws.proofs.Steps.{is_some-cond}
 
 -- ---- the first byte that passes a test
@@ -109,19 +109,6 @@ cut_none b text e = go (position (λ c. c == b) text) refl e
 
 -- ---- lines
 
--- a line is cut off the text
-pub line_is : (text line rest : Bytes) → line_at text ≡ Some (line, rest) → IsLine text line rest
-unfolding line_at
-line_is [] line rest e = absurd (none-some {A = Bytes × Bytes} (line, rest) e)
-line_is (b ∷ bs) line rest e =
-    subst (λ (l : Bytes × Bytes). IsLine (b ∷ bs) l.0 l.1) (same_Some {A = Bytes × Bytes} (line_cut (b ∷ bs) (position is_lf (b ∷ bs))) (line, rest) e) (go (position is_lf (b ∷ bs)) refl)
-  where
-    go : (o : Option ℕ) → position is_lf (b ∷ bs) ≡ o → (let l = line_cut (b ∷ bs) o in IsLine (b ∷ bs) l.0 l.1)
-    go None f = (position_none is_lf (b ∷ bs) f, inr (refl, refl, omega arith))
-    go (Some i) f =
-        let parts = position_is is_lf (b ∷ bs) i f in
-        (parts.0, inl (parts.2 ∙ ap (λ c. take i (b ∷ bs) ++ c ∷ drop (i + 1) (b ∷ bs)) (eqb-true (get_or (b ∷ bs) i 0) 10 parts.1)))
-
 line_cut_off : (text : Bytes) → 1 ≤ length text → line_at text ≡ Some (line_cut text (position is_lf text))
 unfolding line_at
 line_cut_off [] h = absurd (omega arith)
@@ -146,12 +133,6 @@ unfolding rest_after
 after_is word text rest e =
     let c = cond_some (pointwise nat_eq (take (length word) text) word) (drop (length word) text) rest e in
     sym (take-append-drop (length word) text) ∙ (λ j. same_text (take (length word) text) word (sym c.0) j ++ c.1 j)
-
-pub eqb_turned : (a b : ℕ) → eqb a b ≡ eqb b a
-eqb_turned a b = elim (cases_Bool (eqb b a)) [
-  | inl same ↦ eq-eqb a b (sym (eqb-true b a same)) ∙ sym same
-  | inr other ↦ ne_eqb a b (λ e. eqb-false b a other (sym e)) ∙ sym other
-]
 
 begins_same : (word text : Bytes) → pointwise nat_eq (take (length word) text) word ≡ begins word text
 begins_same [] text = refl

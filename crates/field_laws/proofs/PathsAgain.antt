@@ -16,7 +16,7 @@ use Rattle.plain_model.specs.Fields.Turn.{Ends, Says, GoesOn}
 use Rattle.field_laws.proofs.Quoted.{by_turn}
 use Rattle.plain_model.specs.Text.{quoted_byte, quoted, begins_quoted, path_text}
 use Rattle.field_laws.proofs.FieldSteps.{ok_then}
-use Rattle.field_laws.proofs.Lines.{eqb_turned}
+use Rattle.plain_model.proofs.Numbers.{eqb_turned}
 use Rattle.field_laws.proofs.Words.{has_no_space, first_word-space, first_word-whole}
 
 -- both are false where either would be true

@@ -1,24 +1,19 @@
 -- Ids in lists of events, and whether an id is that of some event.
-use Rattle.std.proofs.Common.{◌≡◌, ℕ, true, false, List, [], ◌∷◌, ◌++◌, refl, sym, ap, ◌∙◌, inl, inr, eqb, eqb-true, eq-eqb, ne_eqb}
+use Rattle.std.proofs.Common.{◌≡◌, ℕ, ◌<◌, subst, true, false, List, [], ◌∷◌, ◌++◌, refl, sym, ap, ◌∙◌, inl, inr, eqb-true, eq-eqb}
 use Rattle.std.specs.Prelude.{◌==◌, ◌||◌, option_to_list}
+use Rattle.std.specs.List.{AllByRecursion}
 use Rattle.std.proofs.Math.Bool.{or_assoc}
-use Rattle.std.proofs.lemmas.Bool.{cases_Bool, eqb-false, or_left, or_right, true≢false}
+use Rattle.std.proofs.lemmas.Bool.{cases_Bool, or_left, or_right, true≢false}
 use Rattle.plain_model.specs.declared.id.AnyId.{AnyId}
 use Rattle.plain_model.specs.declared.id.AnyId.TheVariants as any
 use Rattle.plain_model.specs.declared.event.PlainEvent.{PlainEvent}
 use Rattle.plain_model.specs.declared.event.PlainEvent.TheVariants.{Blob, Commit, Tag, Reset, Pass}
-use Rattle.plain_model.specs.Lookups.{id_of, id_number, same_id}
+use Rattle.plain_model.specs.Lookups.{AreIdsBelow, id_of, id_number, same_id}
 use Rattle.plain_model.specs.Soundness.{IsSoundEvent, has_id}
 use Rattle.plain_model.specs.Streams.{is_among, is_marked}
+use Rattle.plain_model.proofs.Numbers.{eqb_turned}
 
 -- ---- the test of ids
-
--- whether two numbers are equal may be asked either way
-pub eqb_turned : (a b : ℕ) → eqb a b ≡ eqb b a
-eqb_turned a b = elim (cases_Bool (eqb b a)) [
-  | inl same ↦ eq-eqb a b (sym (eqb-true b a same)) ∙ sym same
-  | inr other ↦ ne_eqb a b (λ e. eqb-false b a other (sym e)) ∙ sym other
-]
 
 pub same_id-true : (a b : AnyId) → same_id a b ≡ true → a ≡ b
 same_id-true (any.Blob a) (any.Blob b) h = ap any.Blob (eqb-true a b h)
@@ -128,3 +123,11 @@ is_marked-append (Tag id name target tagger comment mark ∷ a) b m =
     ap (λ t. is_among (option_to_list mark) m || t) (is_marked-append a b m) ∙ sym (or_assoc (is_among (option_to_list mark) m) (is_marked a m) (is_marked b m))
 is_marked-append (Reset id branch target ∷ a) b m = is_marked-append a b m
 is_marked-append (Pass id line ∷ a) b m = is_marked-append a b m
+
+-- ids of events that are below a bound, one by one, are below it
+pub ids-below : (bound : ℕ) (es : List PlainEvent) → AllByRecursion (λ e. id_number (id_of e) < bound) es → AreIdsBelow bound es
+ids-below bound [] h id there = absurd (true≢false (sym there))
+ids-below bound (e ∷ es) h id there = elim (cases_Bool (same_id id (id_of e))) [
+  | inl it ↦ subst (λ x. id_number x < bound) (sym (same_id-true id (id_of e) it)) h.0
+  | inr no_it ↦ ids-below bound es h.1 id (rw no_it at there)
+]

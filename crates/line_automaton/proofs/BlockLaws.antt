@@ -16,7 +16,8 @@ use Rattle.line_automaton.specs.Machine.Outcome.{Reads, Refuses, Misses}
 use Rattle.line_automaton.specs.Lines.{line_count, number_after, extent_after, HasDelimiter}
 use Rattle.line_automaton.proofs.Runs.{over, stays}
 use Rattle.line_automaton.proofs.FirstLines.{inside_after}
-use Rattle.line_automaton.proofs.LineLaws.{line_is, line_count-rest, line_count-skip_lf, lines_left, lines_left-some, line_count-left, lines_left-append}
+use Rattle.plain_model.proofs.Lines.{line_is}
+use Rattle.line_automaton.proofs.LineLaws.{line_count-rest, line_count-skip_lf, lines_left, lines_left-some, line_count-left, lines_left-append}
 use Rattle.line_automaton.proofs.DrivingLaws.{after_line, first_line, block_end, block_cut, after_nothing, after_lf, after_byte}
 
 -- ---- the rest after a block

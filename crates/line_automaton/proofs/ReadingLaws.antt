@@ -11,7 +11,8 @@ use Rattle.line_automaton.specs.Machine.Mode.{InLine}
 use Rattle.line_automaton.specs.Machine.Machine.{At}
 use Rattle.line_automaton.specs.Machine.Outcome.{Reads, Refuses, Misses}
 use Rattle.line_automaton.specs.Lines.{line_count, number_after, outcome_at, extent_after, HasDelimiter}
-use Rattle.line_automaton.proofs.LineLaws.{line_is, line_is_one}
+use Rattle.plain_model.proofs.Lines.{line_is}
+use Rattle.line_automaton.proofs.LineLaws.{line_is_one}
 use Rattle.line_automaton.proofs.BlockLaws as blocks
 use Rattle.line_automaton.proofs.CursorLaws as cursors
 

@@ -1,17 +1,15 @@
 -- The worked histories are sound, and their ids are low.
-use Rattle.std.proofs.Common.{ℕ, ◌≤◌, ◌<◌, inl, inr, List, [], ◌∷◌, refl, sym, subst, true, eqb, lit≤, rules}
+use Rattle.std.proofs.Common.{ℕ, ◌≤◌, inl, inr, refl, sym, subst, eqb, lit≤, rules}
 use Rattle.std.proofs.lemmas.Bool.{cases_Bool, eqb-true, true≢false}
-use Rattle.std.specs.List.{AllByRecursion}
 use Rattle.std.specs.Prelude.{IsSome}
-use Rattle.plain_model.specs.declared.event.PlainEvent.{PlainEvent}
 use Rattle.plain_model.specs.declared.id.AnyId.TheVariants as any
 use Rattle.plain_model.specs.Histories.{tree}
-use Rattle.plain_model.specs.Lookups.{AreIdsBelow, id_number, id_of, same_id}
+use Rattle.plain_model.specs.Lookups.{AreIdsBelow}
 use Rattle.plain_model.specs.Soundness.{IsCommitOf, IsFormedSigned, IsSound}
-use Rattle.history_laws.proofs.Ids.{same_id-true}
-use Rattle.listing.specs.Examples.{exported, rarer, signed}
+use Rattle.history_laws.proofs.Ids.{ids-below}
+use Rattle.listing.specs.Examples.{exported, rarer, by_ann}
 
-formed : (n : ℕ) → n ≤ 250000000000 → IsFormedSigned (signed n)
+formed : (n : ℕ) → n ≤ 250000000000 → IsFormedSigned (by_ann n)
 formed n h = (refl, h, lit≤ tt)
 
 exported_trees : (c : ℕ) → IsCommitOf exported c → IsSome (tree exported c)
@@ -112,17 +110,10 @@ rarer_sound = record {
 
 -- ---- ids
 
-low : (bound : ℕ) (events : List PlainEvent) → AllByRecursion (λ e. id_number (id_of e) < bound) events → AreIdsBelow bound events
-low bound [] all id there = absurd (true≢false (sym there))
-low bound (e ∷ events) all id there = elim (cases_Bool (same_id id (id_of e))) [
-  | inl it ↦ subst (λ i. id_number i < bound) (sym (same_id-true id (id_of e) it)) all.0
-  | inr no_it ↦ low bound events all.1 id (rw no_it at there)
-]
-
 pub exported_low : AreIdsBelow 4611686018427387904 exported
 unfolding exported
-exported_low = low 4611686018427387904 exported (search rules)
+exported_low = ids-below 4611686018427387904 exported (search rules)
 
 pub rarer_low : AreIdsBelow 4611686018427387904 rarer
 unfolding rarer
-rarer_low = low 4611686018427387904 rarer (search rules)
+rarer_low = ids-below 4611686018427387904 rarer (search rules)

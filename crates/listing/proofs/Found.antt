@@ -11,7 +11,7 @@ use Rattle.plain_model.specs.Snapshots.{commit_mark}
 use Rattle.plain_model.specs.declared.limit.TheConstants.{MAX_SECONDS}
 use Rattle.plain_model.specs.declared.person.Signed.{Signed}
 use Rattle.plain_model.specs.Soundness.{AreSoundAfter, IsFormedSigned, IsSoundEvent}
-use Rattle.history_laws.proofs.Ids.{eqb_turned}
+use Rattle.plain_model.proofs.Numbers.{eqb_turned}
 use Rattle.listing.specs.Finding.{IsDated, own_commit_mark}
 
 -- ---- dates and marks

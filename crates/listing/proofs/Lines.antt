@@ -1,6 +1,8 @@
--- The first line of a comment, as a search for its end tells it; walks along a list.
-use Rattle.std.proofs.Common.{◌≡◌, ◌∙◌, ℕ, zero, suc, ◌+◌, ◌<◌, ◌≤◌, Bool, true, false, List, [], ◌∷◌, ◌++◌, Some, None, refl, sym, ap, length, get_or, take, drop, arith, zero-le, ◌-◌, add-one, append_assoc}
+-- The first line of a comment, as a search for its end finds it; walks along a list.
+use Rattle.std.proofs.Common.{◌≡◌, ◌∙◌, ℕ, zero, suc, ◌+◌, ◌<◌, ◌≤◌, true, false, List, [], ◌∷◌, ◌++◌, Some, None, refl, sym, ap, length, get_or, take, drop, arith, zero-le, ◌-◌, add-one, append_assoc}
 use Rattle.std.proofs.Math.ListN.{drop_of_length-le}
+use Rattle.std.proofs.Math.Seq.{take-length}
+use Rattle.std.proofs.lemmas.Bool.{false_from_ne_true}
 use Rattle.std.proofs.lemmas.List.{append-nil}
 use Rattle.std.specs.Prelude.{◌==◌, flat_map, replicate, slice_get}
 use Rattle.memchr.specs.Find.{IsFirstByte, is_byte}
@@ -10,10 +12,6 @@ use Rattle.plain_model.specs.Snapshots.{refs_after}
 use Rattle.plain_model.specs.Trees.{TreeOf}
 use Rattle.event_arena.proofs.ListLemmas.{drop-item}
 use Rattle.listing.specs.Listings.{first_line}
-
-not_passed : (t : Bool) → (t ≡ true → ⊥) → t ≡ false
-not_passed true h = absurd (h refl)
-not_passed false h = refl
 
 -- bytes up to a place, before which there is no LF, and at which there is one if the text goes on
 up_to : (text : List ℕ) (k : ℕ) → k ≤ length text → ((j : ℕ) → j < k → (get_or text j 0 == 10) ≡ false)
@@ -25,19 +23,15 @@ up_to (b ∷ bs) (suc k) within before at =
     let rest = up_to bs k (omega arith) (λ j lt. before (suc j) (omega arith)) (λ lt. at (omega arith)) in
     rw (before 0 (omega arith)) (ap (λ line. b ∷ line) rest)
 
-whole : (text : List ℕ) → take (length text) text ≡ text
-whole [] = refl
-whole (b ∷ bs) = ap (λ line. b ∷ line) (whole bs)
-
 pub first_cut : (text : List ℕ) (k : ℕ) → IsFirstByte (is_byte 10) text (Some k) → take k text ≡ first_line text
 first_cut text k h =
-    let before = λ (j : ℕ) (lt : j < k). not_passed (get_or text j 0 == 10) (h.0.before j zero-le lt) in
+    let before = λ (j : ℕ) (lt : j < k). false_from_ne_true (get_or text j 0 == 10) (h.0.before j zero-le lt) in
     up_to text k (omega (arith, h.0.high)) before (λ lt. h.1)
 
 pub first_whole : (text : List ℕ) → IsFirstByte (is_byte 10) text None → text ≡ first_line text
 first_whole text h =
-    let nowhere = λ (j : ℕ) (lt : j < length text). not_passed (get_or text j 0 == 10) (h j zero-le lt) in
-    sym (whole text) ∙ up_to text (length text) (omega arith) nowhere (λ lt. absurd (omega arith))
+    let nowhere = λ (j : ℕ) (lt : j < length text). false_from_ne_true (get_or text j 0 == 10) (h j zero-le lt) in
+    sym (take-length text) ∙ up_to text (length text) (omega arith) nowhere (λ lt. absurd (omega arith))
 
 module _ {X : Type 0} where
   -- a list of which the first so many items are

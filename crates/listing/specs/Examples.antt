@@ -14,8 +14,8 @@ use Rattle.plain_model.specs.Paths.{Bytes}
 use Rattle.listing.specs.Listings.{index_text, list_text, names_text}
 
 -- Ann, at so many seconds
-abbrev pub signed : ℕ → Signed
-signed seconds = record {
+abbrev pub by_ann : ℕ → Signed
+by_ann seconds = record {
   person = record { name = codes "Ann"; email = codes "ann@example.com" };
   when = record { seconds = seconds; minus = false; offset = 200 };
 }
@@ -28,7 +28,7 @@ master = codes "refs/heads/master"
 -- a commit by Ann
 abbrev pub commit : ℕ → ℕ → Bytes → ℕ → Bytes → List ℕ → FileOp → PlainEvent
 commit id mark branch seconds comment parents op =
-    Commit id mark branch (signed seconds) (signed seconds) None comment parents (op ∷ []) []
+    Commit id mark branch (by_ann seconds) (by_ann seconds) None comment parents (op ∷ []) []
 
 abbrev pub put_file : ℕ → Bytes → FileOp
 put_file blob path = Modify Plain (OfBlob blob) path
@@ -47,7 +47,7 @@ exported =
     ∷ commit 6 5 master 1306282800 (codes "second\n") (3 ∷ []) put_link
     ∷ commit 7 6 master 1306283400 (codes "merge\n") (6 ∷ 5 ∷ []) (put_file 4 (codes "lib.c"))
     ∷ Reset 8 (codes "refs/tags/light") (Some 7)
-    ∷ Tag 9 (codes "v1.0") 7 (Some (signed 1306284000)) (codes "release\n") None
+    ∷ Tag 9 (codes "v1.0") 7 (Some (by_ann 1306284000)) (codes "release\n") None
     ∷ []
 
 pub record ExportedLists : Type 0 where
@@ -77,7 +77,7 @@ pub record ExportedLists : Type 0 where
 
 -- a commit by Ann that another day was committed
 abbrev pub plain_commit : ℕ → ℕ → Bytes → ℕ → Bytes → List ℕ → List ℕ → PlainEvent
-plain_commit id mark branch seconds comment parents aliases = Commit id mark branch (signed 5) (signed seconds) None comment parents [] aliases
+plain_commit id mark branch seconds comment parents aliases = Commit id mark branch (by_ann 5) (by_ann seconds) None comment parents [] aliases
 
 -- a line that is passed through; comments without an LF, empty and of two lines; an alias, and a tag that has a mark,
 -- neither of which is shown; a tag without a tagger; a branch that is taken away again, and one that is before
@@ -88,7 +88,7 @@ rarer =
     ∷ plain_commit 2 70 (codes "main") 86400 (codes "no end") [] []
     ∷ plain_commit 3 8 (codes "main") 3 [] (2 ∷ []) (9 ∷ [])
     ∷ Tag 4 (codes "v1") 2 None [] None
-    ∷ Tag 5 (codes "a") 3 (Some (signed 0)) (codes "two\nlines") (Some 80)
+    ∷ Tag 5 (codes "a") 3 (Some (by_ann 0)) (codes "two\nlines") (Some 80)
     ∷ Reset 6 (codes "side") (Some 2)
     ∷ Reset 7 (codes "side") None
     ∷ Reset 8 (codes "Old") (Some 2)

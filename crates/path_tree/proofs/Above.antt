@@ -1,10 +1,10 @@
 -- The paths above a path, by their lengths.
 use Rattle.std.proofs.Common.{◌≡◌, ◌≢◌, ℕ, suc, zero, ◌+◌, ◌<◌, Bool, true, false, [], ◌∷◌, length, take, get_or, refl, sym, ap, subst, ◌∙◌, inl, inr, arith, eqb-true, eq-eqb, true≢false, bytes_eq}
+use Rattle.std.proofs.lemmas.Slice.Eq.{bytes_eq-Decides}
 use Rattle.std.specs.Prelude.{◌&&◌, ◌||◌, ◌==◌, nat_lt}
 use Rattle.std.proofs.lemmas.Bool.{and_parts, and_from, or_left, or_right, or_from, cases_Bool, cases_order, lt-ltb, le-ltb, false_from_ne_true}
 use Rattle.std.proofs.lemmas.List.{length-take-le}
 use Rattle.plain_model.specs.Paths.{Bytes, is_below}
-use Rattle.path_tree.proofs.Orders.{tied_bytes, same_bytes}
 
 -- where a path above another ends
 record EndsAbove (q p : Bytes) : Type 0 where
@@ -47,18 +47,18 @@ more_above p n h s q = elim (cases_Bool (is_below q p)) [
       let at = ends_above q p is in
       elim (cases_order (length q) n) [
         | inl same ↦
-            let is_it : bytes_eq (take n p) q ≡ true = same_bytes (take n p) q (ap (λ k. take k p) (sym same) ∙ at.front) in
+            let is_it : bytes_eq (take n p) q ≡ true = (bytes_eq-Decides (take n p) q).1 (ap (λ k. take k p) (sym same) ∙ at.front) in
             and_from (is_below q p) (nat_lt (length q) (n + 1)) is (lt-ltb (length q) (n + 1) (omega arith)) ∙ sym (or_left (bytes_eq (take n p) q) (is_above_within p n q) is_it)
         | inr (inl less) ↦
             and_from (is_below q p) (nat_lt (length q) (n + 1)) is (lt-ltb (length q) (n + 1) (omega arith))
             ∙ sym (or_right (bytes_eq (take n p) q) (is_above_within p n q) (and_from (is_below q p) (nat_lt (length q) n) is (lt-ltb (length q) n less)))
         | inr (inr more) ↦
-            let other : bytes_eq (take n p) q ≡ false = false_from_ne_true (bytes_eq (take n p) q) (λ e. too_long (ap length (sym (tied_bytes (take n p) q e)) ∙ length-take-le n p (omega arith)) more) in
+            let other : bytes_eq (take n p) q ≡ false = false_from_ne_true (bytes_eq (take n p) q) (λ e. too_long (ap length (sym ((bytes_eq-Decides (take n p) q).0 e)) ∙ length-take-le n p (omega arith)) more) in
             ap (λ b. is_below q p && b) (le-ltb (length q) (n + 1) (omega arith)) ∙ and_no (is_below q p)
             ∙ sym (or_from (bytes_eq (take n p) q) (is_above_within p n q) other (ap (λ b. is_below q p && b) (le-ltb (length q) n (omega arith)) ∙ and_no (is_below q p)))
       ]
   | inr isnt ↦
-      let other : bytes_eq (take n p) q ≡ false = false_from_ne_true (bytes_eq (take n p) q) (λ e. true≢false (sym (subst (λ (x : Bytes). is_below x p ≡ true) (tied_bytes (take n p) q e) (above_slash p n h s)) ∙ isnt)) in
+      let other : bytes_eq (take n p) q ≡ false = false_from_ne_true (bytes_eq (take n p) q) (λ e. true≢false (sym (subst (λ (x : Bytes). is_below x p ≡ true) ((bytes_eq-Decides (take n p) q).0 e) (above_slash p n h s)) ∙ isnt)) in
       ap (λ b. b && nat_lt (length q) (n + 1)) isnt
       ∙ sym (or_from (bytes_eq (take n p) q) (is_above_within p n q) other (ap (λ b. b && nat_lt (length q) n) isnt))
 ]

@@ -1,5 +1,6 @@
 -- What is at each path after a change.
 use Rattle.std.proofs.Common.{◌≡◌, Bool, true, false, cond, not, [], ◌∷◌, refl, sym, ap, subst, ◌∙◌, Option, Some, None, is_some, bytes_eq, true≢false}
+use Rattle.std.proofs.lemmas.Slice.Eq.{bytes_eq-Decides}
 use Rattle.std.specs.Prelude.{◌&&◌, ◌||◌, Result, Ok, Err, OnOk}
 use Rattle.std.specs.Ordering.{is_eq, eq_by_cmp}
 use Rattle.std.specs.Cmp.{tied_itself}
@@ -11,7 +12,7 @@ use Rattle.plain_model.specs.Trees.{TreeOf, at, has, put, where_path}
 use Rattle.history_laws.proofs.TreeLaws.{by_bytes, same_path, at_where, at_put}
 use Rattle.path_tree.specs.Exchanges.{DiffersAt, with_none, has_alone}
 use Rattle.path_tree.specs.PathMaps.{IsInOrder, Becomes, with_those}
-use Rattle.path_tree.proofs.Orders.{first, second, none_before, same_tree, tied_bytes, turned_bytes}
+use Rattle.path_tree.proofs.Orders.{first, second, none_before, same_tree, turned_bytes}
 
 -- a value that isn't there
 pub not_there : {X : Type 0} (o : Option X) → is_some o ≡ false → o ≡ None
@@ -196,7 +197,7 @@ module _ {X : Type 0} where
   one_put p x from base h = record {
     at_each = λ q.
         at_put p q x base ∙ ap (λ t. cond t (Some x) (at base q)) (turned_bytes p q)
-        ∙ one_of (bytes_eq p q) x (at from q) (at base q) (λ t. ap (at from) (sym (tied_bytes p q t)) ∙ h);
+        ∙ one_of (bytes_eq p q) x (at from q) (at base q) (λ t. ap (at from) (sym ((bytes_eq-Decides p q).0 t)) ∙ h);
     in_order = entries.is_sorted-put by_bytes nat_list_cmp_total p x base;
   }
 
@@ -206,7 +207,7 @@ module _ {X : Type 0} where
 
   pub none_put : (p : Bytes) (from base : TreeOf X) → at from p ≡ None → Becomes (with_those (bytes_eq p) from base) base base
   none_put p from base h = record {
-    at_each = λ q. none_of (bytes_eq p q) (at from q) (at base q) (λ t. ap (at from) (sym (tied_bytes p q t)) ∙ h);
+    at_each = λ q. none_of (bytes_eq p q) (at from q) (at base q) (λ t. ap (at from) (sym ((bytes_eq-Decides p q).0 t)) ∙ h);
     in_order = λ k. k;
   }
 

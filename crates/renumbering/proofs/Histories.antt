@@ -5,7 +5,7 @@ use Rattle.std.specs.Prelude.{IsSome}
 use Rattle.plain_model.specs.Histories.{tree}
 use Rattle.plain_model.specs.Lookups.{AreIdsBelow}
 use Rattle.plain_model.specs.Soundness.{AreSoundAfter, IsCommitOf, IsFormedSigned, IsSound}
-use Rattle.event_arena.proofs.MeasureLemmas.{ids-below}
+use Rattle.history_laws.proofs.Ids.{ids-below}
 use Rattle.renumbering.specs.Worked.{ann, counted, falling}
 use Rattle.renumbering.proofs.Sound.{sound_again}
 

@@ -31,10 +31,6 @@ use Rattle.field_laws.proofs.FieldSteps.{bind_ok, or_defect_is, same_Ok}
 
 -- ---- what is read without a defect
 
--- bytes that compare as equal
-bytes_same : (xs ys : Bytes) → bytes_eq xs ys ≡ true → xs ≡ ys
-bytes_same xs ys h = (bytes_eq-Decides xs ys).0 h
-
 -- the next field after it
 pub bind_to : {A B : Type 0} (r : Result A Why) (f : A → Result B Why) {x : A} {y : Result B Why} → r ≡ Ok x → f x ≡ y → (r >>= f) ≡ y
 bind_to r f e h = ap (λ q. q >>= f) e ∙ h
@@ -180,7 +176,7 @@ op_alike events c line op is h = go (bytes_eq line (codes "deleteall")) refl is
         (rawop.DeleteAll, ap op_in e, sym (same_Ok DeleteAll op k), λ q. absurd cc)
 
     go : (b : Bool) → bytes_eq line (codes "deleteall") ≡ b → (is_operation (first_word line) || b) ≡ true → ReadAlike events line op
-    go true x w = clears (bytes_same line (codes "deleteall") x)
+    go true x w = clears ((bytes_eq-Decides line (codes "deleteall")).0 x)
     go false x w =
         let a = by_word (bytes_eq (first_word line) (codes "M")) (bytes_eq (first_word line) (codes "D")) (bytes_eq (first_word line) (codes "C")) (bytes_eq (first_word line) (codes "R")) refl w h in
         (a.0, cond-false (bytes_eq line (codes "deleteall")) (Ok rawop.DeleteAll) _ x ∙ a.1, a.2, a.3)

@@ -3,7 +3,7 @@ use Rattle.std.proofs.Common.{◌≡◌, ℕ, suc, ◌+◌, Bool, true, false, c
 use Rattle.std.specs.Prelude.{◌==◌, ◌||◌, not, IsFalse, IsSome, IfSome, flat_map, map}
 use Rattle.std.specs.List.{AllByRecursion, list_any}
 use Rattle.std.proofs.lemmas.Bool.{and_parts, cond-false, cond-true, not-true, or_from, or_parts}
-use Rattle.field_laws.proofs.Lines.{eqb_turned}
+use Rattle.plain_model.proofs.Numbers.{eqb_turned}
 use Rattle.plain_model.specs.declared.id.AnyId.TheVariants as any
 use Rattle.plain_model.specs.declared.event.PlainEvent.{PlainEvent}
 use Rattle.plain_model.specs.declared.event.PlainEvent.TheVariants.{Blob, Commit, Tag, Reset, Pass}

@@ -1,8 +1,9 @@
 -- A line that is passed through leads on to the event that it is.
-use Rattle.std.proofs.Common.{◌≡◌, ℕ, Bool, true, false, cond, not, List, [], ◌∷◌, ◌++◌, length, Result, Ok, refl, sym, ap, subst, ◌∙◌, arith, codes, eq-eqb, eqb-true, length-append, append-nil}
+use Rattle.std.proofs.Common.{◌≡◌, ℕ, Bool, true, false, cond, not, List, [], ◌∷◌, ◌++◌, length, Result, Ok, refl, sym, ap, subst, ◌∙◌, arith, codes, eqb-true, length-append, append-nil}
+use Rattle.std.proofs.lemmas.Slice.Eq.{bytes_eq-Decides}
 use Rattle.std.specs.Prelude.{◌==◌, ◌&&◌, ◌||◌, bytes_eq, IsTrue}
 use Rattle.std.specs.Cmp.Lexicographic.{same_text}
-use Rattle.std.proofs.lemmas.Bool.{and_parts, and_from}
+use Rattle.std.proofs.lemmas.Bool.{and_parts}
 use Rattle.plain_model.specs.declared.fault.Why.{Why}
 use Rattle.plain_model.specs.declared.fault.Why.TheVariants.{LeftOut}
 use Rattle.plain_model.specs.declared.event.PlainEvent.{PlainEvent}
@@ -30,10 +31,6 @@ begins_is (c ∷ w) (b ∷ text) h =
     let parts = and_parts (c == b) (begins w text) h in
     let more = begins_is w text parts.1 in
     (more.0, λ i. sym (eqb-true c b parts.0) i ∷ more.1 i)
-
-same_bytes : (a b : Bytes) → a ≡ b → bytes_eq a b ≡ true
-same_bytes [] b e = subst (λ (l : Bytes). bytes_eq [] l ≡ true) e refl
-same_bytes (x ∷ a) b e = subst (λ (l : Bytes). bytes_eq (x ∷ a) l ≡ true) e (and_from (x == x) (bytes_eq a a) (eq-eqb x x refl) (same_bytes a a refl))
 
 none_left : (rest : Bytes) → length rest ≡ 0 → rest ≡ []
 none_left [] h = refl
@@ -103,7 +100,7 @@ module _ (d : Expected) (between : is_between d ≡ true) (wants : Bool) (events
   is_kept : (text : Bytes) → is_kept_feature text ≡ true → is_left_out_feature text ≡ false
   is_kept text h =
       kept_feature text (begins (codes "feature import-marks") text) (begins (codes "feature date-format=") text) (begins (codes "feature date-format=raw") text) (length text == 23) h
-      (λ b n. same_bytes text (codes "feature date-format=raw") (whole_word (codes "feature date-format=raw") text 23 refl b n))
+      (λ b n. (bytes_eq-Decides text (codes "feature date-format=raw")).1 (whole_word (codes "feature date-format=raw") text 23 refl b n))
 
   pub pass_leads : (text : Bytes) → IsTrue (is_passed_line text) → PassLeads text
   pass_leads text h =

@@ -16,7 +16,7 @@ use Rattle.plain_model.specs.Marks.{IsMark}
 use Rattle.plain_model.specs.Trees.{Tree, TreeOf, at, has}
 use Rattle.plain_model.specs.Parts.{has_no_lf}
 use Rattle.plain_model.specs.Names.{is_name}
-use Rattle.field_laws.proofs.Lines.{eqb_turned}
+use Rattle.plain_model.proofs.Numbers.{eqb_turned}
 use Rattle.stream_grammar.specs.declared.lines.Expected.{Expected}
 use Rattle.stream_grammar.specs.declared.lines.Expected.TheVariants as expected
 use Rattle.stream_grammar.specs.declared.lines.Word.TheVariants as word

@@ -25,7 +25,9 @@ use Rattle.plain_model.specs.Trees.{placed as put_at}
 use Rattle.plain_model.specs.Trees.{◌>>=◌ as ◌then_tree◌}
 use Rattle.plain_model.specs.Trees.Refusal.{PathBytes as LongPath, Paths as ManyPaths}
 use Rattle.stream_grammar.specs.Known.{OpenCommit, next_id, is_empty_list, ensure, placed, tree_now, has_source, modify_after, paths_after, op_after}
+use Rattle.history_laws.proofs.LineLaws.{folded_more}
 use Rattle.stream_grammar.specs.Limits.{limit_of_tree, limit_on, last_limit}
+use Rattle.stream_grammar.proofs.LastOperation.{limit_last}
 use Rattle.stream_grammar.specs.Lines.{text_of, is_inline}
 use Rattle.field_laws.proofs.FieldSteps.{bind_ok, or_defect_is, same_Ok}
 use Rattle.soundness_laws.proofs.FieldsRead.{path_fits, last_path_fits, FitsMode, content_fits}
@@ -197,35 +199,11 @@ one_applied : (r : Result Tree Refusal) → (r then_tree apply_all []) ≡ r
 one_applied (Ok t) = refl
 one_applied (Err e) = refl
 
--- the first operation, and then the others
-folded_first : (o : FileOp) (ops : List FileOp) (t : Option Tree) → folded (o ∷ ops) t ≡ folded ops (folded (o ∷ []) t)
-folded_first o ops None = refl
-folded_first o ops (Some t) = go (apply o t)
-  where
-    go : (r : Result Tree Refusal) → if_ok (r then_tree apply_all ops) ≡ folded ops (if_ok (r then_tree apply_all []))
-    go (Ok u) = refl
-    go (Err e) = refl
-
--- the last operation, after the others
-folded_last : (ops : List FileOp) (op : FileOp) (t : Option Tree) → folded (ops ++ op ∷ []) t ≡ folded (op ∷ []) (folded ops t)
-folded_last [] op None = refl
-folded_last [] op (Some t) = refl
-folded_last (o ∷ ops) op t = folded_first o (ops ++ op ∷ []) t ∙ folded_last ops op (folded (o ∷ []) t) ∙ ap (folded (op ∷ [])) (sym (folded_first o ops t))
-
-limit_first : (o : FileOp) (ops : List FileOp) (op : FileOp) (t : Option Tree) → last_limit (o ∷ ops ++ op ∷ []) t ≡ last_limit (ops ++ op ∷ []) (folded (o ∷ []) t)
-limit_first o [] op t = refl
-limit_first o (x ∷ ops) op t = refl
-
-limit_last : (ops : List FileOp) (op : FileOp) (t : Option Tree) → last_limit (ops ++ op ∷ []) t ≡ limit_on op (folded ops t)
-limit_last [] op None = refl
-limit_last [] op (Some t) = refl
-limit_last (o ∷ ops) op t = limit_first o ops op t ∙ limit_last ops op (folded (o ∷ []) t) ∙ ap (limit_on op) (sym (folded_first o ops t))
-
 -- one more operation leaves a tree, where its source is there and no limit is passed
 pub tree_after : (ops : List FileOp) (op : FileOp) (start : Option Tree) → is_some (folded ops start) ≡ true → HasSource (folded ops start) op → last_limit (ops ++ op ∷ []) start ≡ None
     → is_some (folded (ops ++ op ∷ []) start) ≡ true
 tree_after ops op start there h e =
-    subst (λ (t : Option Tree). is_some t ≡ true) (sym (folded_last ops op start)) (go (folded ops start) there h (sym (limit_last ops op start) ∙ e))
+    subst (λ (t : Option Tree). is_some t ≡ true) (sym (folded_more ops (op ∷ []) start)) (go (folded ops start) there h (sym (limit_last ops op start) ∙ e))
   where
     go : (t : Option Tree) → is_some t ≡ true → HasSource t op → limit_on op t ≡ None → is_some (folded (op ∷ []) t) ≡ true
     go None there h e = absurd cc

@@ -1,5 +1,5 @@
 -- Which limit one more operation passes.
-use Rattle.std.proofs.Common.{◌≡◌, ℕ, ◌+◌, ◌<◌, ◌≤◌, true, false, cond, List, [], ◌∷◌, ◌++◌, length, Option, Some, None, Result, Ok, Err, refl, sym, ap, subst, ◌∙◌, arith, nat_lt}
+use Rattle.std.proofs.Common.{◌≡◌, ℕ, ◌+◌, ◌<◌, ◌≤◌, true, false, cond, List, [], ◌∷◌, ◌++◌, length, Option, Some, Result, Ok, Err, refl, sym, ap, subst, ◌∙◌, arith, nat_lt}
 use Rattle.std.proofs.lemmas.Bool.Decides.{nat_tests}
 use Rattle.plain_model.specs.declared.event.PlainEvent.{PlainEvent}
 use Rattle.plain_model.specs.declared.fault.Which.{Which}
@@ -7,16 +7,15 @@ use Rattle.plain_model.specs.declared.fault.Which.TheVariants.{Events, Operation
 use Rattle.plain_model.specs.declared.fault.Why.{Why}
 use Rattle.plain_model.specs.declared.limit.TheConstants.{MAX_EVENTS, MAX_OPERATIONS}
 use Rattle.plain_model.specs.declared.operation.FileOp.{FileOp}
-use Rattle.plain_model.specs.Histories.{begun, folded, tree}
-use Rattle.plain_model.specs.Trees.{Tree}
+use Rattle.plain_model.specs.Histories.{begun, tree}
 use Rattle.line_automaton.specs.Limits.{Cause}
 use Rattle.stream_grammar.specs.Known.{Known, OpenCommit as KnownCommit, Open as KnownOpen}
 use Rattle.stream_grammar.specs.Known.Open.{Nothing as NoEvent, ABlob, ACommit, ATag, AReset, AnAlias}
-use Rattle.stream_grammar.specs.Limits.{limit_if, limit_on, last_limit, op_limit, op_count, within_limit, ops_in as count_in}
+use Rattle.stream_grammar.specs.Limits.{limit_if, limit_on, op_limit, op_count, within_limit, ops_in as count_in}
 use Rattle.stream_lines.specs.declared.fault.LineFault.{LineFault}
 use Rattle.stream_lines.specs.declared.fault.LineFault.TheVariants as line
 use Rattle.stream_lines.specs.Reading.{Judges}
-use Rattle.history_laws.proofs.LineLaws.{folded_more}
+use Rattle.stream_grammar.proofs.LastOperation.{limit_last}
 use Rattle.stream_builder.specs.declared.known.Trees.{Trees}
 use Rattle.stream_builder.specs.declared.open.Open.{Open}
 use Rattle.stream_builder.specs.declared.open.Open.TheVariants.{Commit}
@@ -24,16 +23,6 @@ use Rattle.stream_builder.specs.declared.open.OpenCommit.{OpenCommit}
 use Rattle.stream_builder.specs.Building.{commit_of, known_of, open_of, with_op}
 use Rattle.stream_builder.specs.Minding.{open_tree}
 use Rattle.stream_builder.specs.Operating.{PutsLast}
-
--- the limit of the last operation
-last_is : (ops : List FileOp) (op : FileOp) (t : Option Tree) → last_limit (ops ++ op ∷ []) t ≡ limit_on op (folded ops t)
-last_is [] op t = ap (limit_on op) (sym (same t))
-  where
-    same : (o : Option Tree) → folded [] o ≡ o
-    same None = refl
-    same (Some u) = refl
-last_is (x ∷ []) op t = refl
-last_is (x ∷ y ∷ ops) op t = last_is (y ∷ ops) op (folded (x ∷ []) t) ∙ ap (limit_on op) (sym (folded_more (x ∷ []) (y ∷ ops) t))
 
 length_last : (ops : List FileOp) (op : FileOp) → length (ops ++ op ∷ []) ≡ length ops + 1
 length_last [] op = refl
@@ -53,7 +42,7 @@ module _ (events : List PlainEvent) (aliases : List (ℕ × ℕ)) (c : OpenCommi
       let one = length_last c.ops op in
       fits MAX_EVENTS (length events + 1 + more) Events _ few
       ∙ fits MAX_OPERATIONS (count_in events + length (c.ops ++ op ∷ [])) Operations _ (omega (arith, one, counted, less))
-      ∙ last_is c.ops op (begun (tree events) c.parents)
+      ∙ limit_last c.ops op (begun (tree events) c.parents)
 
   -- what is expected of one more operation
   abbrev pub expected : Result Known (Cause Why Which)

@@ -2,9 +2,6 @@
 use Rattle.std.proofs.Common.{◌≡◌, ℕ, List, ◌++◌, length, take, ap, ◌∙◌, append_assoc}
 use Rattle.std.proofs.Math.Seq.{take-append_seam, take-length}
 
-pub front_itself : (old : List ℕ) → take (length old) old ≡ old
-front_itself old = take-length old
-
 pub front_one : (old a : List ℕ) → take (length old) (old ++ a) ≡ old
 front_one old a = take-append_seam old a
 
@@ -20,4 +17,4 @@ front_four old a b c d = ap (λ (t : List ℕ). take (length old) (t ++ c ++ d))
 pub front_five : (old a b c d e : List ℕ) → take (length old) (old ++ a ++ b ++ c ++ d ++ e) ≡ old
 front_five old a b c d e = ap (λ (t : List ℕ). take (length old) (t ++ c ++ d ++ e)) (append_assoc old a b) ∙ front_four old (a ++ b) c d e
 
-pub ruleset fronts = (front_itself, front_one, front_two, front_three, front_four, front_five)
+pub ruleset fronts = (take-length, front_one, front_two, front_three, front_four, front_five)

@@ -10,7 +10,7 @@ use Rattle.plain_model.specs.Parts.{IsLine}
 use Rattle.plain_model.specs.declared.fault.Why.{Why}
 use Rattle.plain_model.specs.Fields.{extent_in, block_after, block_in}
 use Rattle.field_laws.proofs.FieldSteps.{ok_then}
-use Rattle.field_laws.proofs.Lines.{line_is}
+use Rattle.plain_model.proofs.Lines.{line_is}
 use Rattle.stream_fields.specs.Cursors.{Position, rest}
 
 -- a text ends in a rest

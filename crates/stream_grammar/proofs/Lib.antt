@@ -2,3 +2,4 @@ mod Completion
 mod Spelled
 mod FirstDefect
 mod Within
+pub mod LastOperation

@@ -10,7 +10,8 @@ use Rattle.line_automaton.specs.Machine.{Outcome, outcome, all}
 use Rattle.line_automaton.specs.Machine.Next.{More, Over}
 use Rattle.line_automaton.specs.Machine.Outcome.{Reads, Misses}
 use Rattle.line_automaton.specs.Lines.{line_count, number_after, outcome_at}
-use Rattle.line_automaton.proofs.LineLaws.{line_is, line_is_one, line_count-end, number_after-at}
+use Rattle.plain_model.proofs.Lines.{line_is}
+use Rattle.line_automaton.proofs.LineLaws.{line_is_one, line_count-end, number_after-at}
 use Rattle.line_automaton.proofs.ReadingLaws as reading
 use Rattle.line_automaton.proofs.BlockLaws as blocks
 use Rattle.line_automaton.proofs.CursorLaws as cursors

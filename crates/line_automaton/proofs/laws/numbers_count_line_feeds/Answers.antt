@@ -1,5 +1,6 @@
 use Rattle.std.proofs.Common.{arith}
-use Rattle.line_automaton.proofs.LineLaws.{line_is, number_after-line, number_after-at, line_count-last}
+use Rattle.plain_model.proofs.Lines.{line_is}
+use Rattle.line_automaton.proofs.LineLaws.{number_after-line, number_after-at, line_count-last}
 use Rattle.line_automaton.proofs.laws.numbers_count_line_feeds.Goals as goal
 
 pub returns : goal.returns
