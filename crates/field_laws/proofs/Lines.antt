@@ -1,6 +1,6 @@
 -- Lines and words: they are cut off exactly where the text has them.
 use Rattle.std.proofs.Common.{◌≡◌, inl, inr, ℕ, suc, ◌+◌, ◌≤◌, Bool, true, false, cond, not, ltb, [], ◌∷◌, ◌++◌, length, take, drop, get_or, Option, Some, None, refl, sym, ap, subst, ◌∙◌, arith, eqb-true, eq-eqb, lt-ltb, le-ltb, length-append, take_at, drop_at, drop-drop}
-use Rattle.std.specs.Prelude.{◌==◌, ◌&&◌, nat_eq, is_some}
+use Rattle.std.specs.Prelude.{◌==◌, ◌&&◌, nat_eq}
 use Rattle.std.specs.Cmp.Lexicographic.{pointwise, same_text}
 use Rattle.std.specs.List.{list_all, position, prefix_len}
 use Rattle.std.proofs.lemmas.Bool.{and_parts, and_from, cond-true, cond-false, ltb-false}
@@ -10,7 +10,7 @@ use Rattle.std.proofs.lemmas.Option.{none-some, cond_some, some_pair_parts}
 use Rattle.plain_model.specs.Paths.{Bytes}
 use Rattle.plain_model.specs.Parts.{IsLine, begins}
 use Rattle.plain_model.specs.Parts.{cut_parts, cut_at, is_lf, line_cut, line_at, rest_after}
-use Rattle.field_laws.proofs.Steps.{is_some-cond}
+use Rattle.plain_model.proofs.Numbers.{eqb_turned}
 
 -- ---- the first byte that passes a test
 
@@ -138,12 +138,6 @@ begins_same : (word text : Bytes) → pointwise nat_eq (take (length word) text)
 begins_same [] text = refl
 begins_same (w ∷ word) [] = refl
 begins_same (w ∷ word) (b ∷ text) = λ j. eqb_turned b w j && begins_same word text j
-
--- what begins with a word has something after it
-pub is_some-rest_after : (word text : Bytes) → is_some (rest_after word text) ≡ begins word text
-unfolding rest_after
-is_some-rest_after word text =
-    is_some-cond (pointwise nat_eq (take (length word) text) word) (drop (length word) text) ∙ begins_same word text
 
 begins_own : (word rest : Bytes) → begins word (word ++ rest) ≡ true
 begins_own [] rest = refl

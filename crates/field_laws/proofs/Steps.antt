@@ -1,6 +1,5 @@
 -- Steps that may not be possible.
 use Rattle.std.proofs.Common.{◌≡◌, Bool, true, false, cond, Option, Some, None, refl, ap, ◌∙◌}
-use Rattle.std.specs.Prelude.{is_some}
 use Rattle.std.proofs.lemmas.Option.{none-some}
 use Rattle.plain_model.specs.Parts.{◌>>=◌}
 
@@ -12,11 +11,6 @@ bind_some None f y e = absurd (none-some y e)
 -- a step that is possible, and the next
 pub some_then : {A B : Type 0} (o : Option A) (f : A → Option B) (x : A) (y : Option B) → o ≡ Some x → f x ≡ y → (o >>= f) ≡ y
 some_then o f x y e h = ap (λ q. q >>= f) e ∙ h
-
--- whether there is a value under a test is the test
-pub is_some-cond : {A : Type 0} (b : Bool) (x : A) → is_some (cond b (Some x) None) ≡ b
-is_some-cond true x = refl
-is_some-cond false x = refl
 
 -- a step under a test
 pub cond_step : {A : Type 0} (b : Bool) (o : Option A) (y : A) → cond b o None ≡ Some y → (b ≡ true) × (o ≡ Some y)

@@ -201,16 +201,6 @@ module _ {X : Type 0} where
     in_order = entries.is_sorted-put by_bytes nat_list_cmp_total p x base;
   }
 
-  none_of : (t : Bool) (o b : Option X) → (t ≡ true → o ≡ None) → b ≡ cond (t && is_some o) o b
-  none_of true o b h = ap (λ u. cond (is_some u) u b) (sym (h refl))
-  none_of false o b h = refl
-
-  pub none_put : (p : Bytes) (from base : TreeOf X) → at from p ≡ None → Becomes (with_those (bytes_eq p) from base) base base
-  none_put p from base h = record {
-    at_each = λ q. none_of (bytes_eq p q) (at from q) (at base q) (λ t. ap (at from) (sym ((bytes_eq-Decides p q).0 t)) ∙ h);
-    in_order = λ k. k;
-  }
-
   -- ---- by one test and another
 
   either : (s t h : Bool) (o b : Option X) → cond (t && h) o (cond (s && h) o b) ≡ cond ((t || s) && h) o b

@@ -1,5 +1,5 @@
 -- Paths that are moved.
-use Rattle.std.proofs.Common.{◌≡◌, Bool, true, false, cond, T, [], ◌∷◌, ◌++◌, length, drop, refl, sym, ap, subst, ◌∙◌, inl, inr, bytes_eq, arith}
+use Rattle.std.proofs.Common.{◌≡◌, Bool, true, false, cond, T, [], ◌∷◌, ◌++◌, length, drop, refl, sym, ap, subst, ◌∙◌, inl, inr, bytes_eq}
 use Rattle.std.specs.Prelude.{◌&&◌, Ok, Err}
 use Rattle.std.specs.Ordering.{is_lt, ordering_then}
 use Rattle.std.specs.Cmp.{tied_itself, nat_cmp_total}
@@ -7,7 +7,7 @@ use Rattle.std.specs.FinMap.Entries as entries
 use Rattle.std.proofs.lemmas.Bool.{or_cases, or_left, or_right, eq-eqb}
 use Rattle.plain_model.specs.Paths.{Bytes, is_below, is_at_or_below, do_conflict, is_in_the_way}
 use Rattle.plain_model.specs.Trees.{TreeOf, has, moved, subtree, has_long_path}
-use Rattle.plain_model.specs.Trees.Refusal.{MissingSource, PathBytes}
+use Rattle.plain_model.specs.Trees.Refusal.{PathBytes}
 use Rattle.history_laws.proofs.PathLaws.{IsRest, After, after}
 use Rattle.history_laws.proofs.TreeLaws.{by_bytes, has_where, has_moved}
 use Rattle.path_tree.specs.Moves.{moved_if_short}
@@ -79,10 +79,6 @@ module _ {X : Type 0} where
       ap (is_at_or_below t) c.is ∙ rest_below t (drop (length s) c.path) b.rest
 
   -- ---- whether they are moved
-
-  pub none_moved : (s t : Bytes) (taken : TreeOf X) → length taken ≡ 0 → moved_if_short s t taken ≡ Err MissingSource
-  none_moved s t [] h = refl
-  none_moved s t (e ∷ es) h = absurd (omega arith)
 
   pub some_moved : (s t : Bytes) (taken : TreeOf X) → (length taken ≡ 0 → ⊥) → moved_if_short s t taken ≡ cond (has_long_path (moved s t taken)) (Err PathBytes) (Ok (moved s t taken))
   some_moved s t [] h = absurd (h refl)

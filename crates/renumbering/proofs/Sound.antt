@@ -1,5 +1,5 @@
--- A sound history stays sound while marks are given, and one such as reading gives it stays one.
-use Rattle.std.proofs.Common.{◌≡◌, ℕ, suc, ◌+◌, ◌<◌, ◌≤◌, true, false, List, [], ◌∷◌, ◌++◌, length, Some, None, refl, sym, ap, subst, ◌∙◌, inl, inr, ◌⊎◌, arith, length-append}
+-- A sound history stays sound while marks are given.
+use Rattle.std.proofs.Common.{◌≡◌, ℕ, ◌+◌, ◌<◌, ◌≤◌, true, false, List, [], ◌∷◌, ◌++◌, length, Some, None, refl, sym, ap, subst, ◌∙◌, inl, inr, ◌⊎◌, arith, length-append}
 use Rattle.std.specs.Prelude.{◌||◌, IsSome}
 use Rattle.std.specs.List.{AllByRecursion}
 use Rattle.std.proofs.lemmas.Bool.{or_cases, false_from_ne_true}
@@ -12,19 +12,15 @@ use Rattle.plain_model.specs.declared.operation.FileOp.{FileOp}
 use Rattle.plain_model.specs.declared.operation.FileOp.TheVariants.{Modify, Delete, Copy, Rename, DeleteAll}
 use Rattle.plain_model.specs.declared.event.PlainEvent.{PlainEvent}
 use Rattle.plain_model.specs.declared.event.PlainEvent.TheVariants.{Blob, Commit, Tag, Reset, Pass}
-use Rattle.plain_model.specs.Snapshots.{refs, refs_after}
-use Rattle.plain_model.specs.Trees.{TreeOf, has}
-use Rattle.plain_model.specs.Lookups.{event_marks, id_number, marks_of, own_marks}
+use Rattle.plain_model.specs.Lookups.{event_marks, marks_of, own_marks}
 use Rattle.plain_model.specs.Soundness.{AreSoundAfter, IsCommitOf, IsFormedEvent, IsSound, IsSoundEvent, RefersBack, has_id}
 use Rattle.plain_model.specs.Streams.{is_among, is_marked}
 use Rattle.event_arena.proofs.SoundLemmas.{is_marked-own}
-use Rattle.round_trip_laws.specs.AsRead.{ArePlaced, IsRooted, AreRootedAfter, IsAsRead}
-use Rattle.history_laws.proofs.Commits.{refs_append}
 use Rattle.history_laws.proofs.Ids.{has_id-append, is_marked-append}
 use Rattle.renumbering.specs.Renumbered.{marked_from, marks_from, renumbered, renumbered_from}
 use Rattle.renumbering.proofs.Few.{few_marks}
-use Rattle.renumbering.proofs.Kept.{has_id_same, tree_same, refs_same}
-use Rattle.renumbering.proofs.Marks.{among-from, distinct-from, event-from, id-from, length-own, marks-are}
+use Rattle.renumbering.proofs.Kept.{has_id_same, tree_same}
+use Rattle.renumbering.proofs.Marks.{among-from, distinct-from, event-from, length-own, marks-are}
 
 -- the two have the same ids, and the marks of the second are below the next one
 record IsAfter (old new : List PlainEvent) (next : ℕ) : Type 0 where
@@ -136,40 +132,4 @@ sound_again events h = record {
   formed = formed_still [] [] 1 events (first_after 1) h.formed;
   spelled = spelled_still 1 events (omega arith) (let few = few_marks events h in omega arith) h.spelled;
   trees = λ c is. subst IsSome (sym (tree_same 1 events c)) (h.trees c (sym (has_id_same 1 events (any.Commit c)) ∙ is));
-}
-
--- ---- such as reading gives it
-
-placed_still : (next k : ℕ) (events : List PlainEvent) → ArePlaced k events → ArePlaced k (renumbered_from next events)
-placed_still next k [] p = tt
-placed_still next k (e ∷ events) p = (ap id_number (id-from next e) ∙ p.0, placed_still (next + length (event_marks e)) (suc k) events p.1)
-
--- the branches are alike after one event more
-tips_more : (old new : List PlainEvent) (next : ℕ) (e : PlainEvent) → refs old ≡ refs new → refs (old ++ e ∷ []) ≡ refs (new ++ marked_from next e ∷ [])
-tips_more old new next e same =
-    refs_append [] old (e ∷ [])
-    ∙ ap (λ (t : TreeOf ℕ). refs_after t (e ∷ [])) same
-    ∙ sym (refs_same next (refs new) (e ∷ []))
-    ∙ sym (refs_append [] new (marked_from next e ∷ []))
-
-rooted_event : (old new : List PlainEvent) (next : ℕ) (e : PlainEvent) → refs old ≡ refs new → IsRooted old e → IsRooted new (marked_from next e)
-rooted_event old new next (Commit id mark branch author committer encoding comment [] ops aliases) same h = ap (λ (t : TreeOf ℕ). has t branch) (sym same) ∙ h
-rooted_event old new next (Commit id mark branch author committer encoding comment (p ∷ ps) ops aliases) same h = tt
-rooted_event old new next (Blob id mark bytes) same h = tt
-rooted_event old new next (Tag id name target tagger comment mark) same h = tt
-rooted_event old new next (Reset id branch target) same h = tt
-rooted_event old new next (Pass id line) same h = tt
-
-rooted_still : (old new : List PlainEvent) (next : ℕ) (events : List PlainEvent) → refs old ≡ refs new → AreRootedAfter old events → AreRootedAfter new (renumbered_from next events)
-rooted_still old new next [] same h = tt
-rooted_still old new next (e ∷ events) same h = (
-  rooted_event old new next e same h.0,
-  rooted_still (old ++ e ∷ []) (new ++ marked_from next e ∷ []) (next + length (event_marks e)) events (tips_more old new next e same) h.1,
-)
-
-pub read_again : (events : List PlainEvent) → IsAsRead events → IsAsRead (renumbered events)
-read_again events h = record {
-  sound = sound_again events h.sound;
-  placed = placed_still 1 1 events h.placed;
-  rooted = rooted_still [] [] 1 events refl h.rooted;
 }

@@ -6,7 +6,6 @@ ghost use Rattle.plain_model.specs.Histories.{tree};
 ghost use Rattle.plain_model.specs.Lookups.{id_of, marks_of};
 ghost use Rattle.plain_model.specs.Snapshots.{refs, shown_tree};
 ghost use Rattle.plain_model.specs.Soundness.{IsSound};
-ghost use Rattle.round_trip_laws.specs.AsRead.{IsAsRead};
 ghost use Rattle.renumbering.specs.Renumbered.{all_marked, renumbered};
 
 /// All marks, in the order of the list, are 1, 2, 3, ..: a blob's, a commit's and then its aliases, a tag's.
@@ -42,11 +41,6 @@ pub fn ids_stay()
 /// A sound history stays sound. Its marks occur once, so there are no more than marks.
 pub fn renumbering_keeps_soundness()
     ensures { (events : List PlainEvent) → IsSound events → IsSound (renumbered events) }
-{}
-
-/// A history such as reading gives it stays one.
-pub fn renumbering_keeps_what_reading_gives()
-    ensures { (events : List PlainEvent) → IsAsRead events → IsAsRead (renumbered events) }
 {}
 
 /// A second time changes nothing.

@@ -7,7 +7,7 @@ mod worked;
 
 pub use laws::{
     ids_stay, marks_count_up, nothing_else_changes, numbered_again, renumbering_keeps_soundness,
-    renumbering_keeps_trees, renumbering_keeps_what_reading_gives,
+    renumbering_keeps_trees,
 };
 pub use numbering::renumber;
 pub use worked::marks_go_by_place;

@@ -1,6 +1,7 @@
 -- Where a stream is after a line: before the operations of a commit, or after their beginning; and where an operation
 -- waits for its bytes.
 use Rattle.std.proofs.Common.{◌≡◌, Bool, true, false, not, refl, sym, ap, ◌∙◌, Result, Ok, Err}
+use Rattle.std.proofs.lemmas.Bool.{not-true}
 use Rattle.std.specs.Prelude.{◌||◌}
 use Rattle.plain_model.specs.declared.fault.Why.{Why}
 use Rattle.stream_grammar.specs.declared.lines.Expected.{Expected}
@@ -87,12 +88,8 @@ module _ (s standing : Standing) where
   begun_after word.Empty b h = ap (λ (x : Standing). is_before x.expected) (sym (standing_of _ (begun_by s word.Empty) standing h refl))
   begun_after _ b h = absurd cc
 
-  not_false : (b : Bool) → not b ≡ true → b ≡ false
-  not_false true h = absurd cc
-  not_false false h = refl
-
   gone_after : (w : Word) (f : Follow) → is_after f ≡ true → begins_event w ≡ false → gone_on s w f ≡ Ok standing → is_before standing.expected ≡ false
-  gone_after w (Goes d) k b h = ap (λ (x : Standing). is_before x.expected) (sym (standing_of (record s { expected = d }) (gone_on s w (Goes d)) standing h refl)) ∙ not_false (is_before d) k
+  gone_after w (Goes d) k b h = ap (λ (x : Standing). is_before x.expected) (sym (standing_of (record s { expected = d }) (gone_on s w (Goes d)) standing h refl)) ∙ not-true (is_before d) k
   gone_after w Missing k b h = absurd cc
   gone_after w Finished k b h = begun_after w b h
 

@@ -1,5 +1,5 @@
 -- A line does the same to the history and to the replay.
-use Rattle.std.proofs.Common.{◌≡◌, ℕ, ◌+◌, ◌<◌, Bool, true, false, cond, List, [], ◌∷◌, ◌++◌, length, refl, sym, ap, subst, ◌∙◌, Option, Some, None, Result, Ok, Err, arith, option_to_list}
+use Rattle.std.proofs.Common.{◌≡◌, ℕ, zero, suc, ◌+◌, ◌<◌, Bool, true, false, cond, List, [], ◌∷◌, ◌++◌, length, refl, sym, ap, subst, ◌∙◌, Option, Some, None, Result, Ok, Err, arith, option_to_list}
 use Rattle.std.specs.Prelude.{◌==◌, not, option_map}
 use Rattle.std.specs.List.{list_any}
 use Rattle.plain_model.specs.declared.fault.Why.{Why}
@@ -264,12 +264,13 @@ module _ (old standing : Standing) (k : Known) (files : Option (TreeOf Shown)) (
       go (ATag name target tagger own) h = (None, None, refl, refl, s, tt)
       go (AReset branch None) h = (None, None, refl, refl, s, tt)
       go (AReset branch (Some c)) h = (None, None, refl, refl, s, h)
-      go (AnAlias mark) h = (
+      go (AnAlias zero) h = (None, None, refl, refl, s, tt)
+      go (AnAlias (suc m)) h = (
         None,
         None,
-        ap (λ n. record (seen_with k.events k.aliases) { aliases = k.aliases ++ (mark, commit) ∷ []; greatest = n }) (sym (greatest_alias (greatest_mark k.events) k.aliases (mark, commit))),
+        ap (λ n. record (seen_with k.events k.aliases) { aliases = k.aliases ++ (suc m, commit) ∷ []; greatest = n }) (sym (greatest_alias (greatest_mark k.events) k.aliases (suc m, commit))),
         refl,
-        record { so_far = s.so_far; named = all_join (λ (a : ℕ × ℕ). a.1 < length k.events + 1) k.aliases ((mark, commit) ∷ []) s.named (below, tt) },
+        record { so_far = s.so_far; named = all_join (λ (a : ℕ × ℕ). a.1 < length k.events + 1) k.aliases ((suc m, commit) ∷ []) s.named (below, tt) },
         tt,
       )
 

@@ -2,7 +2,7 @@
 -- branches to the commits on which they are. It knows no history, no ids in operations and no trees but what a change
 -- does to one (git-fast-import, "Input format": `mark`, `from`, `merge`, `reset`, `filemodify` and the other changes of
 -- files). Which line may be where is the form of a stream, and not reported again here.
-use Rattle.std.specs.Prelude.{ℕ, ◌+◌, ◌==◌, false, not, max, List, [], ◌∷◌, ◌++◌, map, Option, Some, None, Result, Ok, Err, codes, bytes_eq, option_map, option_and_then, option_to_list, unwrap_or, if◌then◌else◌}
+use Rattle.std.specs.Prelude.{ℕ, zero, suc, ◌+◌, ◌==◌, false, not, max, List, [], ◌∷◌, ◌++◌, map, Option, Some, None, Result, Ok, Err, codes, bytes_eq, option_map, option_and_then, option_to_list, unwrap_or, if◌then◌else◌}
 use Rattle.std.specs.List.{list_any}
 use Rattle.plain_model.specs.declared.fault.Why.{Why}
 use Rattle.plain_model.specs.declared.operation.Mode.{Mode}
@@ -294,10 +294,11 @@ abbrev pub if_named : Replaying → Option ℕ → (ℕ → Replaying) → Repla
 if_named t (Some commit) f = f commit
 if_named t None f = t
 
--- the further mark that is being read is the commit's
+-- the further mark that is being read is the commit's, once it is known
 abbrev pub aliased : Replaying → ℕ → Replaying
 aliased t commit = elim t.reading [
-  | InAlias mark ↦ record t { replayed = with_alias t.replayed mark commit; reading = NoEvent }
+  | InAlias zero ↦ t
+  | InAlias (suc m) ↦ record t { replayed = with_alias t.replayed (suc m) commit; reading = NoEvent }
   | NoEvent ↦ t
   | InBlob mark ↦ t
   | InCommit c ↦ t

@@ -1,14 +1,14 @@
 -- A text that is read on from a place between two lines: after a line, or after a line and its block of data.
-use Rattle.std.proofs.Common.{◌≡◌, ℕ, ◌+◌, Bool, true, false, cond, List, [], ◌∷◌, ◌++◌, length, take, drop, Some, Ok, refl, sym, ap, subst, ◌∙◌, arith, append_assoc, length-append, le-leb, take_at, drop_at, codes, None, not, ◌==◌, ne_eqb, leb-true}
+use Rattle.std.proofs.Common.{◌≡◌, ℕ, ◌+◌, Bool, true, false, cond, List, [], ◌∷◌, ◌++◌, length, take, drop, Some, Ok, refl, sym, ap, subst, ◌∙◌, arith, append_assoc, length-append, le-leb, take_at, drop_at, codes, None}
 use Rattle.std.specs.Prelude.{nat_le}
-use Rattle.std.proofs.lemmas.Bool.{cond-true, cond-false, and_parts}
+use Rattle.std.proofs.lemmas.Bool.{cond-true, cond-false}
 use Rattle.plain_model.specs.declared.event.PlainEvent.{PlainEvent}
 use Rattle.plain_model.specs.Fields.{◌>>=◌, extent_by, extent_in, data_text, block_at}
 use Rattle.plain_model.specs.Fields.Extent.{Counted}
 use Rattle.plain_model.specs.Parts.{has_no_lf, line_at}
 use Rattle.plain_model.specs.Paths.{Bytes}
 use Rattle.plain_model.specs.Text.{line, data_block}
-use Rattle.plain_model.specs.Numbers.{decimal_of, is_digit}
+use Rattle.plain_model.specs.Numbers.{decimal_of}
 use Rattle.field_laws.proofs.FieldSteps.{ok_then}
 use Rattle.field_laws.proofs.Lines.{line_read}
 use Rattle.field_laws.proofs.Numerals.{numeral_read}
@@ -97,10 +97,6 @@ text_ends p history free e n spelled =
     go false f = refl
 
 -- ---- a block of data
-
--- a byte of a number is no LF
-digit_plain : (b : ℕ) → is_digit b ≡ true → not (b == 10) ≡ true
-digit_plain b d = ap not (ne_eqb b 10 (λ e. absurd (let low = leb-true 48 b (and_parts (nat_le 48 b) (nat_le b 57) d).0 in omega arith)))
 
 -- the line before a block says how far it goes
 pub extent_again : (n : ℕ) → extent_in (codes "data " ++ decimal_of n) ≡ Ok (Counted n)

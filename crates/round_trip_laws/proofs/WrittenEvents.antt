@@ -136,7 +136,7 @@ module _ (d : Expected) (wants : Bool) (events : List PlainEvent) (current : Ope
       (line_goes (point expected.AliasMark wants done aliases (AnAlias 0)) (point expected.AliasTo wants done aliases (AnAlias alias)) mark_line (line to_line ++ rest) word.Mark history
       (alias_mark_leads wants done aliases alias is_alias new)
       (line_goes (point expected.AliasTo wants done aliases (AnAlias alias)) (point expected.Event wants done (aliases ++ (alias, c) ∷ []) Nothing) to_line rest word.To history
-      (to_leads wants done aliases mark c is_mark found alias)
+      (to_leads wants done aliases mark c is_mark found alias is_alias)
       (k expected.Event wants done Nothing (record { between = refl; are = refl; promised = h.promised })))))
 
   -- ---- resets

@@ -1,9 +1,10 @@
 -- Each line that is written leads on, by its own rule.
-use Rattle.std.proofs.Common.{◌≡◌, inl, inr, ℕ, Bool, true, false, not, List, [], ◌∷◌, ◌++◌, length, Some, None, Ok, Err, refl, ap, ◌∙◌, arith, codes, decimal, option_to_list, Option, ne_eqb, ◌⊎◌}
+use Rattle.std.proofs.Common.{◌≡◌, inl, inr, ℕ, zero, suc, Result, Bool, true, false, not, List, [], ◌∷◌, ◌++◌, length, Some, None, Ok, Err, refl, ap, ◌∙◌, arith, codes, decimal, option_to_list, Option, ne_eqb, ◌⊎◌}
 use Rattle.std.specs.Prelude.{◌==◌, ◌&&◌, ◌||◌, IsTrue}
 use Rattle.std.specs.List.{list_all, list_any}
 use Rattle.std.specs.Map.{lookup}
 use Rattle.std.proofs.lemmas.Bool.{cond-true, and_parts, or_from, cond-false}
+use Rattle.plain_model.specs.declared.fault.Why.{Why}
 use Rattle.plain_model.specs.declared.fault.Why.TheVariants.{BadName, RepeatedMark, UnknownMark, LeftOut}
 use Rattle.plain_model.specs.declared.event.PlainEvent.{PlainEvent}
 use Rattle.plain_model.specs.declared.person.Signed.{Signed}
@@ -28,7 +29,7 @@ use Rattle.stream_grammar.specs.declared.lines.Expected.TheVariants as expected
 use Rattle.stream_grammar.specs.declared.lines.Follow.TheVariants.{Finished, Goes}
 use Rattle.stream_grammar.specs.declared.lines.Word.{Word}
 use Rattle.stream_grammar.specs.declared.lines.Word.TheVariants as word
-use Rattle.stream_grammar.specs.Known.{Open, OpenCommit, alias_marks, commit_with, ref_in, with_parent, is_left_out_ref, ensure, closed}
+use Rattle.stream_grammar.specs.Known.{Known, Open, OpenCommit, alias_marks, commit_with, ref_in, with_parent, is_left_out_ref, ensure, closed}
 use Rattle.stream_grammar.specs.Known.Open.{Nothing, ABlob, ACommit, ATag, AReset, AnAlias}
 use Rattle.stream_grammar.specs.Lines.{judged, aliased, gone_on, with_from, with_mark, begun_with, commit_on, follows}
 use Rattle.field_laws.proofs.Persons.{digit_at_most}
@@ -221,15 +222,19 @@ module _ (wants : Bool) (done : List PlainEvent) (aliases : List (ℕ × ℕ)) (
   pub tag_from_leads : (at : Expected) → follows at word.From ≡ Goes expected.TagOid → (name : Bytes) (old : ℕ) (tagger : Option Signed) (own : Option ℕ) → Leads (point at wants done aliases (ATag name old tagger own)) (codes "from " ++ marked mark) word.From More (point expected.TagOid wants done aliases (ATag name c tagger own))
   tag_from_leads at goes name old tagger own = record { plain = plain_mark mark is_mark; no_comment = refl; word_is = refl; stands = ap (gone_on (record { expected = at; wants_done = wants }) word.From) goes; follows = refl; fits = from_fits (ATag name old tagger own) }
 
-  pub to_leads : (alias : ℕ) → Leads (point expected.AliasTo wants done aliases (AnAlias alias)) (codes "to " ++ marked mark) word.To More (point expected.Event wants done (aliases ++ (alias, c) ∷ []) Nothing)
-  to_leads alias = record {
+  pub to_leads : (alias : ℕ) → IsMark alias → Leads (point expected.AliasTo wants done aliases (AnAlias alias)) (codes "to " ++ marked mark) word.To More (point expected.Event wants done (aliases ++ (alias, c) ∷ []) Nothing)
+  to_leads alias is_alias = record {
     plain = plain_mark mark is_mark;
     no_comment = refl;
     word_is = refl;
     stands = refl;
     follows = refl;
-    fits = ok_then (ref_in done aliases (marked mark)) (λ x. Ok (aliased x (record { events = done; current = AnAlias alias; aliases = aliases }))) c (Ok (record { events = done; current = Nothing; aliases = aliases ++ (alias, c) ∷ [] })) (ref_again done aliases mark c is_mark found) refl;
+    fits = ok_then (ref_in done aliases (marked mark)) (λ x. Ok (aliased x (record { events = done; current = AnAlias alias; aliases = aliases }))) c (Ok (record { events = done; current = Nothing; aliases = aliases ++ (alias, c) ∷ [] })) (ref_again done aliases mark c is_mark found) (names alias is_alias);
   }
+    where
+      names : (alias : ℕ) → IsMark alias → ◌≡◌ {A = Result Known Why} (Ok (aliased c (record { events = done; current = AnAlias alias; aliases = aliases }))) (Ok (record { events = done; current = Nothing; aliases = aliases ++ (alias, c) ∷ [] }))
+      names zero h = absurd (omega (arith, h.0))
+      names (suc m) h = refl
 
   pub reset_from_leads : (branch : Bytes) (old : Option ℕ) → Leads (point expected.ResetFrom wants done aliases (AReset branch old)) (codes "from " ++ marked mark) word.From More (point expected.ResetEnd wants done aliases (AReset branch (Some c)))
   reset_from_leads branch old = record { plain = plain_mark mark is_mark; no_comment = refl; word_is = refl; stands = refl; follows = refl; fits = from_fits (AReset branch old) }

@@ -1,6 +1,6 @@
 -- What a stream gives within its limits has no more events, operations and aliases than these say. The blob of bytes after an
 -- operation is counted at the operation's line, and is there later.
-use Rattle.std.proofs.Common.{◌≡◌, ℕ, suc, ◌+◌, ◌≤◌, Bool, true, false, cond, not, List, [], ◌∷◌, ◌++◌, length, Option, Some, None, Result, Ok, refl, sym, ap, subst, ◌∙◌, arith, nat_lt, length-append}
+use Rattle.std.proofs.Common.{◌≡◌, ℕ, zero, suc, ◌+◌, ◌≤◌, Bool, true, false, cond, not, List, [], ◌∷◌, ◌++◌, length, Option, Some, None, Result, Ok, refl, sym, ap, subst, ◌∙◌, arith, nat_lt, length-append}
 use Rattle.std.proofs.lemmas.List.{length-map}
 use Rattle.std.proofs.lemmas.Bool.Decides.{nat_tests}
 use Rattle.plain_model.specs.declared.fault.Which.{Which}
@@ -382,7 +382,8 @@ module _ (line : Bytes) where
   -- an alias that is there was counted
   aliased_within : (more commit : ℕ) (events : List PlainEvent) (o : Open) (aliases : List (ℕ × ℕ)) → IsWithin more (record { events = events; current = o; aliases = aliases })
       → IsWithin more (aliased commit (record { events = events; current = o; aliases = aliases }))
-  aliased_within more commit events (AnAlias mark) aliases h = let same = length-append aliases ((mark, commit) ∷ []) in let most = h.few_aliases in record { few = h.few; few_ops = h.few_ops; few_aliases = omega arith }
+  aliased_within more commit events (AnAlias zero) aliases h = h
+  aliased_within more commit events (AnAlias (suc m)) aliases h = let same = length-append aliases ((suc m, commit) ∷ []) in let most = h.few_aliases in record { few = h.few; few_ops = h.few_ops; few_aliases = omega arith }
   aliased_within more commit events Nothing aliases h = h
   aliased_within more commit events (ABlob mark) aliases h = h
   aliased_within more commit events (ACommit c) aliases h = h

@@ -1,5 +1,5 @@
 -- What each line keeps, wherever it may be.
-use Rattle.std.proofs.Common.{◌≡◌, ℕ, Bool, true, false, cond, List, [], ◌∷◌, codes, Option, Some, None, Result, Ok, Err, refl, ap, subst, ◌∙◌, inl, eq-eqb}
+use Rattle.std.proofs.Common.{◌≡◌, ℕ, zero, suc, arith, Bool, true, false, cond, List, [], ◌∷◌, codes, Option, Some, None, Result, Ok, Err, refl, ap, subst, ◌∙◌, inl, eq-eqb}
 use Rattle.std.specs.Prelude.{◌==◌, ◌||◌, IfSome, bytes_eq}
 use Rattle.std.specs.List.{AllByRecursion}
 use Rattle.std.specs.Map.{lookup}
@@ -153,8 +153,9 @@ more_after d k next h e = subst (λ (n : Next). AfterLine n d k) (same_Ok More n
 -- an alias that has its mark names a commit
 alias_there : (events : List PlainEvent) (o : Open) (aliases : List (ℕ × ℕ)) (c : ℕ) → IsCommitOf events c → AreSoFar events aliases → IsOpenWell events events o → HasMark o
     → ready expected.Event (aliased c (record { events = events; current = o; aliases = aliases }))
-alias_there events (AnAlias mark) aliases c there h w marked =
-    record { so_far = record { well = h.well; aliased = all_join (λ a. IsMark a.0 × IsCommitOf events a.1) aliases ((mark, c) ∷ []) h.aliased ((marked, there), tt) }; current = tt; needs = tt }
+alias_there events (AnAlias zero) aliases c there h w marked = absurd (omega (arith, marked.0))
+alias_there events (AnAlias (suc m)) aliases c there h w marked =
+    record { so_far = record { well = h.well; aliased = all_join (λ a. IsMark a.0 × IsCommitOf events a.1) aliases ((suc m, c) ∷ []) h.aliased ((marked, there), tt) }; current = tt; needs = tt }
 alias_there events Nothing aliases c there h w marked = record { so_far = h; current = w; needs = tt }
 alias_there events (ABlob mark) aliases c there h w marked = record { so_far = h; current = w; needs = tt }
 alias_there events (ACommit commit) aliases c there h w marked = record { so_far = h; current = w; needs = tt }

@@ -1,5 +1,5 @@
 -- No mark occurs twice in what is known: each line and each block keeps it so.
-use Rattle.std.proofs.Common.{◌≡◌, ℕ, ◌+◌, ◌<◌, ◌≤◌, Bool, true, false, cond, not, List, [], ◌∷◌, ◌++◌, Option, Some, None, Result, Ok, refl, ap, subst, arith, eqb-true, ne_eqb}
+use Rattle.std.proofs.Common.{◌≡◌, ℕ, zero, suc, ◌+◌, ◌<◌, ◌≤◌, Bool, true, false, cond, not, List, [], ◌∷◌, ◌++◌, Option, Some, None, Result, Ok, refl, ap, subst, arith, eqb-true, ne_eqb}
 use Rattle.std.specs.Prelude.{◌==◌, option_to_list}
 use Rattle.std.specs.List.{list_any}
 use Rattle.std.proofs.lemmas.Bool.{not-true, or_parts}
@@ -157,7 +157,8 @@ mark_once k mark new once m is = go (mark == m) refl
         omega arith
 
 aliased_once : (commit : ℕ) (events : List PlainEvent) (o : Open) (aliases : List (ℕ × ℕ)) → HasNoMore (record { events = events; current = o; aliases = aliases }) (aliased commit (record { events = events; current = o; aliases = aliases }))
-aliased_once commit events (AnAlias mark) aliases m is = let more = alias_more m mark commit aliases in omega arith
+aliased_once commit events (AnAlias zero) aliases m is = omega arith
+aliased_once commit events (AnAlias (suc mark)) aliases m is = let more = alias_more m (suc mark) commit aliases in omega arith
   where
     alias_more : (m mark commit : ℕ) (aliases : List (ℕ × ℕ)) → weigh (one m) (alias_marks (aliases ++ (mark, commit) ∷ [])) ≡ weigh (one m) (alias_marks aliases) + one m mark
     alias_more m mark commit [] = omega arith

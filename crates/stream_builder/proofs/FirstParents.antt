@@ -139,16 +139,6 @@ module _ (events : List PlainEvent) (placed : ArePlaced 1 events) (c : ℕ) wher
   pub has_no_tree : None ≡ links → tree events c ≡ None
   has_no_tree e = no_node (past events) c (no_links (node_at (past events) c) e)
 
-  pub has_no_ops : None ≡ links → ops_at events c ≡ []
-  has_no_ops e = ap ops_in (no_links (node_at (past events) c) e)
-
-  pub has_ops : (parents : List ℕ) (ops : List FileOp) → Some (parents, ops) ≡ links → ops_at events c ≡ ops
-  has_ops parents ops e = go (node_at (past events) c) e
-    where
-      go : (o : Option Node) → Some (parents, ops) ≡ option_map links_of o → ops_in o ≡ ops
-      go None e = absurd cc
-      go (Some n) e = sym (ap (λ (x : List ℕ × List FileOp). x.1) (same_Some (parents, ops) (n.parents, n.ops) e))
-
   hangs : (parents : List ℕ) (ops : List FileOp) → Some (parents, ops) ≡ links → tree events c ≡ folded (ops_at events c) (begun_before c (tree events) parents)
   hangs parents ops e = go (node_at (past events) c) refl e
     where

@@ -23,10 +23,6 @@ begun_within most events all (p ∷ ps) = same (tree events p) (all p)
     same None h = tt
     same (Some t) h = h
 
--- a parent that isn't the first changes no tree
-pub one_parent_more : (t : Trees) (events : List PlainEvent) (q : ℕ) (qs : List ℕ) (p : ℕ) (ops : List FileOp) → Minds t events (q ∷ qs) ops → Minds t events ((q ∷ qs) ++ p ∷ []) ops
-one_parent_more t events q qs p ops m = record { earlier = m.earlier; is_opened = m.is_opened; all = m.all; own = m.own }
-
 next_more : (events : List PlainEvent) (e : PlainEvent) → next_id (with_event events e) ≡ next_id events + 1
 next_more events e = go events
   where

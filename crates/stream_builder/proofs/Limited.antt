@@ -12,9 +12,9 @@ use Rattle.line_automaton.specs.Limits.{Cause}
 use Rattle.stream_grammar.specs.Known.{Known, OpenCommit as KnownCommit, Open as KnownOpen}
 use Rattle.stream_grammar.specs.Known.Open.{Nothing as NoEvent, ABlob, ACommit, ATag, AReset, AnAlias}
 use Rattle.stream_grammar.specs.Limits.{limit_if, limit_on, op_limit, op_count, within_limit, ops_in as count_in}
-use Rattle.stream_lines.specs.declared.fault.LineFault.{LineFault}
-use Rattle.stream_lines.specs.declared.fault.LineFault.TheVariants as line
-use Rattle.stream_lines.specs.Reading.{Judges}
+use Rattle.stream_builder.specs.declared.fault.LineFault.{LineFault}
+use Rattle.stream_builder.specs.declared.fault.LineFault.TheVariants as line
+use Rattle.stream_builder.specs.Judging.{Judges}
 use Rattle.stream_grammar.proofs.LastOperation.{limit_last}
 use Rattle.stream_builder.specs.declared.known.Trees.{Trees}
 use Rattle.stream_builder.specs.declared.open.Open.{Open}

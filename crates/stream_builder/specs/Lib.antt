@@ -1,3 +1,4 @@
+pub mod Judging
 pub mod Building
 pub mod Minding
 pub mod Pushing

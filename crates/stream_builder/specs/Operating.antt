@@ -3,8 +3,8 @@ use Rattle.std.specs.Prelude.{◌≡◌, List, [], ◌∷◌, ◌++◌, Result, 
 use Rattle.plain_model.specs.declared.event.PlainEvent.{PlainEvent}
 use Rattle.plain_model.specs.declared.operation.FileOp.{FileOp}
 use Rattle.stream_grammar.specs.Limits.{limit_on}
-use Rattle.stream_lines.specs.declared.fault.LineFault.{LineFault}
-use Rattle.stream_lines.specs.declared.fault.LineFault.TheVariants as line
+use Rattle.stream_builder.specs.declared.fault.LineFault.{LineFault}
+use Rattle.stream_builder.specs.declared.fault.LineFault.TheVariants as line
 use Rattle.stream_builder.specs.declared.known.Trees.{Trees}
 use Rattle.stream_builder.specs.declared.open.OpenCommit.{OpenCommit}
 use Rattle.stream_builder.specs.Minding.{Minds, open_tree}

@@ -7,8 +7,8 @@ use Rattle.plain_model.specs.declared.operation.FileOp.TheVariants.{Modify, Dele
 use Rattle.plain_model.specs.Histories.{folded}
 use Rattle.plain_model.specs.Trees.{Tree}
 use Rattle.stream_grammar.specs.Limits.{limit_on}
-use Rattle.stream_lines.specs.declared.fault.LineFault.{LineFault}
-use Rattle.stream_lines.specs.declared.fault.LineFault.TheVariants as line
+use Rattle.stream_builder.specs.declared.fault.LineFault.{LineFault}
+use Rattle.stream_builder.specs.declared.fault.LineFault.TheVariants as line
 use Rattle.stream_builder.specs.declared.known.OpenTree.{OpenTree}
 use Rattle.stream_builder.specs.declared.known.OpenTree.TheVariants.{NotFolded, Folded}
 use Rattle.stream_builder.specs.declared.known.Trees.{Trees}

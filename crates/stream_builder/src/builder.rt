@@ -6,17 +6,18 @@ ghost use Rattle.plain_model.specs.declared.limit.TheConstants.{MAX_ALIASES, MAX
 ghost use Rattle.stream_grammar.specs.Known.Open.{Nothing as NoEvent};
 ghost use Rattle.stream_grammar.specs.Limits.{known_aliases, event_count, limit_if, unless_spent, within_limit};
 ghost use Rattle.stream_grammar.specs.Lines.{begun_with, nothing_known};
-ghost use Rattle.stream_lines.specs.Reading.{Judges};
+ghost use Rattle.stream_builder.specs.Judging.{Judges};
 ghost use Rattle.stream_builder.specs.Building.{open_of, ops_in};
 
 mod aliases;
 mod changes;
 mod events;
 mod fields;
-mod keeping;
 mod parents;
+mod taking;
 
 use crate::closing::{count_ops, push_open};
+use crate::fault::LineFault;
 use crate::known::Trees;
 use crate::open::Open;
 use plain_model::{EventList, MAX_ALIASES, MAX_EVENTS, NoMemory, Which};
@@ -24,7 +25,6 @@ use std::alloc::Global;
 use std::marker::Model;
 use std::mem;
 use stream_drafts::{Aliases, Drafts, FinishFault};
-use stream_lines::LineFault;
 
 /// Builds the events of a stream from its lines. Contracts see what is known of the stream.
 #[derive(Drop)]

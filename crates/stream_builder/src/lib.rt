@@ -4,6 +4,7 @@
 mod builder;
 mod closing;
 mod draft_trees;
+mod fault;
 mod known;
 mod open;
 mod operations;
@@ -11,3 +12,4 @@ mod references;
 mod trees;
 
 pub use builder::Builder;
+pub use fault::LineFault;

@@ -5,6 +5,7 @@ ghost use Rattle.stream_grammar.specs.Known.{modify_after};
 ghost use Rattle.stream_builder.specs.Minding.{Minds};
 ghost use Rattle.stream_builder.specs.Operating.{PutsLast};
 
+use crate::fault::LineFault;
 use crate::known::Trees;
 use crate::open::OpenCommit;
 use crate::references::place;
@@ -12,7 +13,6 @@ use plain_model::{FileOp, Why};
 use std::alloc::Global;
 use stream_drafts::Drafts;
 use stream_fields::{FieldFault, or_defect, read_content, read_last_path, read_mode, words};
-use stream_lines::LineFault;
 
 /// `MODE CONTENT PATH`: what `M` puts at a path. (git-fast-import, `filemodify`.)
 pub fn read_modify(alloc: Global, drafts: &Drafts, text: &[u8]) -> Result<FileOp, FieldFault>

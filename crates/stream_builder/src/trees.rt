@@ -24,13 +24,13 @@ ghost use Rattle.stream_builder.specs.Pushing.{
 };
 
 use crate::draft_trees::{KnownTree, folded, nearest, tree_of};
+use crate::fault::LineFault;
 use crate::known::{OpenTree, Trees};
 use path_tree::{ApplyFault, PathTree};
 use plain_model::{CommitId, FileOp, MAX_KEPT_TREES, MAX_PATHS, NoMemory, Path, Steps};
 use std::alloc::Global;
 use std::mem;
 use stream_drafts::Drafts;
-use stream_lines::LineFault;
 
 // Marks the steps of the operations that are read.
 struct Reading;

@@ -1,6 +1,7 @@
 //! Aliases: further marks of commits. (git-fast-import, `alias`.)
 ghost use Rattle.std.specs.Prelude.{◌≡◌, ◌==◌, ◌∷◌, ◌++◌, [], length, OnErr, OnOk};
 ghost use Rattle.std.specs.Map.{lookup};
+ghost use Rattle.plain_model.specs.Marks.{IsMark};
 ghost use Rattle.plain_model.specs.Streams.{is_among};
 ghost use Rattle.stream_grammar.specs.Known.{alias_marks};
 
@@ -65,6 +66,7 @@ impl Aliases {
     pub fn push(&mut self, mark: Mark, commit: CommitId) -> Result<(), NoMemory>
         ensures ok { OnOk result (self.new ≡ self.old ++ (mark, commit) ∷ []) }
         ensures err { OnErr result (self.new ≡ self.old) }
+        ensures fits { OnOk result (IsMark mark) }
     {
         self.list.reserve(1)?;
         make_commit_room(&mut self.commits)?;

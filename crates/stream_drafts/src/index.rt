@@ -17,6 +17,7 @@ ghost use Rattle.std.specs.Prelude.{
 };
 ghost use Rattle.std.specs.HashMap.{get, spare};
 ghost use Rattle.std.specs.HashSet.{contains, spare as set_spare};
+ghost use Rattle.plain_model.specs.Marks.{IsMark};
 ghost use Rattle.plain_model.specs.Snapshots.{refs_after};
 ghost use Rattle.plain_model.specs.Streams.{blob_marked, commit_marked};
 ghost use Rattle.stream_drafts.specs.Events.{event_of};
@@ -68,8 +69,9 @@ fn note_blob_mark(blobs: &mut HashMap<u64, BlobId>, mark: Mark, id: BlobId)
 /// Notes a mark and the commit that it finds, if it finds none yet.
 pub fn note_commit_mark(commits: &mut HashMap<u64, CommitId>, mark: Mark, id: CommitId)
     requires { 0 < spare commits.old }
-    ensures { (n : ℕ) → get nat_eq commits.new n ≡
+    ensures finds { (n : ℕ) → get nat_eq commits.new n ≡
         first_of (get nat_eq commits.old n) (if mark == n then Some id else None) }
+    ensures fits { IsMark mark }
 {
     if !commits.contains_key(&mark.number()) {
         let noted: Result<_, _> = commits.insert(mark.number(), id);

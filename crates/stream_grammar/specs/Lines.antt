@@ -1,6 +1,6 @@
 -- The lines of a stream: which may follow which, and what each means (git-fast-import, "Input format"; the kinds of
 -- defects and what is left out: own).
-use Rattle.std.specs.Prelude.{◌≡◌, ◌⊎◌, ℕ, ◌&&◌, ◌||◌, not, Bool, true, false, List, [], ◌∷◌, ◌++◌, Option, Some, None, Result, Ok, Err, codes, bytes_eq, is_some, option_to_list, if◌then◌else◌}
+use Rattle.std.specs.Prelude.{◌≡◌, ◌⊎◌, ℕ, zero, suc, ◌&&◌, ◌||◌, not, Bool, true, false, List, [], ◌∷◌, ◌++◌, Option, Some, None, Result, Ok, Err, codes, bytes_eq, is_some, option_to_list, if◌then◌else◌}
 use Rattle.plain_model.specs.declared.fault.Why.{Why}
 use Rattle.plain_model.specs.declared.fault.Why.TheVariants.{UnknownLine, MissingLine, RepeatedMark, LeftOut, Truncated}
 use Rattle.plain_model.specs.declared.person.Signed.{Signed}
@@ -217,10 +217,11 @@ passed k line = record k { events = with_event (closed k) (plain.Pass (next_id (
 abbrev pub changed : Known → (Open → Open) → Known
 changed k change = record k { current = change k.current }
 
--- the alias that is being read names the commit, and is there
+-- the alias that is being read names the commit, and is there once it has its mark
 abbrev pub aliased : ℕ → Known → Known
 aliased commit k = elim k.current [
-  | AnAlias mark ↦ record k { current = Nothing; aliases = k.aliases ++ (mark, commit) ∷ [] }
+  | AnAlias zero ↦ k
+  | AnAlias (suc m) ↦ record k { current = Nothing; aliases = k.aliases ++ (suc m, commit) ∷ [] }
   | Nothing ↦ k
   | ABlob mark ↦ k
   | ACommit c ↦ k

@@ -3,8 +3,8 @@ use Rattle.std.specs.Prelude.{◌≡◌, Err}
 use Rattle.plain_model.specs.declared.fault.Fault.TheVariants as plain
 use Rattle.plain_model.specs.Paths.{Bytes}
 use Rattle.stream_grammar.specs.Limits.{stream_of}
-use Rattle.stream_lines.specs.declared.fault.ReadFault.{ReadFault}
-use Rattle.stream_lines.specs.declared.fault.ReadFault.TheVariants as read
+use Rattle.stream_reader.specs.declared.fault.ReadFault.{ReadFault}
+use Rattle.stream_reader.specs.declared.fault.ReadFault.TheVariants as read
 
 -- the fault is the one that the text gives; out of memory may be reported of any text
 abbrev pub IsFaultOf : Bytes → ReadFault → Type 0

@@ -3,11 +3,12 @@ ghost use Rattle.std.specs.Prelude.{◌≡◌, IfErr, IfOk, Ok};
 ghost use Rattle.stream_grammar.specs.Limits.{stream_of};
 ghost use Rattle.stream_reader.specs.Answers.{IsFaultOf};
 
+use crate::fault::ReadFault;
+use crate::lines::read_lines;
 use plain_model::EventList;
 use std::alloc::Global;
 use stream_builder::Builder;
 use stream_drafts::FinishFault;
-use stream_lines::{ReadFault, read_lines};
 
 /// Reads a stream. The fault at the lowest line wins, at one line a defect before a limit; that the marks are spent comes last.
 /// (git-fast-import, "Input format"; the kinds of defects and the limits: own.)

@@ -1,11 +1,11 @@
 -- Runs that only print, and runs that haven't begun.
-use Rattle.std.proofs.Common.{◌≡◌, ℕ, zero, List, [], ◌∷◌, ◌++◌, Option, Some, None, Result, Err, refl, sym, subst}
+use Rattle.std.proofs.Common.{◌≡◌, ℕ, zero, List, [], ◌∷◌, Option, Some, None, Result, Err, refl, sym, subst}
 use Rattle.std.specs.Prelude.{IfSome}
 use Rattle.plain_model.specs.Files.{Files}
-use Rattle.history_machine.specs.Machine.{World, Turn, Run, sent, EndsAs, BreaksAfter}
+use Rattle.history_machine.specs.Machine.{World, Turn, Run, EndsAs, BreaksAfter}
 use Rattle.script_reader.specs.declared.script.ScriptItem.{ScriptItem}
 use Rattle.history_machine.specs.Words.{Asked}
-use Rattle.history_machine.specs.Whole.{only_prints, run_read, unread, unread_status}
+use Rattle.history_machine.specs.Whole.{run_read, unread}
 use Rattle.plain_model.specs.declared.fault.Fault.{Fault}
 use Rattle.plain_model.specs.declared.fault.Fault.TheVariants as fault
 use Rattle.plain_model.specs.declared.status.Status.{Status}
@@ -13,38 +13,7 @@ use Rattle.plain_model.specs.declared.status.Status.TheVariants as status
 use Rattle.history_machine.proofs.Runs.{IsBreak, ends_broken}
 use Rattle.surgeon_store.specs.Outside.{StoreState, SinkState, Reads}
 use Rattle.surgeon_session.specs.Calls.{world, world_of}
-use Rattle.surgeon_store.specs.Outside.{Puts, PutsSome}
-use Rattle.surgeon_session.proofs.Rounds.{mapped, no_part, printed_world, same_world, some_printed_world}
-
--- a status with which a run ends after it printed a line
-abbrev pub IsPrinted : Status → Type 0
-IsPrinted status.Usage = Unit {0}
-IsPrinted status.NoScript = Unit {0}
-IsPrinted status.BadScript = Unit {0}
-IsPrinted status.Done = ⊥
-IsPrinted status.Refused = ⊥
-IsPrinted status.SourceFault = ⊥
-IsPrinted status.SinkFault = ⊥
-IsPrinted status.Memory = ⊥
-
-ends_end : (ends : Status) (line : List ℕ) (w now : World) → IsPrinted ends → now ≡ sent None (line ++ 10 ∷ []) w → EndsAs (only_prints ends line) ends w now
-ends_end status.Usage line w now p h = (refl, h)
-ends_end status.NoScript line w now p h = (refl, h)
-ends_end status.BadScript line w now p h = (refl, h)
-ends_end status.Done line w now p h = absurd p
-ends_end status.Refused line w now p h = absurd p
-ends_end status.SourceFault line w now p h = absurd p
-ends_end status.SinkFault line w now p h = absurd p
-ends_end status.Memory line w now p h = absurd p
-
-pub printed_end : (s : StoreState) (k k' : SinkState) (ends : Status) (line : List ℕ) → IsPrinted ends → Puts k (line ++ 10 ∷ []) k'
-    → IfSome (world s k) (λ w. IfSome (world s k') (λ now. EndsAs (only_prints ends line) ends w now))
-printed_end s k k' ends line p h = mapped (world s k) (world s k') (λ w now e. ends_end ends line w now p e) (printed_world s k k' (line ++ 10 ∷ []) h)
-
-pub printed_part : (s : StoreState) (k k' : SinkState) (ends r : Status) (line : List ℕ) → IsBreak r → PutsSome k (line ++ 10 ∷ []) k'
-    → IfSome (world s k) (λ w. IfSome (world s k') (λ now. EndsAs (only_prints ends line) r w now))
-printed_part s k k' ends r line b h =
-    mapped (world s k) (world s k') (λ w now e. ends_broken (only_prints ends line) r w now b (zero, e)) (some_printed_world s k k' (line ++ 10 ∷ []) h)
+use Rattle.surgeon_session.proofs.Rounds.{no_part, same_world}
 
 no_turn : {X : Type 0} (turns : List (Turn X)) (w : World) → BreaksAfter zero turns w w
 no_turn [] w = refl
@@ -57,10 +26,6 @@ not_begun run r w b = ends_broken run r w w b (zero, no_turn run.turns w)
 -- the world before a run that hasn't begun is that after it
 pub not_begun_worlds : {X : Type 0} (run : World → Run X) (r : Status) (v : Option World) → IsBreak r → IfSome v (λ w. IfSome v (λ now. EndsAs (run w) r w now))
 not_begun_worlds run r v b = same_world (λ w now. EndsAs (run w) r w now) v (λ w. not_begun (run w) r w b)
-
-pub printed_status : (why : Fault) → IsPrinted (unread_status why)
-printed_status (fault.Absent name) = tt
-printed_status other = tt
 
 -- a run that hasn't begun, after the reading of a file
 pub unread_worlds : {X : Type 0} (run : World → Run X) (r : Status) (s s' : StoreState) (k : SinkState) → IsBreak r → Reads s s' → IfSome (world s k) (λ w. IfSome (world s' k) (λ now. EndsAs (run w) r w now))

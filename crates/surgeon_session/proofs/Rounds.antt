@@ -1,15 +1,12 @@
 -- One command of a run, and what stands after it.
-use Rattle.std.proofs.Common.{◌≡◌, inl, inr, ℕ, zero, suc, List, [], ◌∷◌, ◌++◌, Option, Some, None, take, drop, length, get_or, ◌≤◌, ◌<◌, ◌+◌, ◌≢◌, drop-cons, append-nil, refl, sym, ap, ◌∙◌, arith}
+use Rattle.std.proofs.Common.{◌≡◌, inl, inr, ℕ, zero, suc, List, [], ◌∷◌, Option, Some, None, drop, length, get_or, ◌≤◌, ◌<◌, ◌+◌, ◌≢◌, drop-cons, append-nil, refl, sym, ap, ◌∙◌, arith}
 use Rattle.std.specs.Prelude.{IfSome, IsSome}
-use Rattle.std.proofs.lemmas.Option.{same_Some}
-use Rattle.plain_model.specs.Files.{Files}
-use Rattle.history_machine.specs.Machine.{World, Run, sent, PartSent, EndsAs, Completes}
+use Rattle.history_machine.specs.Machine.{World, Run, PartSent, EndsAs, Completes}
 use Rattle.plain_model.specs.declared.status.Status.{Status}
 use Rattle.plain_model.specs.declared.status.Status.TheVariants as status
 use Rattle.plain_model.specs.Counts.{Rose}
 use Rattle.surgeon_store.specs.Outside.{StoreState, SinkState, Reads}
-use Rattle.surgeon_session.specs.Calls.{world, world_of, Later, Caused, NoFaults}
-use Rattle.surgeon_store.specs.Outside.{Puts, PutsSome}
+use Rattle.surgeon_session.specs.Calls.{world, Later, Caused, NoFaults}
 
 -- what holds of two worlds, and of the second and a third
 pub joined : {P Q R : World → World → Type 0} (v0 v v' : Option World)
@@ -59,29 +56,6 @@ later_later s m n k l o a b = record {
   reports = reports_later (world s k) (world m l) (world n o) a.reports b.reports;
   finished = λ h. b.finished (a.finished h);
 }
-
--- bytes that are printed
-printed_worlds : (files : Option Files) (old new : Option (List ℕ)) (bytes : List ℕ) → IfSome old (λ w. new ≡ Some (w ++ bytes))
-    → IfSome (world_of files old) (λ w. IfSome (world_of files new) (λ now. now ≡ sent None bytes w))
-printed_worlds None old new bytes h = tt
-printed_worlds (Some fs) None new bytes h = tt
-printed_worlds (Some fs) (Some w) None bytes h = tt
-printed_worlds (Some fs) (Some w) (Some n) bytes h = ap (λ (l : List ℕ). record { files = fs; printed = l }) (same_Some n (w ++ bytes) h)
-
-pub printed_world : (s : StoreState) (k k' : SinkState) (bytes : List ℕ) → Puts k bytes k'
-    → IfSome (world s k) (λ w. IfSome (world s k') (λ now. now ≡ sent None bytes w))
-printed_world s k k' bytes h = printed_worlds s.files k.written k'.written bytes h
-
-some_printed_worlds : (files : Option Files) (old new : Option (List ℕ)) (bytes : List ℕ) → IfSome old (λ w. (n : ℕ) × (new ≡ Some (w ++ take n bytes)))
-    → IfSome (world_of files old) (λ w. IfSome (world_of files new) (λ now. PartSent None bytes w now))
-some_printed_worlds None old new bytes h = tt
-some_printed_worlds (Some fs) None new bytes h = tt
-some_printed_worlds (Some fs) (Some w) None bytes h = tt
-some_printed_worlds (Some fs) (Some w) (Some n) bytes h = (h.0, ap (λ (l : List ℕ). record { files = fs; printed = l }) (same_Some n (w ++ take h.0 bytes) h.1))
-
-pub some_printed_world : (s : StoreState) (k k' : SinkState) (bytes : List ℕ) → PutsSome k bytes k'
-    → IfSome (world s k) (λ w. IfSome (world s k') (λ now. PartSent None bytes w now))
-some_printed_world s k k' bytes h = some_printed_worlds s.files k.written k'.written bytes h
 
 -- the item at a place, and those after it
 pub item_next : {A : Type 0} (xs : List A) (i : ℕ) (x : A) → i < length xs → x ≡ get_or xs i x → drop i xs ≡ x ∷ drop (i + 1) xs

@@ -1,8 +1,9 @@
 -- One command of a run over a session, and what is after it.
 use Rattle.std.proofs.Common.{◌≡◌, ℕ, zero, suc, List, [], ◌∷◌, Bool, true, false, not, Result, Ok, Err, refl, sym, subst}
+use Rattle.std.proofs.lemmas.Bool.{not-true}
 use Rattle.std.specs.Prelude.{if◌then◌else◌}
 use Rattle.plain_model.specs.Files.{Files}
-use Rattle.history_machine.specs.Machine.{World, Turn, Run, after, PartSent, SessionBreaks, SessionEndsAs, EndsAs, turn_of, goes_on, status_after, stops, so_far_after, with_first, run_on, files_after}
+use Rattle.history_machine.specs.Machine.{World, Turn, Run, after, PartSent, SessionBreaks, SessionEndsAs, turn_of, goes_on, status_after, stops, so_far_after, with_first, run_on, files_after}
 use Rattle.plain_model.specs.declared.fault.Fault.{Fault}
 use Rattle.plain_model.specs.declared.status.Status.{Status}
 use Rattle.plain_model.specs.declared.status.Status.TheVariants as status
@@ -35,21 +36,6 @@ session_broken run status.BadScript s s' w now b h = absurd b
 kept : (k : Bool) → not k ≡ false → k ≡ true
 kept true e = refl
 kept false e = absurd cc
-
-off_of : (k : Bool) → not k ≡ true → k ≡ false
-off_of true e = absurd cc
-off_of false e = refl
-
--- what holds of a run and its session holds of the run
-pub forget_session : {X : Type 0} (run : Run X) (r : Status) (s s' : X) (w now : World) → SessionEndsAs run r s w s' now → EndsAs run r w now
-forget_session run status.SourceFault s s' w now h = (h.0, h.2)
-forget_session run status.SinkFault s s' w now h = (h.0, h.2)
-forget_session run status.Memory s s' w now h = (h.0, h.2)
-forget_session run status.Done s s' w now h = h.1
-forget_session run status.Refused s s' w now h = h.1
-forget_session run status.Usage s s' w now h = h.1
-forget_session run status.NoScript s s' w now h = h.1
-forget_session run status.BadScript s s' w now h = h.1
 
 -- a run without further lines
 pub no_lines : {X : Type 0} (r : Status) (s : X) (w : World) → SessionEndsAs {X = X} (record { turns = []; status = r }) r s w s w
@@ -143,7 +129,7 @@ module _ {X : Type 0} (step : X → Files → List ℕ → Result (Turn X) Fault
       at : (expected : Result (Turn X) Fault) → step s w.files item.text ≡ expected → Refuses w item.line expected now → SessionEndsAs (run_on step keep so_far s w.files (item ∷ items)) status.Refused s w s' now
       at (Ok t) e c = absurd c
       at (Err fault) e c =
-          let off : keep ≡ false = off_of keep stop in
+          let off : keep ≡ false = not-true keep stop in
           let t = turn_of s item.line (Err fault) in
           subst (λ expected. SessionEndsAs (from expected) status.Refused s w s' now) (sym e)
           (subst (λ k. SessionEndsAs (with_first t (if k then run_on step keep status.Refused s w.files items else record { turns = []; status = status.Refused })) status.Refused s w s' now) (sym off)

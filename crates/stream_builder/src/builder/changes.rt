@@ -12,16 +12,16 @@ ghost use Rattle.stream_grammar.specs.Known.{
 ghost use Rattle.stream_grammar.specs.Known.Open.{ACommit};
 ghost use Rattle.stream_grammar.specs.Limits.{judged_within, op_limit, within_limit};
 ghost use Rattle.stream_grammar.specs.Lines.{with_operation};
-ghost use Rattle.stream_lines.specs.Reading.{Judges};
+ghost use Rattle.stream_builder.specs.Judging.{Judges};
 ghost use Rattle.stream_builder.specs.Building.{after_operation, is_commit, with_op};
 
 use crate::builder::Builder;
+use crate::fault::LineFault;
 use crate::open::Open;
 use crate::operations::{put_last, read_modify};
 use plain_model::{FileOp, MAX_EVENTS, MAX_OPERATIONS, NoMemory, Path, Place, Which, Why};
 use std::alloc::Global;
 use stream_fields::{FieldFault, or_defect, read_last_path, read_path, words};
-use stream_lines::LineFault;
 
 impl Builder {
     // Whether the tree of the commit has something at or below the path. This folds it.

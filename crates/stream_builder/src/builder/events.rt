@@ -6,15 +6,15 @@ ghost use Rattle.plain_model.specs.Trees.{at};
 ghost use Rattle.stream_grammar.specs.declared.lines.Word.TheVariants as word;
 ghost use Rattle.stream_grammar.specs.Limits.{judged_within};
 ghost use Rattle.stream_grammar.specs.Lines.{is_left_out_feature, passed};
-ghost use Rattle.stream_lines.specs.Reading.{Judges};
+ghost use Rattle.stream_builder.specs.Judging.{Judges};
 
 use crate::builder::Builder;
+use crate::fault::LineFault;
 use crate::open::{Open, OpenCommit};
 use plain_model::{CommitId, Items, NoMemory, ParentList, Why};
 use std::alloc::Global;
 use stream_fields::read_name;
 use stream_grammar::text_of;
-use stream_lines::LineFault;
 
 fn begins_with(text: &[u8], word: &[u8]) -> bool
     ensures { result ≡ begins word.now text.now }

@@ -3,15 +3,15 @@ ghost use Rattle.std.specs.Prelude.{◌≡◌};
 ghost use Rattle.stream_grammar.specs.declared.lines.Word.TheVariants as word;
 ghost use Rattle.stream_grammar.specs.Limits.{judged_within};
 ghost use Rattle.stream_grammar.specs.Lines.{changed, with_mark};
-ghost use Rattle.stream_lines.specs.Reading.{Judges};
+ghost use Rattle.stream_builder.specs.Judging.{Judges};
 
 use crate::builder::Builder;
+use crate::fault::LineFault;
 use crate::open::Open;
 use plain_model::{Items, Mark, Why};
 use std::alloc::Global;
 use stream_fields::{read_mark, read_person};
 use stream_grammar::text_of;
-use stream_lines::LineFault;
 
 impl Builder {
     fn set_mark(&mut self, mark: Mark)

@@ -17,7 +17,7 @@ ghost use Rattle.stream_grammar.specs.declared.lines.Word.TheVariants as word;
 ghost use Rattle.stream_grammar.specs.Known.{with_parent};
 ghost use Rattle.stream_grammar.specs.Limits.{after_judged, judged_within};
 ghost use Rattle.stream_grammar.specs.Lines.{changed, with_commit, with_from};
-ghost use Rattle.stream_lines.specs.Reading.{Judges};
+ghost use Rattle.stream_builder.specs.Judging.{Judges};
 
 use crate::builder::Builder;
 use crate::open::Open;
@@ -27,7 +27,7 @@ use plain_model::{
 };
 use std::alloc::Global;
 use stream_grammar::text_of;
-use stream_lines::LineFault;
+use crate::fault::LineFault;
 
 fn delete_all(alloc: Global) -> Result<OpList, NoMemory>
     ensures { IfOk result (λ ops. ops ≡ DeleteAll ∷ []) }

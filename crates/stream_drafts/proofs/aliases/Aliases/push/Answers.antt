@@ -8,4 +8,4 @@ invariant_of-self-2 c =
     let at_end : c.push-pushed.new.self.items ≡ c.self.inside.list.items ++ (c.args.mark, c.args.commit) ∷ [] = grind arith in
     IsIndex-push c.self.inside.list.items c.push-pushed.new.self.items c.args.mark c.args.commit
     (get nat_eq c.self.inside.commits) (get nat_eq c.make_commit_room.new.commits) (get nat_eq c.note_commit_mark.new.commits)
-    at_end c.self.invariant c.make_commit_room.ensures.same c.note_commit_mark.ensures
+    at_end c.self.invariant c.make_commit_room.ensures.same c.note_commit_mark.ensures.finds

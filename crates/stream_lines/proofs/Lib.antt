@@ -1,4 +1,0 @@
-mod Steps
-mod Extents
-mod Turns
-mod Agreeing
