@@ -7,16 +7,13 @@ ghost use Rattle.surgeon_store.specs.Promises.{PromisesBeginRead};
 ghost use Rattle.surgeon_store.specs.Disk.{DiskState, untouched, disk_store_of};
 
 use crate::outside::{CreateFault, Failed, OpenFault, Sink, Store, WriteFault};
+use crate::target::{MAX_TURNS, Target, write_some};
 use plain_model::{Items, NoMemory, Text};
 use std::alloc::Global;
-use std::fs::OpenFile;
-use std::io::{ErrorKind, Read, Write};
+use std::io::{ErrorKind, Read};
 use std::marker::Model;
 use std::rt::Files;
 use std::{fs, io};
-
-/// How often a call that a signal interrupts is made before it counts as a fault. (own)
-const MAX_TURNS: u32 = 64;
 
 fn raise(count: &mut u64)
     ensures risen { Rose count.old count.new }
@@ -38,50 +35,13 @@ fn read_some<R: Read>(reader: &mut R, piece: &mut [u8]) -> io::Result<usize>
     Err(io::Error::from(ErrorKind::Interrupted))
 }
 
-// Writes a byte or more of the piece, again where a signal interrupts. A writer that takes nothing of a
-// piece with bytes will not take the rest, which is a fault.
-fn write_some<W: Write>(writer: &mut W, piece: &[u8]) -> Result<usize, WriteFault>
-    ensures { IfOk result (λ n. (n ≤ length piece.now) × (0 < length piece.now → 1 ≤ n)) }
-{
-    if piece.is_empty() {
-        return Ok(0);
-    }
-    for _ in 0..MAX_TURNS {
-        match writer.write(piece) {
-            Ok(0) => return Err(WriteFault::Failed),
-            Ok(count) => return Ok(count),
-            Err(error) => match error.kind() {
-                ErrorKind::Interrupted => {}
-                ErrorKind::OutOfMemory => return Err(WriteFault::Memory),
-                _ => return Err(WriteFault::Failed),
-            },
-        }
-    }
-    Err(WriteFault::Failed)
-}
-
-// Has the system take what was written, so that a full disk shows here at the latest. What cannot be
-// synced, as a pipe or a device, has taken its bytes already.
-fn settle<F: Write + OpenFile>(file: &mut F) -> Result<(), Failed> {
-    if file.flush().is_err() {
-        return Err(Failed);
-    }
-    match file.sync_data() {
-        Ok(()) => Ok(()),
-        Err(error) => match error.kind() {
-            ErrorKind::InvalidInput | ErrorKind::Unsupported => Ok(()),
-            _ => Err(Failed),
-        },
-    }
-}
-
 /// The files of the system, by their paths. A folder can be begun and then not be read.
 #[derive(Drop)]
 pub struct DiskStore<'a, R: Files> {
     alloc: Global,
     rt: &'a R,
     reading: Option<R::File>,
-    target: Option<R::File>,
+    target: Option<Target<R::File>>,
     // The name of the target.
     writing: Option<Text>,
     read_faults: u64,
@@ -114,6 +74,16 @@ impl<'a, R: Files> DiskStore<'a, R> {
             read_faults: 0,
             write_faults: 0,
             misses: 0,
+        }
+    }
+
+    // The file that is written is in its place, where it is whole; none is written then.
+    fn let_go(&mut self) -> Result<(), Failed>
+        ensures { self.new ≡ self.old }
+    {
+        match self.target.take() {
+            Some(target) => target.finish(self.rt),
+            None => Ok(()),
         }
     }
 }
@@ -164,30 +134,28 @@ impl<'a, R: Files> Store for DiskStore<'a, R> {
 
     fn begin_write(&mut self, name: &str) -> Result<(), CreateFault> {
         self.writing = None;
-        self.target = None;
+        let _ = self.let_go();
         let kept = match Items::of(self.alloc, name.as_bytes()) {
             Ok(kept) => kept,
             Err(NoMemory) => return Err(CreateFault::Memory),
         };
-        match fs::create(self.rt, name) {
-            Ok(file) => {
-                self.target = Some(file);
+        match Target::begin(self.alloc, self.rt, name) {
+            Ok(target) => {
+                self.target = Some(target);
                 self.writing = Some(kept);
                 Ok(())
             }
-            Err(error) => match error.kind() {
-                ErrorKind::OutOfMemory => Err(CreateFault::Memory),
-                _ => {
-                    raise(&mut self.write_faults);
-                    Err(CreateFault::Failed)
-                }
-            },
+            Err(CreateFault::Memory) => Err(CreateFault::Memory),
+            Err(CreateFault::Failed) => {
+                raise(&mut self.write_faults);
+                Err(CreateFault::Failed)
+            }
         }
     }
 
     fn write(&mut self, piece: &[u8]) -> Result<usize, WriteFault> {
         let answer = match &mut self.target {
-            Some(file) => write_some(file, piece),
+            Some(target) => target.write(piece),
             None => Err(WriteFault::Failed),
         };
         if answer == Err(WriteFault::Failed) {
@@ -198,10 +166,7 @@ impl<'a, R: Files> Store for DiskStore<'a, R> {
 
     fn finish_write(&mut self) -> Result<(), Failed> {
         self.writing = None;
-        let Some(mut file) = self.target.take() else {
-            return Ok(());
-        };
-        let answer = settle(&mut file);
+        let answer = self.let_go();
         if answer.is_err() {
             raise(&mut self.write_faults);
         }

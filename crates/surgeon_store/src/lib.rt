@@ -7,6 +7,7 @@ mod memory;
 mod outside;
 mod store_sink;
 mod sure;
+mod target;
 #[cfg(test)]
 mod tests;
 mod whole_files;
