@@ -111,11 +111,7 @@ fn read_line(
 
 // Reads a whole stream for a builder that knows of no event yet: what it knows then is what the stream's lines give; or the
 // first line is reported that has a defect or passes a limit.
-pub(crate) fn read_lines(
-    alloc: Global,
-    builder: &mut Builder,
-    text: &[u8],
-) -> Result<(), ReadFault>
+pub(crate) fn read_lines(alloc: Global, builder: &mut Builder, text: &[u8]) -> Result<(), ReadFault>
     requires { builder.old ≡ nothing_known }
     ensures known { OnOk result (known_in text.now ≡ Ok builder.new) }
     ensures fault { IfErr result (IsFaultIn text.now) }

@@ -20,6 +20,7 @@ ghost use Rattle.stream_grammar.specs.Lines.{changed, with_commit, with_from};
 ghost use Rattle.stream_builder.specs.Judging.{Judges};
 
 use crate::builder::Builder;
+use crate::fault::LineFault;
 use crate::open::Open;
 use crate::references::read_reference;
 use plain_model::{
@@ -27,7 +28,6 @@ use plain_model::{
 };
 use std::alloc::Global;
 use stream_grammar::text_of;
-use crate::fault::LineFault;
 
 fn delete_all(alloc: Global) -> Result<OpList, NoMemory>
     ensures { IfOk result (λ ops. ops ≡ DeleteAll ∷ []) }
