@@ -2,6 +2,7 @@
 //! column of its refusal.
 mod faults;
 mod forms;
+mod signs;
 
 use crate::field::FieldSet;
 use crate::function::Function;
