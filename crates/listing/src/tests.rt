@@ -8,7 +8,7 @@ ghost use Rattle.listing.specs.Examples.{
   put_file,
   put_link,
   rarer,
-  signed,
+  by_ann,
 };
 
 use crate::*;
@@ -35,7 +35,7 @@ fn mark(number: u64) -> Result<Mark, Fail>
 }
 
 fn signed(alloc: Global, seconds: u64) -> Result<Signed, Fail>
-    ensures { IfOk result (λ made. made ≡ signed seconds) }
+    ensures { IfOk result (λ made. made ≡ by_ann seconds) }
 {
     Ok(Signed {
         person: Person {
