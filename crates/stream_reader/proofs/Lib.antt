@@ -1,3 +1,6 @@
-mod Steps
 mod Extents
-mod Turns
+mod Steps
+mod Pieces
+mod Lines
+mod Taken
+mod Ends

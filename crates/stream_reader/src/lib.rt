@@ -1,12 +1,14 @@
-//! A whole stream is read to its history, or to the fault of its first line that is refused.
+//! A stream is read to its history, or to the fault of its first line that is refused, at once or in pieces.
 #![tactic(auto)]
 
+mod blocks;
 mod fault;
-mod lines;
+mod place;
 mod reader;
 
 pub use fault::ReadFault;
-pub use reader::read_stream;
+pub use place::Place;
+pub use reader::{StreamReader, read_stream};
 
 #[cfg(test)]
 mod tests;

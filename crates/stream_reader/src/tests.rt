@@ -3,6 +3,7 @@ mod fields;
 mod forms;
 mod histories;
 mod limits;
+mod pieces;
 mod references;
 
 use crate::*;

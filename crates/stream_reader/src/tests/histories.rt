@@ -144,10 +144,10 @@ fn put_events(out: &mut Text, events: &EventList) -> Result<(), NoMemory> {
     Ok(())
 }
 
-// The history of a stream in short form, or nothing where it isn't read.
-fn read_text(alloc: Global, stream: &[u8]) -> Result<Text, Fail> {
+// The history that was read in short form, or that none was.
+pub fn short_form(alloc: Global, read: Result<EventList, ReadFault>) -> Result<Text, Fail> {
     let mut out = Items::new(alloc)?;
-    if let Ok(events) = read_stream(alloc, stream) {
+    if let Ok(events) = read {
         put_events(&mut out, &events)?;
     } else {
         out.push_all(b"refused")?;
@@ -155,9 +155,13 @@ fn read_text(alloc: Global, stream: &[u8]) -> Result<Text, Fail> {
     Ok(out)
 }
 
-#[test]
-fn each_kind_of_line_is_read(rt: HostRuntime) -> Result<(), Fail> {
-    let stream: &[u8] = b"# by hand
+fn read_text(alloc: Global, stream: &[u8]) -> Result<Text, Fail> {
+    short_form(alloc, read_stream(alloc, stream))
+}
+
+// Each kind of line, by hand.
+pub fn each_kind_of_line() -> &'static [u8] {
+    b"# by hand
 feature done
 option git quiet
 
@@ -217,8 +221,12 @@ merge b
 reset c
 done
 frob
-";
-    let want: &[u8] = b"pass 1 feature done
+"
+}
+
+// What these lines give, by hand.
+pub fn each_kind_of_event() -> &'static [u8] {
+    b"pass 1 feature done
 pass 2 option git quiet
 blob 3 :7 one
 blob 4 :8 # two
@@ -234,8 +242,15 @@ pass 11 progress half
 pass 12 feature date-format=raw
 commit 13 :10 c C|c@x|4+0 C|c@x|4+0  (:6)
 reset 14 c
-";
-    assert_eq!(rt; read_text(rt.alloc(), stream)?.as_slice(), want);
+"
+}
+
+#[test]
+fn each_kind_of_line_is_read(rt: HostRuntime) -> Result<(), Fail> {
+    assert_eq!(rt;
+        read_text(rt.alloc(), each_kind_of_line())?.as_slice(),
+        each_kind_of_event()
+    );
     Ok(())
 }
 

@@ -1,0 +1,13 @@
+use Rattle.stream_grammar.specs.Limits.{stream_within}
+use Rattle.line_automaton.specs.Machine.{all, closed}
+use Rattle.stream_reader.specs.Reading.{after, at_start}
+use Rattle.stream_reader.proofs.Ends.{given_fault, reported_stops, stopped_closed, stopped_given}
+use Rattle.stream_reader.proofs.reader.read_stream.Goals as goal
+
+pub returns-in-Err-clause-fault : goal.returns-in-Err-clause-fault
+returns-in-Err-clause-fault c =
+    let now = c.feed.new.self in
+    let fault = c.in-Err.fault in
+    let end = after at_start c.args.text.now in
+    given_fault c.args.text.now fault (stopped_given fault (closed stream_within all end) (stopped_closed fault end
+    (reported_stops now.standing now.known now.number now.come now.place fault end c.in-Err.ensures.answer (c.feed.ensures.reads at_start c.new-reader.ensures))))
