@@ -6,12 +6,11 @@ use plain_model::{EventList, Why};
 use std::alloc::Global;
 use std::test::*;
 
-// A stream that is cut in two.
-fn read_in_two(alloc: Global, stream: &[u8], at: usize) -> Result<EventList, ReadFault> {
+// A stream in two pieces.
+fn read_in_two(alloc: Global, first: &[u8], then: &[u8]) -> Result<EventList, ReadFault> {
     let mut reader = StreamReader::new(alloc);
-    for piece in [&stream[..at], &stream[at..]] {
-        reader.feed(piece)?;
-    }
+    reader.feed(first)?;
+    reader.feed(then)?;
     reader.finish()
 }
 
@@ -19,7 +18,7 @@ fn read_in_two(alloc: Global, stream: &[u8], at: usize) -> Result<EventList, Rea
 fn a_stream_is_cut_anywhere(rt: HostRuntime) -> Result<(), Fail> {
     let stream = each_kind_of_line();
     for at in 0..stream.len() {
-        let read = read_in_two(rt.alloc(), stream, at);
+        let read = read_in_two(rt.alloc(), &stream[..at], &stream[at..]);
         assert_eq!(rt;
             short_form(rt.alloc(), read)?.as_slice(),
             each_kind_of_event(),
@@ -61,11 +60,10 @@ fn an_end_in_a_block_is_reported_at_its_line(rt: HostRuntime) -> Result<(), Fail
         b"99999999999999999999",
     ];
     for count in counts {
-        let stream = joined(rt.alloc(), b"blob\ndata ", count)?;
-        let stream = joined(rt.alloc(), stream.as_slice(), b"\n")?;
-        assert!(rt;
-            read_in_two(rt.alloc(), stream.as_slice(), 12).err() == defect(2, Why::Truncated)
-        );
+        let line = joined(rt.alloc(), b"data ", count)?;
+        let line = joined(rt.alloc(), line.as_slice(), b"\n")?;
+        let read = read_in_two(rt.alloc(), b"blob\n", line.as_slice());
+        assert!(rt; read.err() == defect(2, Why::Truncated));
     }
     Ok(())
 }
