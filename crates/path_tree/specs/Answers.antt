@@ -1,8 +1,11 @@
 -- What a call that changes a tree answers.
-use Rattle.std.specs.Prelude.{◌≡◌, ◌⊎◌, Result, Ok, OnOk, OnErr, IfErr, IsErrAnd}
+use Rattle.std.specs.Prelude.{Bool, if◌then◌else◌, ◌≡◌, ◌⊎◌, Result, Ok, OnOk, OnErr, IfErr, IsErrAnd}
 use Rattle.plain_model.specs.declared.fault.Which.TheVariants as which
 use Rattle.plain_model.specs.declared.limit.TheConstants.{MAX_PATH_BYTES, MAX_PATHS}
-use Rattle.plain_model.specs.Trees.{Tree, Refusal}
+use Rattle.plain_model.specs.declared.operation.Entry.{Entry}
+use Rattle.plain_model.specs.Paths.{Bytes}
+use Rattle.plain_model.specs.Trees.{Tree, Refusal, Change}
+use Rattle.plain_model.specs.Trees.Change.{CopyTo, MoveTo}
 use Rattle.plain_model.specs.Trees.Refusal.{MissingSource, PathBytes, Paths}
 use Rattle.path_tree.specs.declared.fault.ApplyFault.{ApplyFault}
 use Rattle.path_tree.specs.declared.fault.ApplyFault.TheVariants as fault
@@ -25,3 +28,7 @@ pub record IsAnswer (expected : Result Tree Refusal) (old : Tree) (answer : Answ
   pub done : OnOk answer (expected ≡ Ok new)
   pub refused : IfErr answer (TellsOf expected)
   pub unchanged : OnErr answer (new ≡ old)
+
+-- a copy, where the source stays, or else a move
+abbrev pub moves : Bool → Bytes → Bytes → Change Entry
+moves keep source target = if keep then CopyTo source target else MoveTo source target

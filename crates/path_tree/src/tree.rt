@@ -2,19 +2,26 @@
 ghost use Rattle.std.specs.Prelude.{◌≡◌, ◌+◌, ◌-◌, ◌^◌, [], length, min, Ok, IfOk, IfErr, OnOk, OnErr};
 ghost use Rattle.plain_model.specs.Trees.{apply, at, subtree, IsTree};
 ghost use Rattle.path_tree.specs.Answers.{TellsOf};
+ghost use Rattle.path_tree.specs.Folders.{prefixed};
+ghost use Rattle.path_tree.specs.Suffixes.{file_tree};
+ghost use Rattle.path_tree.specs.PathMaps.{IsInOrder};
+ghost use Rattle.path_tree.specs.Sound.{AllPaths};
 
 use crate::fault::ApplyFault;
-use crate::path_map::PathMap;
+use crate::folder::Folder;
+use crate::operations::{delete, modify, move_to, owned, with_slash};
 use history_laws::operations_keep_trees;
-use plain_model::{Entry, EntryList, FileOp, NoMemory, Path, Steps};
+use plain_model::{Copied, Entry, EntryList, FileOp, Items, NoMemory, Path, Steps};
 use std::alloc::Global;
 use std::marker::Model;
+use std::rc::Rc;
 
 /// What is at each path of a tree. No path conflicts with another: none is a file and a folder.
 /// (git-fast-import, file operations; the limits: own.)
 #[derive(Drop)]
 pub struct PathTree {
-    entries: PathMap,
+    alloc: Global,
+    root: Rc<Folder>,
 }
 
 impl Model for PathTree {
@@ -23,9 +30,69 @@ impl Model for PathTree {
 
     ghost Value = { Tree };
 
-    ghost view = { λ t. t.entries };
+    ghost view = { λ t. t.root.value };
 
-    ghost invariant = { λ t. IsSound t.entries };
+    ghost invariant = { λ t. IsSound t.root.value };
+}
+
+fn applied(alloc: Global, root: &Folder, op: &FileOp) -> Result<Folder, ApplyFault>
+    requires { IsInOrder root.now }
+    ensures done { IfOk result (λ f. apply op.now root.now ≡ Ok f) }
+    ensures refused { IfErr result (λ fault. TellsOf (apply op.now root.now) fault) }
+    ensures paths { IfOk result (λ f. AllPaths root.now → AllPaths f) }
+{
+    match op {
+        FileOp::Modify {
+            mode,
+            content,
+            path,
+        } => {
+            let entry = Entry {
+                mode: *mode,
+                content: *content,
+            };
+            modify(alloc, root, path.as_bytes(), entry)
+        }
+        FileOp::Delete { path } => {
+            let root = delete(alloc, root, path.as_bytes())?;
+            Ok(root)
+        }
+        FileOp::Copy { source, target } => {
+            move_to(alloc, root, source.as_bytes(), target.as_bytes(), true)
+        }
+        FileOp::Rename { source, target } => {
+            move_to(alloc, root, source.as_bytes(), target.as_bytes(), false)
+        }
+        FileOp::DeleteAll => Ok(Folder::new(alloc)),
+    }
+}
+
+fn file_list(alloc: Global, path: &Path, entry: Option<Entry>) -> Result<EntryList, NoMemory>
+    ensures { IfOk result (λ list. list ≡ prefixed path.now (file_tree entry)) }
+{
+    let mut list = Items::empty(alloc);
+    if let Some(entry) = entry {
+        list.push((path.copied(alloc)?, entry))?;
+    }
+    Ok(list)
+}
+
+fn listed_below(alloc: Global, root: &Folder, path: &Path) -> Result<EntryList, NoMemory>
+    requires order { IsInOrder root.now }
+    requires paths { AllPaths root.now }
+    ensures { IfOk result (λ list. list ≡ subtree path.now root.now) }
+{
+    let bytes = path.as_bytes();
+    let mut list = file_list(alloc, path, root.get(bytes))?;
+    let long = with_slash(alloc, bytes)?;
+    match root.folder_at(long.as_slice()) {
+        None => Ok(list),
+        Some(folder) => {
+            let _count = folder.count();
+            folder.list(alloc, long.as_slice(), &mut list)?;
+            Ok(list)
+        }
+    }
 }
 
 impl PathTree {
@@ -33,9 +100,8 @@ impl PathTree {
     pub fn new(alloc: Global) -> Result<PathTree, NoMemory>
         ensures { IfOk result (λ made. made ≡ []) }
     {
-        Ok(PathTree {
-            entries: PathMap::new(alloc),
-        })
+        let root = Rc::new(alloc, Folder::new(alloc))?;
+        Ok(PathTree { alloc, root })
     }
 
     /// Applies an operation, or leaves the tree as it was. Applied or not, it counts as one step.
@@ -49,21 +115,24 @@ impl PathTree {
     {
         steps.tick();
         operations_keep_trees();
-        self.entries.apply(op)
+        let made = applied(self.alloc, &self.root, op)?;
+        let root = owned(self.alloc, made)?;
+        self.root = root;
+        Ok(())
     }
 
     /// How many paths there are.
     pub fn len(&self) -> usize
         ensures { result ≡ length self.now }
     {
-        self.entries.len()
+        self.root.count() as usize
     }
 
     /// What is at the path. It takes no memory.
     pub fn get(&self, path: &Path) -> Option<Entry>
         ensures { result ≡ at self.now path.now }
     {
-        self.entries.get(path.as_bytes())
+        self.root.get(path.as_bytes())
     }
 
     /// All paths with what is there, in byte order of the paths.
@@ -71,22 +140,26 @@ impl PathTree {
         ensures all { IfOk result (λ list. list ≡ self.now) }
         ensures form { IsTree self.now }
     {
-        self.entries.listed()
+        let mut list = Items::empty(self.alloc);
+        self.root.list(self.alloc, b"", &mut list)?;
+        Ok(list)
     }
 
     /// The path and those below it, with what is there, in byte order of the paths.
     pub fn entries_below(&self, path: &Path) -> Result<EntryList, NoMemory>
         ensures { IfOk result (λ list. list ≡ subtree path.now self.now) }
     {
-        self.entries.at_or_below(path.as_bytes())?.listed()
+        listed_below(self.alloc, &self.root, path)
     }
 
     /// An equal tree. What is applied to the one leaves the other.
     pub fn share(&self) -> Result<PathTree, NoMemory>
         ensures { IfOk result (λ made. made ≡ self.now) }
     {
+        let root = self.root.clone()?;
         Ok(PathTree {
-            entries: self.entries.copied()?,
+            alloc: self.alloc,
+            root,
         })
     }
 }

@@ -1,0 +1,90 @@
+-- A path doesn't end with a slash.
+use Rattle.std.proofs.Common.{◌≡◌, ℕ, ◌==◌, ◌≤◌, ◌<◌, Bool, true, false, cond, not, List, [], ◌∷◌, ◌++◌, length, drop, refl, sym, ap, subst, ◌∙◌, true≢false, nat_lt, Option, Some, None, arith}
+use Rattle.std.specs.Prelude.{◌||◌, Ok, Err}
+use Rattle.std.specs.List.{list_any, onto_first, slice_split}
+use Rattle.std.proofs.lemmas.Bool.{or_right}
+use Rattle.std.proofs.lemmas.Bool.Decides.{nat_tests}
+use Rattle.plain_model.specs.declared.limit.TheConstants.{MAX_PATHS}
+use Rattle.plain_model.specs.declared.operation.Entry.{Entry}
+use Rattle.plain_model.specs.Paths.{Bytes, IsPath, is_empty, components, is_at_or_below}
+use Rattle.plain_model.specs.Trees.{Tree, where_path, within_paths, Change, change, placed, has_long_path, moved, put_all, cleared_for, put, without, subtree}
+use Rattle.plain_model.specs.Trees.Change.{Put, Remove, CopyTo, MoveTo, Clear}
+use Rattle.plain_model.specs.Trees.Refusal.{Paths, PathBytes}
+use Rattle.path_tree.specs.Folders.{prefixed}
+use Rattle.path_tree.specs.Setting.{ends_with_slash}
+use Rattle.path_tree.proofs.JoinedPaths.{rules_of}
+
+-- the members after the first
+abbrev later : List Bytes → List Bytes
+later [] = []
+later (c ∷ cs) = cs
+
+later_any : (cs : List Bytes) → list_any is_empty (later cs) ≡ true → list_any is_empty cs ≡ true
+later_any [] h = h
+later_any (c ∷ cs) h = or_right (is_empty c) (list_any is_empty cs) h
+
+later_onto : (b : ℕ) (cs : List Bytes) → later (onto_first b cs) ≡ later cs
+later_onto b [] = refl
+later_onto b (c ∷ cs) = refl
+
+empty_last : (p : Bytes) → ends_with_slash p ≡ true → list_any is_empty (later (components p)) ≡ true
+empty_last [] h = absurd (true≢false (sym h))
+empty_last (b ∷ []) h = ap (λ t. list_any is_empty (later (cond t ([] ∷ [] ∷ []) (onto_first b ([] ∷ []))))) h
+empty_last (b ∷ c ∷ p) h = by (b == 47) (empty_last (c ∷ p) h)
+  where
+    by : (t : Bool) → list_any is_empty (later (components (c ∷ p))) ≡ true
+        → list_any is_empty (later (cond t ([] ∷ components (c ∷ p)) (onto_first b (components (c ∷ p))))) ≡ true
+    by true again = later_any (components (c ∷ p)) again
+    by false again = ap (λ (l : List Bytes). list_any is_empty l) (later_onto b (components (c ∷ p))) ∙ again
+
+pub no_slash_at_end : (p : Bytes) → IsPath p → ends_with_slash p ≡ false
+no_slash_at_end p h = by (ends_with_slash p) refl
+  where
+    by : (t : Bool) → ends_with_slash p ≡ t → t ≡ false
+    by true e = absurd (true≢false (sym (later_any (components p) (empty_last p e)) ∙ (rules_of p h).slashes))
+    by false e = refl
+
+pub prefixed_nothing : (t : Tree) → prefixed [] t ≡ t
+prefixed_nothing [] = refl
+prefixed_nothing (e ∷ t) = ap (λ (s : Tree). (e.0, e.1) ∷ s) (prefixed_nothing t)
+
+-- ---- the limit on paths is kept
+
+pub few_within : (tree new : Tree) → within_paths tree ≡ Ok new → length new ≤ MAX_PATHS
+few_within tree new h = by (nat_lt MAX_PATHS (length tree)) refl h
+  where
+    by : (t : Bool) → nat_lt MAX_PATHS (length tree) ≡ t → cond t (Err Paths) (Ok tree) ≡ Ok new → length new ≤ MAX_PATHS
+    by true e h = absurd cc
+    by false e h =
+        let is : tree ≡ new = cc in
+        subst (λ (t : Tree). length t ≤ MAX_PATHS) is (grind (arith, nat_tests, e))
+
+pub fewer_kept : (test : Bytes → Bool) (tree : Tree) → length (where_path test tree) ≤ length tree
+fewer_kept test [] = omega arith
+fewer_kept test (e ∷ es) = by (test e.0) (fewer_kept test es)
+  where
+    by : (t : Bool) → length (where_path test es) ≤ length es → length (cond t (e ∷ where_path test es) (where_path test es)) ≤ length (e ∷ es)
+    by true h = omega (arith, h)
+    by false h = omega (arith, h)
+
+few_placed : (s t : Bytes) (taken base new : Tree) → placed s t taken base ≡ Ok new → length new ≤ MAX_PATHS
+few_placed s t [] base new h = absurd cc
+few_placed s t (e ∷ taken) base new h = by (has_long_path (moved s t (e ∷ taken))) h
+  where
+    by : (b : Bool) → cond b (Err PathBytes) (within_paths (put_all (moved s t (e ∷ taken)) (cleared_for t base))) ≡ Ok new → length new ≤ MAX_PATHS
+    by true h = absurd cc
+    by false h = few_within (put_all (moved s t (e ∷ taken)) (cleared_for t base)) new h
+
+pub change_few : (c : Change Entry) (old new : Tree) → change c old ≡ Ok new → length old ≤ MAX_PATHS → length new ≤ MAX_PATHS
+change_few (Put entry path) old new h few = few_within (put path entry (cleared_for path old)) new h
+change_few (Remove path) old new h few =
+    let is : new ≡ without path old = cc in
+    rw is (few_of (fewer_kept (λ q. not (is_at_or_below path q)) old) few)
+  where
+    few_of : {a b : ℕ} → a ≤ b → b ≤ MAX_PATHS → a ≤ MAX_PATHS
+    few_of h k = omega (arith, h, k)
+change_few (CopyTo s t) old new h few = few_placed s t (subtree s old) old new h
+change_few (MoveTo s t) old new h few = few_placed s t (subtree s old) (without s old) new h
+change_few Clear old new h few =
+    let is : new ≡ [] = cc in
+    rw is (omega arith)
