@@ -195,7 +195,7 @@ less_of Less p = refl
 less_of Equal p = absurd p
 less_of Greater p = absurd p
 
-lt_of : (o : Ordering) → o ≡ Less → T (is_lt o)
+pub lt_of : (o : Ordering) → o ≡ Less → T (is_lt o)
 lt_of o h = subst (λ r. T (is_lt r)) (sym h) tt
 
 module _ {X : Type 0} where

@@ -1,12 +1,17 @@
 //! The children of a folder, by their keys.
-ghost use Rattle.std.specs.Prelude.{◌≡◌, [], MatchOption, ◌≤◌, ◌<◌, ◌++◌, ◌∷◌, ◌&&◌, not, false, bytes_eq, length, take, drop, option_map, IfOk, OnOk};
+ghost use Rattle.std.specs.Prelude.{◌≡◌, [], MatchOption, ◌≤◌, ◌<◌, ◌++◌, ◌∷◌, ◌&&◌, not, false, bytes_eq, length, take, drop, option_map, IfOk, IfErr, OnOk};
 ghost use Rattle.plain_model.specs.Trees.{at, has, put, where_path};
 ghost use Rattle.path_tree.specs.Folders.{key_of, rest_of, tree_under};
 ghost use Rattle.path_tree.specs.Inside.{member_of, rows_of, put_if};
+ghost use Rattle.path_tree.specs.PathMaps.{IsInOrder};
+ghost use Rattle.path_tree.specs.Rows.{IsFound, IsPlace};
+ghost use Rattle.std.specs.Ordering.{nat_cmp};
+ghost use Rattle.std.specs.Cmp.Lexicographic.{slice_cmp};
 
 use super::{Child, Folder, Node};
 use plain_model::{Entry, NoMemory};
 use std::alloc::Global;
+use std::cmp::Ordering;
 use std::rc::Rc;
 
 /// How many bytes the first key of a path has.
@@ -25,20 +30,33 @@ pub(crate) fn key_len(path: &[u8]) -> usize
     len
 }
 
+/// Where the child with the key is, or else where it belongs.
+pub(crate) fn search(children: &[Child], key: &[u8]) -> Result<usize, usize>
+    requires { IsInOrder (rows_of children.now) }
+    ensures found { IfOk result (IsFound key.now children.now) }
+    ensures absent { IfErr result (IsPlace key.now children.now) }
+{
+    children.binary_search_by(
+        |child: &Child| -> Ordering
+            ensures { result ≡ slice_cmp nat_cmp child.now.key.value.items key.entry.now }
+        { child.key.as_slice().cmp(key) },
+    )
+}
+
 /// What is under the key.
 pub(crate) fn find<'a>(children: &'a [Child], key: &[u8]) -> Option<&'a Node>
+    requires { IsInOrder (rows_of children.now) }
     ensures { option_map (λ n. member_of n.now) result ≡ at (rows_of children.now) key.now }
 {
-    for child in children {
-        if child.key.as_slice() == key {
-            return Some(&child.node);
-        }
+    match search(children, key) {
+        Ok(index) => Some(&children[index].node),
+        Err(_) => None,
     }
-    None
 }
 
 /// The folder under the key.
 pub(crate) fn folder_under<'a>(children: &'a [Child], key: &[u8]) -> Option<&'a Rc<Folder>>
+    requires { IsInOrder (rows_of children.now) }
     ensures { let tree = tree_under (at (rows_of children.now) key.now) in
         MatchOption result (tree ≡ []) (λ f. f.now.value ≡ tree) }
 {
