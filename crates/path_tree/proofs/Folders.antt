@@ -1,13 +1,12 @@
 -- A folder that is found below another.
-use Rattle.std.proofs.Common.{◌≡◌, ℕ, Bool, true, false, cond, [], ◌∷◌, ◌++◌, length, refl, sym, ap, subst, ◌∙◌, Option, Some, None, true≢false, append_assoc}
+use Rattle.std.proofs.Common.{◌≡◌, Bool, true, false, [], ◌∷◌, ◌++◌, refl, sym, ap, ◌∙◌, Option, Some, None, true≢false, append_assoc}
 use Rattle.plain_model.specs.Paths.{Bytes, is_empty}
 use Rattle.plain_model.specs.Trees.{TreeOf, Tree, at}
 use Rattle.path_tree.specs.Folders.{Member, key_of, rest_of, is_folder_key, flat, at_member, AreSound, tree_under}
 use Rattle.path_tree.specs.Setting.{ends_with_slash, FitsIf}
 use Rattle.path_tree.proofs.Keys.{whole, at_flat, folder_splits, Splits}
-use Rattle.path_tree.proofs.Looking.{fits_at}
+use Rattle.path_tree.proofs.Looking.{fits_at, at_tree_under}
 use Rattle.path_tree.proofs.Setting.{long_is_folder, slash_of_key}
-use Rattle.path_tree.proofs.Levels.{at_tree_under}
 
 pub slashed_key : (p : Bytes) → ends_with_slash p ≡ true → is_folder_key (key_of p) ≡ true
 slashed_key p h = by (is_empty (rest_of p)) refl

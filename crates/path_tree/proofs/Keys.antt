@@ -1,5 +1,5 @@
 -- Paths by their first key.
-use Rattle.std.proofs.Common.{◌≡◌, ℕ, ◌==◌, Bool, true, false, cond, not, T, [], ◌∷◌, ◌++◌, refl, sym, ap, subst, ◌∙◌, Option, Some, None, true≢false, append-nil, eqb-true, inl, inr, ◌⊎◌, is_some}
+use Rattle.std.proofs.Common.{◌≡◌, ℕ, ◌==◌, Bool, true, false, cond, not, T, [], ◌∷◌, ◌++◌, refl, sym, ap, subst, ◌∙◌, Option, Some, None, true≢false, eqb-true, inl, inr, ◌⊎◌}
 use Rattle.std.specs.Option.{option_or}
 use Rattle.std.specs.Prelude.{◌&&◌}
 use Rattle.std.specs.Ordering.{is_lt, is_eq, eq_by_cmp, ordering_then, nat_cmp}
@@ -52,7 +52,8 @@ pub file_splits : (k : Bytes) → is_file_key k ≡ true → Splits k []
 file_splits [] h = record { key = refl; rest = refl }
 file_splits (b ∷ k) h = record { key = (by (b == 47) h (file_splits k)).0; rest = (by (b == 47) h (file_splits k)).1 }
   where
-    by : (t : Bool) → (not t && is_file_key k) ≡ true → (is_file_key k ≡ true → Splits k []) → (cond t (47 ∷ []) (b ∷ key_of (k ++ [])) ≡ b ∷ k) × (cond t (k ++ []) (rest_of (k ++ [])) ≡ [])
+    by : (t : Bool) → (not t && is_file_key k) ≡ true → (is_file_key k ≡ true → Splits k [])
+        → (cond t (47 ∷ []) (b ∷ key_of (k ++ [])) ≡ b ∷ k) × (cond t (k ++ []) (rest_of (k ++ [])) ≡ [])
     by true h again = absurd (true≢false (sym h))
     by false h again = let r = again h in (ap (λ (l : Bytes). b ∷ l) r.key, r.rest)
 
@@ -63,7 +64,8 @@ tied p q h = subst (λ (x : Bytes). eq_by_cmp by_bytes p x ≡ true) h (ap is_eq
 pub tie_prefixed : (q k u : Bytes) → Splits k u → eq_by_cmp by_bytes q (k ++ u) ≡ (eq_by_cmp by_bytes (key_of q) k && eq_by_cmp by_bytes (rest_of q) u)
 tie_prefixed q k u s = by (eq_by_cmp by_bytes q (k ++ u)) refl (eq_by_cmp by_bytes (key_of q) k) refl (eq_by_cmp by_bytes (rest_of q) u) refl
   where
-    by : (l : Bool) → eq_by_cmp by_bytes q (k ++ u) ≡ l → (a : Bool) → eq_by_cmp by_bytes (key_of q) k ≡ a → (b : Bool) → eq_by_cmp by_bytes (rest_of q) u ≡ b → l ≡ (a && b)
+    by : (l : Bool) → eq_by_cmp by_bytes q (k ++ u) ≡ l → (a : Bool) → eq_by_cmp by_bytes (key_of q) k ≡ a → (b : Bool)
+        → eq_by_cmp by_bytes (rest_of q) u ≡ b → l ≡ (a && b)
     by true e a ea b eb =
         let is = same_path q (k ++ u) e in
         sym (ap (λ x. x && b) (sym ea ∙ tied (key_of q) k (ap key_of is ∙ s.key)) ∙ (sym eb ∙ tied (rest_of q) u (ap rest_of is ∙ s.rest)))
@@ -81,7 +83,7 @@ abbrev pub AllSplit : Bytes → Tree → Type 0
 AllSplit k [] = Unit {0}
 AllSplit k (e ∷ es) = Splits k e.0 × AllSplit k es
 
-folder_all : (k : Bytes) (t : Tree) → is_folder_key k ≡ true → AllSplit k t
+pub folder_all : (k : Bytes) (t : Tree) → is_folder_key k ≡ true → AllSplit k t
 folder_all k [] h = tt
 folder_all k (e ∷ es) h = (folder_splits k e.0 h, folder_all k es h)
 
@@ -130,9 +132,11 @@ at_flat (r ∷ rs) q s =
     ∙ by (eq_by_cmp by_bytes (key_of q) r.0) refl
   where
     by : (t : Bool) → eq_by_cmp by_bytes (key_of q) r.0 ≡ t
-        → option_or (cond t (at (member_tree r.1) (rest_of q)) None) (at_member (at rs (key_of q)) (rest_of q)) ≡ at_member (cond t (Some r.1) (at rs (key_of q))) (rest_of q)
+        → option_or (cond t (at (member_tree r.1) (rest_of q)) None) (at_member (at rs (key_of q)) (rest_of q)) ≡ at_member
+        (cond t (Some r.1) (at rs (key_of q))) (rest_of q)
     by true e =
-        ap (λ o. option_or (at (member_tree r.1) (rest_of q)) (at_member o (rest_of q))) (ap (at rs) (same_path (key_of q) r.0 e) ∙ none_before r.0 rs (first _ _ s.in_order))
+        ap (λ o. option_or (at (member_tree r.1) (rest_of q)) (at_member o (rest_of q)))
+        (ap (at rs) (same_path (key_of q) r.0 e) ∙ none_before r.0 rs (first _ _ s.in_order))
         ∙ or_none (at (member_tree r.1) (rest_of q))
     by false e = refl
 

@@ -1,9 +1,9 @@
 -- The paths of a folder, one child after another.
-use Rattle.std.proofs.Common.{◌≡◌, ℕ, Bool, true, false, cond, List, [], ◌∷◌, ◌++◌, length, refl, sym, ap, subst, ◌∙◌, Option, Some, None, is_some, true≢false, append-nil, append_assoc, ◌≤◌, ◌<◌, ◌+◌, arith}
+use Rattle.std.proofs.Common.{◌≡◌, ℕ, true, cond, List, [], ◌∷◌, ◌++◌, refl, sym, ap, subst, ◌∙◌, Option, Some, None, is_some, true≢false, append-nil, append_assoc, ◌≤◌, ◌<◌, ◌+◌, arith}
 use Rattle.std.specs.Option.{option_or}
 use Rattle.plain_model.specs.declared.operation.Entry.{Entry}
 use Rattle.plain_model.specs.Paths.{Bytes, IsPath}
-use Rattle.plain_model.specs.Trees.{TreeOf, Tree, at, has}
+use Rattle.plain_model.specs.Trees.{Tree, at}
 use Rattle.path_tree.specs.declared.folder.Child.{Child}
 use Rattle.path_tree.specs.Folders.{Member, prefixed, member_tree, flat, total, Fits, AllFit}
 use Rattle.path_tree.specs.Folders.Member.{file, folder}
@@ -20,7 +20,8 @@ prefixed-append k (e ∷ a) b = ap (λ (t : Tree). (k ++ e.0, e.1) ∷ t) (prefi
 pub prefixed-prefixed : (k l : Bytes) (t : Tree) → prefixed k (prefixed l t) ≡ prefixed (k ++ l) t
 prefixed-prefixed k l [] = refl
 prefixed-prefixed k l (e ∷ t) =
-    ap (λ (x : Bytes). (x, e.1) ∷ prefixed k (prefixed l t)) (sym (append_assoc k l e.0)) ∙ ap (λ (s : Tree). ((k ++ l) ++ e.0, e.1) ∷ s) (prefixed-prefixed k l t)
+    ap (λ (x : Bytes). (x, e.1) ∷ prefixed k (prefixed l t)) (sym (append_assoc k l e.0))
+    ∙ ap (λ (s : Tree). ((k ++ l) ++ e.0, e.1) ∷ s) (prefixed-prefixed k l t)
 
 some_first : (o p : Option Entry) → is_some o ≡ true → is_some (option_or o p) ≡ true
 some_first None p h = absurd (true≢false (sym h))
@@ -37,13 +38,17 @@ pub second_paths : (a b : Tree) → AllPaths (a ++ b) → AllPaths b
 second_paths a b all q h = all q (ap is_some (at-append a b q) ∙ some_second (at a q) (at b q) h)
 
 -- what is left begins with a child
-pub left_is : (before : Bytes) (child : Child) (rest : List Child) → prefixed before (flat (rows_of (child ∷ rest))) ≡ prefixed (before ++ child.key.value.items) (member_tree (member_of child.node)) ++ prefixed before (flat (rows_of rest))
+pub left_is : (before : Bytes) (child : Child) (rest : List Child)
+    → prefixed before (flat (rows_of (child ∷ rest))) ≡ prefixed (before ++ child.key.value.items) (member_tree (member_of child.node)) ++ prefixed before
+    (flat (rows_of rest))
 left_is before child rest =
     prefixed-append before (row_tree child) (flat (rows_of rest))
     ∙ ap (λ (t : Tree). t ++ prefixed before (flat (rows_of rest))) (prefixed-prefixed before child.key.value.items (member_tree (member_of child.node)))
 
 -- and what was put so far ends with it
-pub so_far_is : (before : Bytes) (cs : List Child) (child : Child) → prefixed before (flat (rows_of (cs ++ child ∷ []))) ≡ prefixed before (flat (rows_of cs)) ++ prefixed (before ++ child.key.value.items) (member_tree (member_of child.node))
+pub so_far_is : (before : Bytes) (cs : List Child) (child : Child)
+    → prefixed before (flat (rows_of (cs ++ child ∷ []))) ≡ prefixed before (flat (rows_of cs)) ++ prefixed (before ++ child.key.value.items)
+    (member_tree (member_of child.node))
 so_far_is before cs child =
     ap (prefixed before) (flat-push cs child)
     ∙ prefixed-append before (flat (rows_of cs)) (row_tree child)
@@ -54,11 +59,13 @@ pub file_path : (k : Bytes) (x : Entry) → AllPaths (prefixed k (member_tree (f
 file_path k x all = subst (λ (q : Bytes). IsPath q) (append-nil k) (all (k ++ []) (ap (λ b. is_some (cond b (Some x) None)) (tied (k ++ []) (k ++ []) refl)))
 
 -- a folder below is smaller
-pub smaller : (child : Child) (rest : List Child) (t : Tree) (n : ℕ) → member_of child.node ≡ folder t → AllFit (rows_of (child ∷ rest)) → total (flat (rows_of (child ∷ rest))) ≤ n → total t < n
+pub smaller : (child : Child) (rest : List Child) (t : Tree) (n : ℕ) → member_of child.node ≡ folder t → AllFit (rows_of (child ∷ rest))
+    → total (flat (rows_of (child ∷ rest))) ≤ n → total t < n
 smaller child rest t n is fit h =
     let key = child.key.value.items in
     let fits : Fits key (folder t) = subst (λ (p : Member). Fits key p) is fit.0 in
-    let whole : total (flat (rows_of (child ∷ rest))) ≡ total (row_tree child) + total (flat (rows_of rest)) = total-append (row_tree child) (flat (rows_of rest)) in
+    let whole : total (flat (rows_of (child ∷ rest))) ≡ total (row_tree child) + total (flat (rows_of rest)) =
+    total-append (row_tree child) (flat (rows_of rest)) in
     let row : total (row_tree child) ≡ total (prefixed key t) = ap (λ (p : Member). total (prefixed key (member_tree p))) is in
     omega (arith, h, whole, row, fits.1, total-prefixed key t (key_long key fits.0))
 

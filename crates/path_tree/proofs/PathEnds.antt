@@ -1,15 +1,22 @@
 -- A path doesn't end with a slash.
-use Rattle.std.proofs.Common.{◌≡◌, ℕ, ◌==◌, ◌≤◌, ◌<◌, Bool, true, false, cond, not, List, [], ◌∷◌, ◌++◌, length, drop, refl, sym, ap, subst, ◌∙◌, true≢false, nat_lt, Option, Some, None, arith}
-use Rattle.std.specs.Prelude.{◌||◌, Ok, Err}
-use Rattle.std.specs.List.{list_any, onto_first, slice_split}
+use Rattle.std.proofs.Common.{◌≡◌, ℕ, ◌+◌, ◌==◌, ◌≤◌, ◌<◌, Bool, true, false, cond, not, List, [], ◌∷◌, length, refl, sym, ap, subst, ◌∙◌, true≢false, nat_lt, arith}
+use Rattle.std.specs.Prelude.{Result, Ok, Err, IfOk, OnOk}
+use Rattle.std.specs.List.{list_any, onto_first}
 use Rattle.std.proofs.lemmas.Bool.{or_right}
 use Rattle.std.proofs.lemmas.Bool.Decides.{nat_tests}
+use Rattle.std.specs.declared.cmp.Ordering.{Ordering}
+use Rattle.std.specs.declared.cmp.Ordering.TheVariants.{Less, Equal, Greater}
+use Rattle.std.specs.FinMap.Entries.{by_order}
+use Rattle.history_laws.proofs.TreeLaws.{by_bytes}
 use Rattle.plain_model.specs.declared.limit.TheConstants.{MAX_PATHS}
 use Rattle.plain_model.specs.declared.operation.Entry.{Entry}
-use Rattle.plain_model.specs.Paths.{Bytes, IsPath, is_empty, components, is_at_or_below}
-use Rattle.plain_model.specs.Trees.{Tree, where_path, within_paths, Change, change, placed, has_long_path, moved, put_all, cleared_for, put, without, subtree}
+use Rattle.plain_model.specs.Paths.{Bytes, IsPath, is_empty, components, is_at_or_below, is_in_the_way}
+use Rattle.plain_model.specs.Trees.{Tree, TreeOf, Refusal, IsTree, apply, meaning, where_path, within_paths, Change, change, placed, has_long_path, moved, put_all, cleared_for, put, without, subtree}
 use Rattle.plain_model.specs.Trees.Change.{Put, Remove, CopyTo, MoveTo, Clear}
 use Rattle.plain_model.specs.Trees.Refusal.{Paths, PathBytes}
+use Rattle.plain_model.specs.declared.operation.FileOp.{FileOp}
+use Rattle.path_tree.specs.Answers.{Answer, IsAnswer}
+use Rattle.path_tree.specs.Sound.{AllPaths, IsSound}
 use Rattle.path_tree.specs.Folders.{prefixed}
 use Rattle.path_tree.specs.Setting.{ends_with_slash}
 use Rattle.path_tree.proofs.JoinedPaths.{rules_of}
@@ -88,3 +95,32 @@ change_few (MoveTo s t) old new h few = few_placed s t (subtree s old) (without 
 change_few Clear old new h few =
     let is : new ≡ [] = cc in
     rw is (omega arith)
+
+-- one more path at most
+more_put : {X : Type 0} (p : Bytes) (x : X) (tree : TreeOf X) → length (put p x tree) ≤ length tree + 1
+more_put p x [] = omega arith
+more_put p x (e ∷ es) = by (by_bytes p e.0) (more_put p x es)
+  where
+    by : (o : Ordering) → length (put p x es) ≤ length es + 1 → length (by_order o ((p, x) ∷ e ∷ es) ((e.0, x) ∷ es) (e ∷ put p x es)) ≤ length (e ∷ es) + 1
+    by Less h = omega arith
+    by Equal h = omega arith
+    by Greater h = omega (arith, h)
+
+pub put_within : (p : Bytes) (x : Entry) (old : Tree) → length old < MAX_PATHS → within_paths (put p x (cleared_for p old)) ≡ Ok (put p x (cleared_for p old))
+put_within p x old room = by (nat_lt MAX_PATHS (length (put p x (cleared_for p old)))) refl
+  where
+    by : (t : Bool) → nat_lt MAX_PATHS (length (put p x (cleared_for p old))) ≡ t
+        → cond t (Err Paths) (Ok (put p x (cleared_for p old))) ≡ Ok (put p x (cleared_for p old))
+    by true e = absurd (grind (arith, nat_tests, e, room, more_put p x (cleared_for p old), fewer_kept (λ q. not (is_in_the_way p q)) old))
+    by false e = refl
+
+-- ---- what always holds of a tree holds after an operation
+
+pub sound_after : (op : FileOp) (old new : Tree) (r : Answer) → IsAnswer (apply op old) old r new → OnOk r (AllPaths old → AllPaths new)
+    → IfOk (apply op old) IsTree → IsSound old → IsSound new
+sound_after op old new (Ok v) answer paths tree sound = record {
+  form = subst (λ (x : Result Tree Refusal). IfOk x IsTree) answer.done tree;
+  paths = paths sound.paths;
+  few = change_few (meaning op) old new answer.done sound.few;
+}
+sound_after op old new (Err e) answer paths tree sound = subst (λ (t : Tree). IsSound t) (sym answer.unchanged) sound

@@ -1,11 +1,11 @@
 -- A key is found by halving.
-use Rattle.std.proofs.Common.{◌≡◌, ℕ, zero, suc, ◌<◌, ◌≤◌, ◌+◌, Bool, true, false, T, List, [], ◌∷◌, length, take, drop, refl, sym, ap, subst, ◌∙◌, arith, ◌++◌, cond, Option, Some, None}
+use Rattle.std.proofs.Common.{◌≡◌, ℕ, zero, suc, ◌<◌, ◌≤◌, ◌+◌, false, T, List, [], ◌∷◌, length, take, drop, refl, sym, ap, subst, ◌∙◌, arith, ◌++◌, cond, Some, None}
 use Rattle.std.specs.Prelude.{Result, Ok, Err, IfOk, IfErr, slice_index_or}
 use Rattle.std.specs.List.{AllWithin}
-use Rattle.std.specs.List.Sorted.{IsSortedBy, IsBinarySearchResult, IsSearchInRange}
+use Rattle.std.specs.List.Sorted.{IsBinarySearchResult, IsSearchInRange}
 use Rattle.std.specs.Ordering.{is_lt, is_eq, ordering_reverse}
 use Rattle.std.specs.declared.cmp.Ordering.{Ordering}
-use Rattle.std.specs.declared.cmp.Ordering.TheVariants.{Less, Equal, Greater}
+use Rattle.std.specs.declared.cmp.Ordering.TheVariants.{Less, Greater}
 use Rattle.std.specs.Cmp.Lexicographic.{nat_list_cmp_total}
 use Rattle.std.proofs.lemmas.List.Sorted.{searchable_from_sorted}
 use Rattle.plain_model.specs.Paths.{Bytes}
@@ -47,7 +47,8 @@ rise (b ∷ c ∷ cs) h (suc k) d lt =
 before_point : (key : Bytes) (cs : List Child) (i : ℕ) → AllWithin (λ c. against key c ≡ Less) cs 0 i → i ≤ length cs → AllBefore key (rows_of (take i cs))
 before_point key cs zero h le = tt
 before_point key [] (suc i) h le = absurd (omega (arith, le))
-before_point key (c ∷ cs) (suc i) h le = (h zero c (omega arith) (omega arith), before_point key cs i (λ k d low high. h (suc k) d (omega arith) (omega (arith, high))) (omega (arith, le)))
+before_point key (c ∷ cs) (suc i) h le =
+    (h zero c (omega arith) (omega arith), before_point key cs i (λ k d low high. h (suc k) d (omega arith) (omega (arith, high))) (omega (arith, le)))
 
 all_after : (key : Bytes) (cs : List Child) → AllWithin (λ c. against key c ≡ Greater) cs 0 (length cs) → AllAfter key (rows_of cs)
 all_after key [] h = tt
@@ -62,11 +63,13 @@ after_point key (c ∷ cs) (suc i) h = after_point key cs i (λ k d low high. h 
 
 -- ---- what the search answers
 
-pub found_by : (key : Bytes) (cs : List Child) (r : Result ℕ ℕ) → IsSearchInRange r (length cs) → IsBinarySearchResult (against key) cs r → IfOk r (IsFound key cs)
+pub found_by : (key : Bytes) (cs : List Child) (r : Result ℕ ℕ) → IsSearchInRange r (length cs) → IsBinarySearchResult (against key) cs r
+    → IfOk r (IsFound key cs)
 found_by key cs (Ok i) range h = record { within = range; key_is = λ d. same_path (key_in (slice_index_or cs i d)) key (ap is_eq (h d)) }
 found_by key cs (Err i) range h = tt
 
-pub absent_by : (key : Bytes) (cs : List Child) (r : Result ℕ ℕ) → IsInOrder (rows_of cs) → IsSearchInRange r (length cs) → IsBinarySearchResult (against key) cs r → IfErr r (IsPlace key cs)
+pub absent_by : (key : Bytes) (cs : List Child) (r : Result ℕ ℕ) → IsInOrder (rows_of cs) → IsSearchInRange r (length cs)
+    → IsBinarySearchResult (against key) cs r → IfErr r (IsPlace key cs)
 absent_by key cs (Ok i) sorted range h = tt
 absent_by key cs (Err i) sorted range h =
     let point = h (searchable_from_sorted nat_list_cmp_total key_in cs key (λ k d low high. rise cs sorted k d high)) in

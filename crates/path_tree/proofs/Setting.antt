@@ -1,15 +1,14 @@
 -- Where a path leads, key by key.
-use Rattle.std.proofs.Common.{◌≡◌, ℕ, ◌==◌, ◌<◌, Bool, true, false, cond, not, [], ◌∷◌, ◌++◌, length, drop, refl, sym, ap, subst, ◌∙◌, Option, Some, None, true≢false, append-nil, eqb-true, eq-eqb, bytes_eq, arith}
+use Rattle.std.proofs.Common.{◌≡◌, ℕ, ◌==◌, Bool, true, false, cond, not, [], ◌∷◌, ◌++◌, length, drop, refl, sym, ap, subst, ◌∙◌, true≢false, append-nil, eqb-true, eq-eqb, bytes_eq}
 use Rattle.std.specs.Prelude.{◌&&◌}
 use Rattle.plain_model.specs.Paths.{Bytes, is_empty, is_below}
-use Rattle.plain_model.specs.Trees.{TreeOf, Tree, at}
-use Rattle.path_tree.specs.Folders.{Member, key_of, rest_of, is_file_key, is_folder_key}
-use Rattle.path_tree.specs.Setting.{name_of, covers, ends_with_slash}
+use Rattle.path_tree.specs.Folders.{key_of, rest_of, is_file_key, is_folder_key}
+use Rattle.path_tree.specs.Setting.{name_of, ends_with_slash}
 use Rattle.path_tree.proofs.Keys.{whole}
 
 -- ---- two bytes and the slash
 
-not_slash : (b c : ℕ) → (b == 47) ≡ true → (c == 47) ≡ false → (b == c) ≡ false
+pub not_slash : (b c : ℕ) → (b == 47) ≡ true → (c == 47) ≡ false → (b == c) ≡ false
 not_slash b c e f = by (b == c) refl
   where
     by : (t : Bool) → (b == c) ≡ t → t ≡ false
@@ -24,41 +23,6 @@ turned b c = by (b == c) refl (c == b) refl
     by true h false k = absurd (true≢false (sym (eq-eqb c b (sym (eqb-true b c h))) ∙ k))
     by false h true k = absurd (true≢false (sym (eq-eqb b c (sym (eqb-true c b k))) ∙ h))
     by false h false k = refl
-
--- ---- what the path leads to
-
-abbrev follows : Bytes → Bytes → Bool
-follows p q = cond (is_empty (rest_of p)) true (covers (rest_of p) (rest_of q))
-
-pub covers_by_key : (p q : Bytes) → covers p q ≡ (bytes_eq (key_of p) (key_of q) && follows p q)
-covers_by_key [] [] = refl
-covers_by_key [] (c ∷ q) = by (c == 47)
-  where
-    by : (t : Bool) → false ≡ (bytes_eq [] (cond t (47 ∷ []) (c ∷ key_of q)) && true)
-    by true = refl
-    by false = refl
-covers_by_key (b ∷ p) [] = by (b == 47)
-  where
-    by : (t : Bool) → false ≡ (bytes_eq (cond t (47 ∷ []) (b ∷ key_of p)) [] && cond (is_empty (cond t p (rest_of p))) true (covers (cond t p (rest_of p)) []))
-    by true = refl
-    by false = refl
-covers_by_key (b ∷ p) (c ∷ q) = by (b == 47) refl (c == 47) refl (covers_by_key p q)
-  where
-    inner : (t : Bool) → ((b == c) ≡ t) → covers p q ≡ (bytes_eq (key_of p) (key_of q) && follows p q) → (t && covers p q) ≡ ((t && bytes_eq (key_of p) (key_of q)) && follows p q)
-    inner true e again = again
-    inner false e again = refl
-
-    by : (s : Bool) → (b == 47) ≡ s → (t : Bool) → (c == 47) ≡ t → covers p q ≡ (bytes_eq (key_of p) (key_of q) && follows p q)
-        → ((b == c) && cond (s && is_empty p) true (covers p q))
-        ≡ (bytes_eq (cond s (47 ∷ []) (b ∷ key_of p)) (cond t (47 ∷ []) (c ∷ key_of q)) && cond (is_empty (cond s p (rest_of p))) true (covers (cond s p (rest_of p)) (cond t q (rest_of q))))
-    by true e true f again = ap (λ t. t && cond (is_empty p) true (covers p q)) (eq-eqb b c (eqb-true b 47 e ∙ sym (eqb-true c 47 f)))
-    by true e false f again =
-        ap (λ t. t && cond (is_empty p) true (covers p q)) (not_slash b c e f)
-        ∙ sym (ap (λ t. (t && bytes_eq [] (key_of q)) && cond (is_empty p) true (covers p (rest_of q))) (turned 47 c ∙ f))
-    by false e true f again =
-        ap (λ t. t && covers p q) (turned b c ∙ not_slash c b f e)
-        ∙ sym (ap (λ t. (t && bytes_eq (key_of p) []) && cond (is_empty (rest_of p)) true (covers (rest_of p) q)) e)
-    by false e false f again = inner (b == c) refl again
 
 -- ---- what is on the way
 
@@ -148,7 +112,19 @@ file_of_key [] h f = refl
 file_of_key (b ∷ p) h f = by (b == 47) refl (file_of_key p) h f
   where
     by : (t : Bool) → (b == 47) ≡ t → (is_empty (rest_of p) ≡ true → is_folder_key (key_of p) ≡ false → is_file_key (key_of p) ≡ true)
-        → is_empty (cond t p (rest_of p)) ≡ true → is_folder_key (cond t (47 ∷ []) (b ∷ key_of p)) ≡ false → is_file_key (cond t (47 ∷ []) (b ∷ key_of p)) ≡ true
+        → is_empty (cond t p (rest_of p)) ≡ true → is_folder_key (cond t (47 ∷ []) (b ∷ key_of p)) ≡ false
+        → is_file_key (cond t (47 ∷ []) (b ∷ key_of p)) ≡ true
     by true e again h f = absurd (true≢false f)
     by false e again h f =
         ap (λ t. not t && is_file_key (key_of p)) e ∙ again h (sym (ap (λ t. cond t (is_empty (key_of p)) (is_folder_key (key_of p))) e) ∙ f)
+
+-- a path with nothing after its first key, and no slash at its end, is a name
+pub name_is : (p : Bytes) → is_empty (rest_of p) ≡ true → ends_with_slash p ≡ false → is_file_key p ≡ true
+name_is p e f = subst (λ (k : Bytes). is_file_key k ≡ true) (key_is p e) (file_of_key p e (sym (slash_of_key p e) ∙ f))
+  where
+    none : (r : Bytes) → is_empty r ≡ true → r ≡ []
+    none [] h = refl
+    none (b ∷ r) h = absurd (true≢false (sym h))
+
+    key_is : (p : Bytes) → is_empty (rest_of p) ≡ true → key_of p ≡ p
+    key_is p e = sym (append-nil (key_of p)) ∙ ap (λ (r : Bytes). key_of p ++ r) (sym (none (rest_of p) e)) ∙ whole p

@@ -1,8 +1,7 @@
 -- Rows in which one key has another member, or none.
-use Rattle.std.proofs.Common.{◌≡◌, ℕ, ◌<◌, ◌+◌, Bool, true, false, cond, T, List, [], ◌∷◌, ◌++◌, length, take, drop, refl, sym, ap, subst, ◌∙◌, Option, Some, None, bytes_eq, true≢false, arith}
-use Rattle.std.specs.Prelude.{◌&&◌}
+use Rattle.std.proofs.Common.{◌≡◌, Bool, true, false, cond, T, [], ◌∷◌, ◌++◌, refl, sym, ap, ◌∙◌, Option, Some, None, bytes_eq}
 use Rattle.std.specs.Option.{option_or}
-use Rattle.std.specs.Ordering.{is_lt, is_eq, eq_by_cmp}
+use Rattle.std.specs.Ordering.{is_eq}
 use Rattle.std.specs.declared.cmp.Ordering.TheVariants.{Less}
 use Rattle.std.specs.Cmp.{eq_by_cmp_equiv}
 use Rattle.std.specs.Cmp.Lexicographic.{nat_list_cmp_total}
@@ -10,7 +9,7 @@ use Rattle.std.proofs.lemmas.Slice.Eq.{bytes_eq-Decides}
 use Rattle.plain_model.specs.Paths.{Bytes}
 use Rattle.plain_model.specs.Trees.{TreeOf, at}
 use Rattle.history_laws.proofs.TreeLaws.{by_bytes}
-use Rattle.path_tree.specs.Folders.{Member, AllFit, AreSound, Fits}
+use Rattle.path_tree.specs.Folders.{Member, AllFit, AreSound}
 use Rattle.path_tree.specs.Setting.{FitsIf}
 use Rattle.path_tree.specs.PathMaps.{IsInOrder}
 use Rattle.path_tree.specs.Rows.{AllBefore, AllAfter, row_if}
@@ -72,7 +71,8 @@ module _ {X : Type 0} where
   before_key p k x [] b h = less (by_bytes p k) (first _ _ h)
   before_key p k x (r ∷ a) b h = before_key p k x a b (second _ _ h)
 
-  before_parts : (p k : Bytes) (old new : Option X) (a b : TreeOf X) → by_bytes p k ≡ Less → T (is_before p (a ++ (row_if k old ++ b))) → T (is_before p (a ++ (row_if k new ++ b)))
+  before_parts : (p k : Bytes) (old new : Option X) (a b : TreeOf X) → by_bytes p k ≡ Less → T (is_before p (a ++ (row_if k old ++ b)))
+      → T (is_before p (a ++ (row_if k new ++ b)))
   before_parts p k None None [] b l h = h
   before_parts p k None (Some x) [] b l h = both _ _ (lt_of _ l) h
   before_parts p k (Some x) None [] b l h = second _ _ h
@@ -84,7 +84,8 @@ module _ {X : Type 0} where
   around k x [] b h = (tt, first _ _ h)
   around k x (r ∷ a) b h = let rest = around k x a b (second _ _ h) in ((before_key r.0 k x a b (first _ _ h), rest.0), rest.1)
 
-  pub spliced_in_order : (k : Bytes) (old new : Option X) (a b : TreeOf X) → AllBefore k a → AllAfter k b → IsInOrder (a ++ (row_if k old ++ b)) → IsInOrder (a ++ (row_if k new ++ b))
+  pub spliced_in_order : (k : Bytes) (old new : Option X) (a b : TreeOf X) → AllBefore k a → AllAfter k b → IsInOrder (a ++ (row_if k old ++ b))
+      → IsInOrder (a ++ (row_if k new ++ b))
   spliced_in_order k None None [] b before after h = h
   spliced_in_order k None (Some x) [] b before after h = both _ _ after h
   spliced_in_order k (Some x) None [] b before after h = second _ _ h

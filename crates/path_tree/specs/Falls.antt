@@ -1,9 +1,9 @@
 -- A folder has fewer bytes in its paths than the folder that holds it.
-use Rattle.std.specs.Prelude.{◌≡◌, ℕ, ◌+◌, ◌≤◌, ◌<◌, ◌==◌, Bool, true, false, max, List, [], ◌∷◌, ◌++◌, length, refl}
-use Rattle.std.proofs.Common.{arith, ap, sym, ◌∙◌, true≢false}
+use Rattle.std.specs.Prelude.{◌≡◌, ◌+◌, ◌≤◌, ◌<◌, true, List, [], ◌∷◌, ◌++◌, length}
+use Rattle.std.proofs.Common.{arith, sym, true≢false}
 use denote.Param.Weighed.{most}
 use Rattle.plain_model.specs.Paths.{Bytes}
-use Rattle.plain_model.specs.Trees.{Tree, TreeOf}
+use Rattle.plain_model.specs.Trees.{Tree}
 use Rattle.path_tree.specs.declared.folder.Folder.TheInside.{Inside}
 use Rattle.path_tree.specs.declared.folder.Folder.TheDeep.{deep-Folder, deep-Child, deep-Node}
 use Rattle.path_tree.specs.declared.folder.Child.{Child}

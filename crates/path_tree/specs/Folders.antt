@@ -1,6 +1,6 @@
 -- A tree by the members of its folders: what is under each key, where the key of a file is its name, and
 -- that of a folder its name with a slash after it.
-use Rattle.std.specs.Prelude.{◌≡◌, ℕ, ◌+◌, ◌<◌, Bool, true, false, T, not, ◌==◌, ◌&&◌, List, [], ◌∷◌, ◌++◌, length, max, Option, None, Some, if◌then◌else◌}
+use Rattle.std.specs.Prelude.{◌≡◌, ℕ, ◌+◌, ◌<◌, Bool, true, false, not, ◌==◌, ◌&&◌, [], ◌∷◌, ◌++◌, length, max, Option, None, Some, if◌then◌else◌}
 use Rattle.plain_model.specs.declared.operation.Entry.{Entry}
 use Rattle.plain_model.specs.Paths.{Bytes, is_empty}
 use Rattle.plain_model.specs.Trees.{Tree, TreeOf, at}

@@ -1,14 +1,18 @@
 -- The children of a folder as rows: each key with what is under it.
-use Rattle.std.specs.Prelude.{◌≡◌, ℕ, ◌≤◌, ◌<◌, T, List, [], ◌∷◌, length, take, drop, slice_index_or, Option, None, Some}
+use Rattle.std.specs.Prelude.{Bool, true, false, is_some, ◌≡◌, ℕ, ◌≤◌, ◌<◌, T, List, [], ◌∷◌, ◌++◌, length, take, drop, slice_index_or, Option, None, Some}
 use Rattle.std.specs.Ordering.{nat_cmp}
 use Rattle.std.specs.declared.cmp.Ordering.TheVariants.{Less}
 use Rattle.std.specs.Cmp.Lexicographic.{slice_cmp}
 use Rattle.std.specs.FinMap.Entries as entries
 use Rattle.plain_model.specs.Paths.{Bytes}
-use Rattle.plain_model.specs.Trees.{TreeOf}
+use Rattle.plain_model.specs.Trees.{Tree, TreeOf, at}
 use Rattle.path_tree.specs.declared.folder.Child.{Child}
-use Rattle.path_tree.specs.Folders.{Member}
-use Rattle.path_tree.specs.Inside.{rows_of}
+use Rattle.path_tree.specs.declared.folder.extent.Change.{Change}
+use Rattle.path_tree.specs.Folders.{Member, flat, filled, tree_under}
+use Rattle.path_tree.specs.Folders.Member.{file, folder}
+use Rattle.path_tree.specs.Inside.{extent_of, rows_of}
+use Rattle.path_tree.specs.PathMaps.{IsInOrder}
+use Rattle.path_tree.specs.Setting.{Places}
 
 module _ {X : Type 0} where
   -- all rows come before the key
@@ -35,3 +39,34 @@ pub record IsPlace (key : Bytes) (children : List Child) (i : ℕ) : Type 0 wher
   pub within : i ≤ length children
   pub before : AllBefore key (rows_of (take i children))
   pub after : AllAfter key (rows_of (drop i children))
+
+-- the key has another member than it had, or none, and the rows around it stay
+pub record IsExchange (key : Bytes) (new : Option Member) (change : Change) (old_rows new_rows : TreeOf Member) : Type 0 where
+  pub old : Option Member
+  pub before : TreeOf Member
+  pub after : TreeOf Member
+  pub all_before : AllBefore key before
+  pub all_after : AllAfter key after
+  pub old_is : old_rows ≡ before ++ (row_if key old ++ after)
+  pub new_is : new_rows ≡ before ++ (row_if key new ++ after)
+  pub gone_is : change.gone ≡ extent_of (flat (row_if key old))
+  pub come_is : change.come ≡ extent_of (flat (row_if key new))
+
+-- the folder under the key has the member at the path, or nothing there, and goes where it has no paths then
+pub record IsSetBelow (key path : Bytes) (member : Option Member) (clear : Bool) (change : Change) (old_rows new_rows : TreeOf Member) : Type 0 where
+  pub tree : Tree
+  pub in_order : IsInOrder tree
+  pub places : Places path member clear (tree_under (at old_rows key)) tree
+  pub exchange : IsExchange key (filled tree) change old_rows new_rows
+
+abbrev pub is_folder : Member → Bool
+is_folder (file entry) = false
+is_folder (folder tree) = true
+
+-- a folder has the member at the path, or nothing there; whether it has paths then
+pub record IsSetNode (path : Bytes) (member : Option Member) (clear : Bool) (old new : Member) (some : Bool) : Type 0 where
+  pub tree : Tree
+  pub is_folder : new ≡ folder tree
+  pub in_order : IsInOrder tree
+  pub places : Places path member clear (tree_under (Some old)) tree
+  pub some_is : some ≡ is_some (filled tree)

@@ -1,26 +1,25 @@
 //! A folder, seen as the tree of the paths below it.
-ghost use Rattle.std.specs.Prelude.{◌≡◌, ◌-◌, ◌^◌, [], length, min, OnOk};
-ghost use Rattle.path_tree.specs.Folders.{longest};
+ghost use Rattle.std.specs.Prelude.{◌≡◌, []};
 
+mod children;
+mod extent;
+mod finding;
 mod listing;
-mod looking;
-mod measures;
-mod rows;
 mod setting;
 
+use extent::Extent;
 use plain_model::Entry;
+pub(crate) use setting::{set_shared, with_slash};
 use std::alloc::Global;
 use std::marker::Model;
 use std::rc::Rc;
 
-/// The children in byte order of their keys, how many paths there are below, and how many bytes the
-/// longest of them has; both counts are still at the greatest number.
+/// The children in byte order of their keys, with the extent of the tree below them.
 #[derive(Drop)]
 #[cycle(tree)]
 pub struct Folder {
     children: Vec<Child>,
-    count: u64,
-    longest: u64,
+    extent: Extent,
 }
 
 /// A file under its name, or a folder under its name with a slash after it.
@@ -31,6 +30,7 @@ pub struct Child {
     node: Node,
 }
 
+/// A folder may have several owners; none of them sees what another changes.
 #[derive(Drop)]
 #[cycle(tree)]
 pub enum Node {
@@ -64,8 +64,10 @@ impl Folder {
     {
         Folder {
             children: Vec::new(alloc),
-            count: 0,
-            longest: 0,
+            extent: Extent {
+                count: 0,
+                longest: 0,
+            },
         }
     }
 }

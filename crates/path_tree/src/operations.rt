@@ -1,121 +1,45 @@
-//! The operations on a tree of folders.
-ghost use Rattle.std.specs.Prelude.{◌≡◌, ◌++◌, ◌∷◌, [], false, Ok, IfOk, IfErr, nat_lt, not, ◌&&◌, is_some, option_map, if◌then◌else◌};
-ghost use Rattle.plain_model.specs.Paths.{Bytes};
-ghost use Rattle.plain_model.specs.declared.limit.TheConstants.{MAX_PATH_BYTES};
-ghost use Rattle.plain_model.specs.Trees.{at, put_all, cleared_for};
-ghost use Rattle.path_tree.specs.Folders.{prefixed, tree_under};
-ghost use Rattle.path_tree.specs.Suffixes.{suffixes, file_of, longest_at, FitsFile, FitsBelow};
-ghost use Rattle.plain_model.specs.Trees.{change, without, within_paths};
+//! The operations on a tree of folders. What can be refused is refused before the tree changes.
+ghost use Rattle.std.specs.Prelude.{◌≡◌, [], ◌<◌, None, false, not, Ok, IfOk};
+ghost use Rattle.std.specs.Prelude.{IfErr, OnOk, nat_lt, length, is_some, option_map, if◌then◌else◌};
+ghost use Rattle.plain_model.specs.declared.limit.TheConstants.{MAX_PATH_BYTES, MAX_PATHS};
+ghost use Rattle.plain_model.specs.Trees.{IsTree, apply, at, change, cleared_for};
+ghost use Rattle.plain_model.specs.Trees.{put_all, subtree, within_paths, without};
 ghost use Rattle.plain_model.specs.Trees.Change.{Put};
-ghost use Rattle.path_tree.specs.Answers.{TellsOf, moves};
-ghost use Rattle.path_tree.specs.Folders.Member.{file, folder};
+ghost use Rattle.path_tree.specs.Answers.{IsAnswer, TellsOf, moves};
+ghost use Rattle.path_tree.specs.Folders.{longest, prefixed};
 ghost use Rattle.path_tree.specs.Inside.{member_of};
 ghost use Rattle.path_tree.specs.PathMaps.{IsInOrder};
-ghost use Rattle.path_tree.specs.Setting.{ends_with_slash, FitsPath, Places};
+ghost use Rattle.path_tree.specs.Setting.{ends_with_slash, suffixes, Finds, FitsNode};
+ghost use Rattle.path_tree.specs.Sound.{AllPaths};
 
 use crate::fault::ApplyFault;
-use crate::folder::{Folder, Node};
-use plain_model::{Entry, FileOp, MAX_PATH_BYTES, MAX_PATHS, NoMemory, Which};
+use crate::folder::{Folder, Node, set_shared, with_slash};
+use plain_model::{
+    Copied, Entry, EntryList, FileOp, Items, MAX_PATH_BYTES, MAX_PATHS, NoMemory, Path, Which,
+};
 use std::alloc::Global;
 use std::rc::Rc;
 
-pub(crate) fn with_slash(alloc: Global, path: &[u8]) -> Result<Vec<u8>, NoMemory>
-    ensures { IfOk result (λ v. v.items ≡ path.now ++ 47 ∷ []) }
+/// Another owner of the tree.
+fn shared(root: &Rc<Folder>) -> Result<Rc<Folder>, NoMemory>
+    ensures { IfOk result (λ r. r.value ≡ root.now.value) }
 {
-    let mut bytes = Vec::from_slice(alloc, path)?;
-    bytes.push(b'/')?;
-    Ok(bytes)
-}
-
-/// Another owner of the folder, as a node.
-fn shared(below: &Rc<Folder>) -> Result<Node, NoMemory>
-    ensures { IfOk result (λ n. member_of n ≡ folder below.now.value) }
-{
-    let folder = below.clone()?;
-    Ok(Node::Subfolder(folder))
-}
-
-/// The folder, to be shared.
-pub(crate) fn owned(alloc: Global, root: Folder) -> Result<Rc<Folder>, NoMemory>
-    ensures { IfOk result (λ r. r.value ≡ root) }
-{
-    let owned = Rc::new(alloc, root)?;
-    Ok(owned)
-}
-
-/// The folder with this file and this folder at the path, and nothing else there or below.
-fn placed(
-    alloc: Global,
-    root: &Folder,
-    path: &[u8],
-    file: &Option<Node>,
-    below: &Option<Node>,
-    clear: bool,
-) -> Result<Folder, NoMemory>
-    requires is_file { ends_with_slash path.now ≡ false }
-    requires file_fits { FitsPath path.now (option_map member_of file.now) }
-    requires below_fits { FitsPath (path.now ++ 47 ∷ []) (option_map member_of below.now) }
-    ensures places { IfOk result (λ f. Places path.now (option_map member_of file.now)
-        (option_map member_of below.now) clear root.now f) }
-    ensures order { IfOk result (λ f. IsInOrder f) }
-{
-    let long = with_slash(alloc, path)?;
-    let root = root.set(alloc, long.as_slice(), below, clear)?;
-    root.set(alloc, path, file, clear)
-}
-
-/// The folder, if it has no more paths than are allowed.
-fn within(root: Folder) -> Result<Folder, ApplyFault>
-    ensures done { IfOk result (λ f. (f ≡ root) × (within_paths root ≡ Ok f)) }
-    ensures refused { IfErr result (λ fault. TellsOf (within_paths root) fault) }
-{
-    if root.count() > MAX_PATHS {
-        return Err(ApplyFault::Limit {
-            which: Which::Paths,
-            number: MAX_PATHS,
-        });
-    }
+    let root = root.clone()?;
     Ok(root)
 }
 
-pub(crate) fn modify(
-    alloc: Global,
-    root: &Folder,
-    path: &[u8],
-    entry: Entry,
-) -> Result<Folder, ApplyFault>
-    requires is_file { ends_with_slash path.now ≡ false }
-    requires order { IsInOrder root.now }
-    ensures done { IfOk result (λ f. change (Put entry path.now) root.now ≡ Ok f) }
-    ensures refused { IfErr result (λ fault. TellsOf (change (Put entry path.now) root.now) fault) }
+fn empty(alloc: Global) -> Result<Rc<Folder>, NoMemory>
+    ensures { IfOk result (λ r. r.value ≡ []) }
 {
-    let file = Some(Node::File(entry));
-    let made = placed(alloc, root, path, &file, &None, true)?;
-    within(made)
+    let root = Rc::new(alloc, Folder::new(alloc))?;
+    Ok(root)
 }
 
-pub(crate) fn delete(alloc: Global, root: &Folder, path: &[u8]) -> Result<Folder, NoMemory>
-    requires is_file { ends_with_slash path.now ≡ false }
-    requires order { IsInOrder root.now }
-    ensures { IfOk result (λ f. without path.now root.now ≡ f) }
-{
-    placed(alloc, root, path, &None, &None, false)
-}
-
-/// The file at the path, as a node.
-fn file_at(root: &Folder, path: &[u8]) -> Option<Node>
-    ensures { option_map member_of result ≡ option_map file (at root.now path.now) }
-{
-    match root.get(path) {
-        None => None,
-        Some(entry) => Some(Node::File(entry)),
-    }
-}
-
-/// The folder at the path, as a node, if there is one that isn't empty.
-fn folder_found(alloc: Global, root: &Folder, path: &[u8]) -> Result<Option<Node>, NoMemory>
-    ensures found { IfOk result (λ n. (r : Bytes) → at root.now ((path.now ++ 47 ∷ []) ++ r) ≡ at (tree_under (option_map member_of n)) r) }
-    ensures fits { IfOk result (λ n. FitsBelow (option_map member_of n)) }
+/// The folder at the path where there is no file, if there is one.
+fn folder_node(alloc: Global, root: &Folder, path: &[u8]) -> Result<Option<Node>, NoMemory>
+    requires { at root.now path.now ≡ None }
+    ensures found { IfOk result (λ n. Finds path.now (option_map member_of n) root.now) }
+    ensures fits { IfOk result (λ n. FitsNode (option_map member_of n)) }
 {
     let long = with_slash(alloc, path)?;
     match root.folder_at(long.as_slice()) {
@@ -124,80 +48,231 @@ fn folder_found(alloc: Global, root: &Folder, path: &[u8]) -> Result<Option<Node
             if folder.count() == 0 {
                 return Ok(None);
             }
-            let node = shared(folder)?;
-            Ok(Some(node))
+            let folder = shared(folder)?;
+            Ok(Some(Node::Subfolder(folder)))
         }
     }
 }
 
-fn is_nothing(file: &Option<Node>, below: &Option<Node>) -> bool
-    ensures { result ≡ (not (is_some (option_map member_of file.now)) && not (is_some (option_map member_of below.now))) }
+/// The file or the folder at the path, if there is one: the folder has one more owner then.
+fn node_at(alloc: Global, root: &Folder, path: &[u8]) -> Result<Option<Node>, NoMemory>
+    requires { IsTree root.now }
+    ensures found { IfOk result (λ n. Finds path.now (option_map member_of n) root.now) }
+    ensures fits { IfOk result (λ n. FitsNode (option_map member_of n)) }
 {
-    file.is_none() && below.is_none()
-}
-
-/// Whether a path at the target would be too long.
-fn is_long(target: &[u8], below: &Option<Node>) -> bool
-    ensures { result ≡ nat_lt MAX_PATH_BYTES (longest_at target.now (option_map member_of below.now)) }
-{
-    let longest = match below {
-        Some(Node::Subfolder(folder)) => folder.longest().saturating_add(1),
-        _ => 0,
-    };
-    (target.len() as u64).saturating_add(longest) > MAX_PATH_BYTES
-}
-
-/// What was taken, put at the target; the source stays if that is asked.
-fn put_over(
-    alloc: Global,
-    root: &Folder,
-    source: &[u8],
-    target: &[u8],
-    file: &Option<Node>,
-    below: &Option<Node>,
-    keep: bool,
-) -> Result<Folder, NoMemory>
-    requires source_is_file { ends_with_slash source.now ≡ false }
-    requires is_file { ends_with_slash target.now ≡ false }
-    requires order { IsInOrder root.now }
-    requires file_fits { FitsFile (option_map member_of file.now) }
-    requires below_fits { FitsBelow (option_map member_of below.now) }
-    ensures { IfOk result (λ f. f ≡ put_all
-        (prefixed target.now (suffixes (file_of (option_map member_of file.now)) (tree_under (option_map member_of below.now))))
-        (cleared_for target.now (if keep then root.now else without source.now root.now))) }
-{
-    if keep {
-        return placed(alloc, root, target, file, below, true);
+    match root.get(path) {
+        Some(entry) => Ok(Some(Node::File(entry))),
+        None => folder_node(alloc, root, path),
     }
-    let base = delete(alloc, root, source)?;
-    placed(alloc, &base, target, file, below, true)
 }
 
-/// What is at the source, put at the target; the source stays if that is asked.
-pub(crate) fn move_to(
+/// Whether there is nothing.
+fn is_missing(node: &Option<Node>) -> bool
+    ensures { result ≡ not (is_some (option_map member_of node.now)) }
+{
+    node.is_none()
+}
+
+/// Whether a path would be too long where the node is put at the target.
+fn is_long(target: &[u8], node: &Option<Node>) -> bool
+    requires { FitsNode (option_map member_of node.now) }
+    ensures { result ≡
+        nat_lt MAX_PATH_BYTES (longest (prefixed target.now (suffixes (option_map member_of node.now)))) }
+{
+    let len = target.len() as u64;
+    match node {
+        None => false,
+        Some(Node::File(_)) => len > MAX_PATH_BYTES,
+        Some(Node::Subfolder(folder)) => {
+            len.saturating_add(folder.longest().saturating_add(1)) > MAX_PATH_BYTES
+        }
+    }
+}
+
+/// Takes the tree in the place of the other, if it has no more paths than are allowed.
+fn take_within(root: &mut Rc<Folder>, made: Rc<Folder>) -> Result<(), ApplyFault>
+    ensures { IsAnswer (within_paths made.value) root.old.value result root.new.value }
+{
+    if made.count() > MAX_PATHS {
+        return Err(ApplyFault::Limit {
+            which: Which::Paths,
+            number: MAX_PATHS,
+        });
+    }
+    *root = made;
+    Ok(())
+}
+
+/// The tree from which what is put at the target will have come; the source stays if that is asked.
+fn base(alloc: Global, root: &Rc<Folder>, source: &[u8], keep: bool) -> Result<Rc<Folder>, NoMemory>
+    requires is_file { ends_with_slash source.now ≡ false }
+    requires order { IsInOrder root.now.value }
+    ensures { IfOk result (λ r. r.value ≡ (if keep then root.now.value else without source.now root.now.value)) }
+{
+    let mut made = shared(root)?;
+    if keep {
+        return Ok(made);
+    }
+    set_shared(&mut made, alloc, source, &None, false)?;
+    Ok(made)
+}
+
+/// The tree with the node at the path, in the place of what it conflicts with.
+fn placed(
     alloc: Global,
-    root: &Folder,
+    root: Rc<Folder>,
+    path: &[u8],
+    node: &Option<Node>,
+) -> Result<Rc<Folder>, NoMemory>
+    requires is_file { ends_with_slash path.now ≡ false }
+    requires fits { FitsNode (option_map member_of node.now) }
+    requires order { IsInOrder root.value }
+    ensures { IfOk result (λ r. r.value ≡
+        put_all (prefixed path.now (suffixes (option_map member_of node.now))) (cleared_for path.now root.value)) }
+{
+    let mut made = root;
+    set_shared(&mut made, alloc, path, node, true)?;
+    Ok(made)
+}
+
+/// Puts what is at the source at the target; the source stays if that is asked.
+fn move_to(
+    alloc: Global,
+    root: &mut Rc<Folder>,
     source: &[u8],
     target: &[u8],
     keep: bool,
-) -> Result<Folder, ApplyFault>
+) -> Result<(), ApplyFault>
     requires source_is_file { ends_with_slash source.now ≡ false }
     requires is_file { ends_with_slash target.now ≡ false }
-    requires order { IsInOrder root.now }
-    ensures done { IfOk result (λ f. change (moves keep source.now target.now) root.now ≡ Ok f) }
-    ensures refused { IfErr result (λ fault. TellsOf (change (moves keep source.now target.now) root.now) fault) }
+    requires form { IsTree root.old.value }
+    ensures { IsAnswer (change (moves keep source.now target.now) root.old.value) root.old.value result root.new.value }
 {
-    let file = file_at(root, source);
-    let below = folder_found(alloc, root, source)?;
-    if is_nothing(&file, &below) {
+    let node = node_at(alloc, root, source)?;
+    if is_missing(&node) {
         return Err(ApplyFault::MissingSource);
     }
-    if is_long(target, &below) {
+    if is_long(target, &node) {
         return Err(ApplyFault::Limit {
             which: Which::PathBytes,
             number: MAX_PATH_BYTES,
         });
     }
-    let made = put_over(alloc, root, source, target, &file, &below, keep)?;
-    within(made)
+    let base = base(alloc, root, source, keep)?;
+    let made = placed(alloc, base, target, &node)?;
+    take_within(root, made)
+}
+
+/// Puts a file into a tree that has room for one more path.
+fn put(alloc: Global, root: &mut Rc<Folder>, path: &[u8], entry: Entry) -> Result<(), ApplyFault>
+    requires is_file { ends_with_slash path.now ≡ false }
+    requires form { IsTree root.old.value }
+    requires room { length root.old.value < MAX_PATHS }
+    ensures { IsAnswer (change (Put entry path.now) root.old.value) root.old.value result root.new.value }
+{
+    set_shared(root, alloc, path, &Some(Node::File(entry)), true)?;
+    Ok(())
+}
+
+/// Puts a file into a copy of a full tree, in which another file may go for it.
+fn put_full(
+    alloc: Global,
+    root: &mut Rc<Folder>,
+    path: &[u8],
+    entry: Entry,
+) -> Result<(), ApplyFault>
+    requires is_file { ends_with_slash path.now ≡ false }
+    requires form { IsTree root.old.value }
+    ensures { IsAnswer (change (Put entry path.now) root.old.value) root.old.value result root.new.value }
+{
+    let base = shared(root)?;
+    let made = placed(alloc, base, path, &Some(Node::File(entry)))?;
+    take_within(root, made)
+}
+
+fn modify(alloc: Global, root: &mut Rc<Folder>, path: &[u8], entry: Entry) -> Result<(), ApplyFault>
+    requires is_file { ends_with_slash path.now ≡ false }
+    requires form { IsTree root.old.value }
+    ensures { IsAnswer (change (Put entry path.now) root.old.value) root.old.value result root.new.value }
+{
+    if root.count() < MAX_PATHS {
+        put(alloc, root, path, entry)
+    } else {
+        put_full(alloc, root, path, entry)
+    }
+}
+
+fn delete(alloc: Global, root: &mut Rc<Folder>, path: &[u8]) -> Result<(), ApplyFault>
+    requires is_file { ends_with_slash path.now ≡ false }
+    requires form { IsTree root.old.value }
+    ensures { IsAnswer (Ok (without path.now root.old.value)) root.old.value result root.new.value }
+{
+    set_shared(root, alloc, path, &None, false)?;
+    Ok(())
+}
+
+fn clear(alloc: Global, root: &mut Rc<Folder>) -> Result<(), ApplyFault>
+    ensures { IsAnswer (Ok []) root.old.value result root.new.value }
+{
+    *root = empty(alloc)?;
+    Ok(())
+}
+
+/// Applies the operation, or leaves the tree as it was.
+pub(crate) fn applied(alloc: Global, root: &mut Rc<Folder>, op: &FileOp) -> Result<(), ApplyFault>
+    requires form { IsTree root.old.value }
+    ensures answer { IsAnswer (apply op.now root.old.value) root.old.value result root.new.value }
+    ensures paths { OnOk result (AllPaths root.old.value → AllPaths root.new.value) }
+{
+    match op {
+        FileOp::Modify {
+            mode,
+            content,
+            path,
+        } => {
+            let entry = Entry {
+                mode: *mode,
+                content: *content,
+            };
+            modify(alloc, root, path.as_bytes(), entry)
+        }
+        FileOp::Delete { path } => delete(alloc, root, path.as_bytes()),
+        FileOp::Copy { source, target } => {
+            move_to(alloc, root, source.as_bytes(), target.as_bytes(), true)
+        }
+        FileOp::Rename { source, target } => {
+            move_to(alloc, root, source.as_bytes(), target.as_bytes(), false)
+        }
+        FileOp::DeleteAll => clear(alloc, root),
+    }
+}
+
+/// The list with the paths at or below the path that the node is.
+fn node_list(alloc: Global, path: &Path, node: &Option<Node>) -> Result<EntryList, NoMemory>
+    requires { AllPaths (prefixed path.now (suffixes (option_map member_of node.now))) }
+    ensures { IfOk result (λ list. list ≡ prefixed path.now (suffixes (option_map member_of node.now))) }
+{
+    let mut list = Items::empty(alloc);
+    match node {
+        None => Ok(list),
+        Some(Node::File(entry)) => {
+            list.push((path.copied(alloc)?, *entry))?;
+            Ok(list)
+        }
+        Some(Node::Subfolder(folder)) => {
+            let long = with_slash(alloc, path.as_bytes())?;
+            folder.list(alloc, long.as_slice(), &mut list)?;
+            Ok(list)
+        }
+    }
+}
+
+/// The path and those below it, with what is there.
+pub(crate) fn listed_below(alloc: Global, root: &Folder, path: &Path) -> Result<EntryList, NoMemory>
+    requires form { IsTree root.now }
+    requires paths { AllPaths root.now }
+    ensures { IfOk result (λ list. list ≡ subtree path.now root.now) }
+{
+    let node = node_at(alloc, root, path.as_bytes())?;
+    node_list(alloc, path, &node)
 }

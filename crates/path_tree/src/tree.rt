@@ -2,16 +2,12 @@
 ghost use Rattle.std.specs.Prelude.{◌≡◌, ◌+◌, ◌-◌, ◌^◌, [], length, min, Ok, IfOk, IfErr, OnOk, OnErr};
 ghost use Rattle.plain_model.specs.Trees.{apply, at, subtree, IsTree};
 ghost use Rattle.path_tree.specs.Answers.{TellsOf};
-ghost use Rattle.path_tree.specs.Folders.{prefixed};
-ghost use Rattle.path_tree.specs.Suffixes.{file_tree};
-ghost use Rattle.path_tree.specs.PathMaps.{IsInOrder};
-ghost use Rattle.path_tree.specs.Sound.{AllPaths};
 
 use crate::fault::ApplyFault;
 use crate::folder::Folder;
-use crate::operations::{delete, modify, move_to, owned, with_slash};
+use crate::operations::{applied, listed_below};
 use history_laws::operations_keep_trees;
-use plain_model::{Copied, Entry, EntryList, FileOp, Items, NoMemory, Path, Steps};
+use plain_model::{Entry, EntryList, FileOp, Items, NoMemory, Path, Steps};
 use std::alloc::Global;
 use std::marker::Model;
 use std::rc::Rc;
@@ -35,66 +31,6 @@ impl Model for PathTree {
     ghost invariant = { λ t. IsSound t.root.value };
 }
 
-fn applied(alloc: Global, root: &Folder, op: &FileOp) -> Result<Folder, ApplyFault>
-    requires { IsInOrder root.now }
-    ensures done { IfOk result (λ f. apply op.now root.now ≡ Ok f) }
-    ensures refused { IfErr result (λ fault. TellsOf (apply op.now root.now) fault) }
-    ensures paths { IfOk result (λ f. AllPaths root.now → AllPaths f) }
-{
-    match op {
-        FileOp::Modify {
-            mode,
-            content,
-            path,
-        } => {
-            let entry = Entry {
-                mode: *mode,
-                content: *content,
-            };
-            modify(alloc, root, path.as_bytes(), entry)
-        }
-        FileOp::Delete { path } => {
-            let root = delete(alloc, root, path.as_bytes())?;
-            Ok(root)
-        }
-        FileOp::Copy { source, target } => {
-            move_to(alloc, root, source.as_bytes(), target.as_bytes(), true)
-        }
-        FileOp::Rename { source, target } => {
-            move_to(alloc, root, source.as_bytes(), target.as_bytes(), false)
-        }
-        FileOp::DeleteAll => Ok(Folder::new(alloc)),
-    }
-}
-
-fn file_list(alloc: Global, path: &Path, entry: Option<Entry>) -> Result<EntryList, NoMemory>
-    ensures { IfOk result (λ list. list ≡ prefixed path.now (file_tree entry)) }
-{
-    let mut list = Items::empty(alloc);
-    if let Some(entry) = entry {
-        list.push((path.copied(alloc)?, entry))?;
-    }
-    Ok(list)
-}
-
-fn listed_below(alloc: Global, root: &Folder, path: &Path) -> Result<EntryList, NoMemory>
-    requires order { IsInOrder root.now }
-    requires paths { AllPaths root.now }
-    ensures { IfOk result (λ list. list ≡ subtree path.now root.now) }
-{
-    let bytes = path.as_bytes();
-    let mut list = file_list(alloc, path, root.get(bytes))?;
-    let long = with_slash(alloc, bytes)?;
-    match root.folder_at(long.as_slice()) {
-        None => Ok(list),
-        Some(folder) => {
-            let _count = folder.count();
-            folder.list(alloc, long.as_slice(), &mut list)?;
-            Ok(list)
-        }
-    }
-}
-
 impl PathTree {
     /// The empty tree.
     pub fn new(alloc: Global) -> Result<PathTree, NoMemory>
@@ -115,10 +51,7 @@ impl PathTree {
     {
         steps.tick();
         operations_keep_trees();
-        let made = applied(self.alloc, &self.root, op)?;
-        let root = owned(self.alloc, made)?;
-        self.root = root;
-        Ok(())
+        applied(self.alloc, &mut self.root, op)
     }
 
     /// How many paths there are.

@@ -1,101 +1,285 @@
-//! A folder with another member somewhere below; what the path doesn't lead through is shared.
-ghost use Rattle.std.specs.Prelude.{◌≡◌, [], IfOk, MatchOption, Option, option_map};
-ghost use Rattle.plain_model.specs.Trees.{at};
-ghost use Rattle.path_tree.specs.Folders.{Member, key_of, tree_under, filled};
+//! What is at a path of a folder, and below it, becomes another file or folder, or nothing. A folder on the
+//! way that has one owner is changed in place; one that has more is copied once, and its children are shared.
+ghost use Rattle.std.specs.Prelude.{◌≡◌, ◌++◌, ◌∷◌, [], Bool, true, false, IfOk};
+ghost use Rattle.std.specs.Prelude.{OnOk, OnErr, MatchOption, Some, None, option_map, is_some};
+ghost use Rattle.plain_model.specs.Trees.{Tree, at};
+ghost use Rattle.path_tree.specs.Folders.{filled, is_file_key, is_folder_key, tree_under, Fits, AreSound};
+ghost use Rattle.path_tree.specs.Folders.Member.{folder};
 ghost use Rattle.path_tree.specs.Inside.{member_of, rows_of};
 ghost use Rattle.path_tree.specs.PathMaps.{IsInOrder};
-ghost use Rattle.path_tree.specs.Setting.{name_of, FitsPath, FitsIf, Serves, Sets};
+ghost use Rattle.path_tree.specs.Rows.{is_folder, IsSetBelow, IsSetNode};
+ghost use Rattle.path_tree.specs.Setting.{ends_with_slash, FitsNode, HasNone, Places, PlacesBelow, PutsUnder};
 
-use super::rows::{folder_under, key_len, share_node, with_node};
+use super::children::{child_extent, key_len, name_of, put_child, remove_child, search, shared};
+use super::extent::{Change, Extent, recounted};
 use super::{Child, Folder, Node};
 use plain_model::NoMemory;
 use std::alloc::Global;
 use std::rc::Rc;
 
-/// The path up to its first slash, without it.
-fn name_of(path: &[u8]) -> &[u8]
-    ensures { result.now ≡ name_of path.now }
+/// The path with a slash after it.
+pub(crate) fn with_slash(alloc: Global, path: &[u8]) -> Result<Vec<u8>, NoMemory>
+    ensures { IfOk result (λ v. v.items ≡ path.now ++ 47 ∷ []) }
 {
-    let mut len = 0;
-    for byte in path {
-        if *byte == b'/' {
-            break;
+    let mut bytes = Vec::from_slice(alloc, path)?;
+    bytes.push(b'/')?;
+    Ok(bytes)
+}
+
+/// Sets what is at a path of the folder, and below it: in place where this is the folder's one owner, and
+/// else in a copy, which this owns then.
+#[cycle(setting)]
+pub(crate) fn set_shared(
+    folder: &mut Rc<Folder>,
+    alloc: Global,
+    path: &[u8],
+    node: &Option<Node>,
+    clear: bool,
+) -> Result<(), NoMemory>
+    requires is_file { ends_with_slash path.now ≡ false }
+    requires fits { FitsNode (option_map member_of node.now) }
+    ensures places { OnOk result
+        (Places path.now (option_map member_of node.now) clear folder.old.value folder.new.value) }
+    ensures order { OnOk result (IsInOrder folder.new.value) }
+    ensures unchanged { OnErr result (folder.new.value ≡ folder.old.value) }
+{
+    match Rc::get_mut(folder) {
+        Some(own) => own.set(alloc, path, node, clear),
+        None => {
+            let mut copy = folder.copied(alloc)?;
+            copy.set(alloc, path, node, clear)?;
+            *folder = Rc::new(alloc, copy)?;
+            Ok(())
         }
-        len += 1;
     }
-    &path[..len]
 }
 
-/// The folder as a node, unless it is empty.
-fn node_of(alloc: Global, folder: Folder) -> Result<Option<Node>, NoMemory>
-    ensures { IfOk result (λ n. option_map member_of n ≡ filled folder) }
+/// Sets a path of the folder that the node is; whether the folder has paths then.
+#[cycle(setting)]
+fn set_node(
+    folder: &mut Node,
+    alloc: Global,
+    path: &[u8],
+    node: &Option<Node>,
+    clear: bool,
+) -> Result<bool, NoMemory>
+    requires is_file { ends_with_slash path.now ≡ false }
+    requires fits { FitsNode (option_map member_of node.now) }
+    requires is_folder { is_folder (member_of folder.old) ≡ true }
+    ensures set { IfOk result (λ some. IsSetNode path.now (option_map member_of node.now) clear
+        (member_of folder.old) (member_of folder.new) some) }
+    ensures unchanged { OnErr result (member_of folder.new ≡ member_of folder.old) }
 {
-    if folder.count() == 0 {
-        return Ok(None);
+    match folder {
+        Node::File(_) => Ok(true),
+        Node::Subfolder(below) => {
+            set_shared(below, alloc, path, node, clear)?;
+            Ok(below.count() != 0)
+        }
     }
-    let folder = Rc::new(alloc, folder)?;
-    Ok(Some(Node::Subfolder(folder)))
 }
 
-fn share_member(member: &Option<Node>) -> Result<Option<Node>, NoMemory>
-    ensures { IfOk result (λ n. option_map member_of n ≡ option_map member_of member.now) }
+/// Sets a path of the folder under the key, if there is one. The folder goes where nothing is left in it.
+#[cycle(setting)]
+fn set_child(
+    children: &mut Vec<Child>,
+    alloc: Global,
+    key: &[u8],
+    path: &[u8],
+    node: &Option<Node>,
+    clear: bool,
+) -> Result<Option<Change>, NoMemory>
+    requires sound { AreSound (rows_of children.old.items) }
+    requires is_key { is_folder_key key.now ≡ true }
+    requires is_file { ends_with_slash path.now ≡ false }
+    requires fits { FitsNode (option_map member_of node.now) }
+    ensures set { IfOk result (λ change. MatchOption change
+        ((at (rows_of children.old.items) key.now ≡ None) × (rows_of children.new.items ≡ rows_of children.old.items))
+        (λ change. IsSetBelow key.now path.now (option_map member_of node.now) clear change
+        (rows_of children.old.items) (rows_of children.new.items))) }
+    ensures unchanged { OnErr result (rows_of children.new.items ≡ rows_of children.old.items) }
 {
-    match member {
-        None => Ok(None),
-        Some(node) => {
-            let node = share_node(node)?;
-            Ok(Some(node))
+    match search(children.as_slice(), key) {
+        Err(_) => Ok(None),
+        Ok(index) => {
+            let gone = child_extent(&children[index]);
+            if set_node(&mut children[index].node, alloc, path, node, clear)? {
+                let come = child_extent(&children[index]);
+                Ok(Some(Change { gone, come }))
+            } else {
+                children.remove(index);
+                let come = Extent {
+                    count: 0,
+                    longest: 0,
+                };
+                Ok(Some(Change { gone, come }))
+            }
         }
     }
 }
 
 impl Folder {
-    /// The folder with this node under the first key of the path. A file in the place of the folder
-    /// goes if that is asked.
-    fn with_member(
-        &self,
-        alloc: Global,
-        path: &[u8],
-        clear: bool,
-        node: Option<Node>,
-    ) -> Result<Folder, NoMemory>
-        requires { FitsIf (key_of path.now) (option_map member_of node) }
-        ensures sets { IfOk result (λ f. (member : Option Member) →
-            Serves path.now member clear self.now (option_map member_of node) → Sets path.now member clear self.now f) }
-        ensures order { IfOk result (λ f. IsInOrder f) }
+    /// An equal folder of its own; what is below is shared.
+    fn copied(&self, alloc: Global) -> Result<Folder, NoMemory>
+        ensures { IfOk result (λ f. f ≡ self.now) }
     {
-        let children = self.children.as_slice();
-        let (key, _rest) = path.split_at(key_len(path));
-        let gone = if clear { name_of(path) } else { key };
-        let children = with_node(alloc, children, key, gone, node)?;
-        Ok(Folder::made(children))
+        let children = shared(alloc, self.children.as_slice())?;
+        Ok(Folder {
+            children,
+            extent: self.extent,
+        })
     }
 
-    /// The folder with the member where the path leads, in the place of all that it leads to. A file in
-    /// the place of a folder on the way goes if that is asked.
-    pub(crate) fn set(
-        &self,
+    /// Puts the node under the key, in the place of what was there.
+    fn put(&mut self, alloc: Global, key: &[u8], node: Node) -> Result<(), NoMemory>
+        requires { Fits key.now (member_of node) }
+        ensures done { OnOk result (PutsUnder key.now (Some (member_of node)) self.old self.new) }
+        ensures order { OnOk result (IsInOrder self.new) }
+        ensures unchanged { OnErr result (self.new ≡ self.old) }
+    {
+        let change = put_child(&mut self.children, alloc, key, node)?;
+        self.extent = recounted(self.extent, change, self.children.as_slice());
+        Ok(())
+    }
+
+    /// Removes what is under the key.
+    fn remove(&mut self, key: &[u8])
+        ensures removed { PutsUnder key.now None self.old self.new }
+        ensures order { IsInOrder self.new }
+    {
+        let change = remove_child(&mut self.children, key);
+        self.extent = recounted(self.extent, change, self.children.as_slice());
+    }
+
+    /// Sets what is under the name, and under the name with a slash. What takes memory comes first.
+    fn set_keys(
+        &mut self,
+        alloc: Global,
+        name: &[u8],
+        long: &[u8],
+        node: &Option<Node>,
+    ) -> Result<(), NoMemory>
+        requires is_name { is_file_key name.now ≡ true }
+        requires is_long { long.now ≡ name.now ++ 47 ∷ [] }
+        requires fits { FitsNode (option_map member_of node.now) }
+        ensures places { OnOk result
+            ((clear : Bool) → Places name.now (option_map member_of node.now) clear self.old self.new) }
+        ensures order { OnOk result (IsInOrder self.new) }
+        ensures unchanged { OnErr result (self.new ≡ self.old) }
+    {
+        match node {
+            None => {
+                self.remove(name);
+                self.remove(long);
+                Ok(())
+            }
+            Some(Node::File(entry)) => {
+                self.put(alloc, name, Node::File(*entry))?;
+                self.remove(long);
+                Ok(())
+            }
+            Some(Node::Subfolder(below)) => {
+                let below = below.clone()?;
+                self.put(alloc, long, Node::Subfolder(below))?;
+                self.remove(name);
+                Ok(())
+            }
+        }
+    }
+
+    /// Sets what is at the name and below it.
+    fn set_here(&mut self, alloc: Global, name: &[u8], node: &Option<Node>) -> Result<(), NoMemory>
+        requires is_name { is_file_key name.now ≡ true }
+        requires fits { FitsNode (option_map member_of node.now) }
+        ensures places { OnOk result
+            ((clear : Bool) → Places name.now (option_map member_of node.now) clear self.old self.new) }
+        ensures order { OnOk result (IsInOrder self.new) }
+        ensures unchanged { OnErr result (self.new ≡ self.old) }
+    {
+        let long = with_slash(alloc, name)?;
+        self.set_keys(alloc, name, long.as_slice(), node)
+    }
+
+    /// Puts a new folder under the key, with the node at the path, if there is a node.
+    #[cycle(setting)]
+    fn put_new(
+        &mut self,
+        alloc: Global,
+        key: &[u8],
+        path: &[u8],
+        node: &Option<Node>,
+        clear: bool,
+    ) -> Result<(), NoMemory>
+        requires none { HasNone key.now self.old }
+        requires order { IsInOrder self.old }
+        requires is_key { is_folder_key key.now ≡ true }
+        requires is_file { ends_with_slash path.now ≡ false }
+        requires fits { FitsNode (option_map member_of node.now) }
+        ensures places { OnOk result
+            (PlacesBelow key.now path.now (option_map member_of node.now) clear self.old self.new) }
+        ensures order { OnOk result (IsInOrder self.new) }
+        ensures unchanged { OnErr result (self.new ≡ self.old) }
+    {
+        let mut below = Folder::new(alloc);
+        below.set(alloc, path, node, clear)?;
+        if below.count() == 0 {
+            return Ok(());
+        }
+        let below = Rc::new(alloc, below)?;
+        self.put(alloc, key, Node::Subfolder(below))
+    }
+
+    /// Sets a path of the folder under the key, whether there is one or not.
+    #[cycle(setting)]
+    fn set_below(
+        &mut self,
+        alloc: Global,
+        key: &[u8],
+        path: &[u8],
+        node: &Option<Node>,
+        clear: bool,
+    ) -> Result<(), NoMemory>
+        requires is_key { is_folder_key key.now ≡ true }
+        requires is_file { ends_with_slash path.now ≡ false }
+        requires fits { FitsNode (option_map member_of node.now) }
+        ensures places { OnOk result
+            (PlacesBelow key.now path.now (option_map member_of node.now) clear self.old self.new) }
+        ensures order { OnOk result (IsInOrder self.new) }
+        ensures unchanged { OnErr result (self.new ≡ self.old) }
+    {
+        match set_child(&mut self.children, alloc, key, path, node, clear)? {
+            None => self.put_new(alloc, key, path, node, clear),
+            Some(change) => {
+                self.extent = recounted(self.extent, change, self.children.as_slice());
+                Ok(())
+            }
+        }
+    }
+
+    /// Puts the node at the path in the place of all that is there or below, or leaves nothing there. A
+    /// file in the place of a folder on the way goes if that is asked.
+    #[cycle(setting)]
+    fn set(
+        &mut self,
         alloc: Global,
         path: &[u8],
-        member: &Option<Node>,
+        node: &Option<Node>,
         clear: bool,
-    ) -> Result<Folder, NoMemory>
-        requires { FitsPath path.now (option_map member_of member.now) }
-        ensures sets { IfOk result
-            (λ f. Sets path.now (option_map member_of member.now) clear self.now f) }
-        ensures order { IfOk result (λ f. IsInOrder f) }
+    ) -> Result<(), NoMemory>
+        requires is_file { ends_with_slash path.now ≡ false }
+        requires fits { FitsNode (option_map member_of node.now) }
+        ensures places { OnOk result (Places path.now (option_map member_of node.now) clear self.old self.new) }
+        ensures order { OnOk result (IsInOrder self.new) }
+        ensures unchanged { OnErr result (self.new ≡ self.old) }
     {
-        let children = self.children.as_slice();
         let (key, rest) = path.split_at(key_len(path));
-        let node = if rest.is_empty() {
-            share_member(member)?
-        } else {
-            let below = match folder_under(children, key) {
-                Some(below) => below.set(alloc, rest, member, clear)?,
-                None => Folder::new(alloc).set(alloc, rest, member, clear)?,
-            };
-            node_of(alloc, below)?
-        };
-        self.with_member(alloc, path, clear, node)
+        if rest.is_empty() {
+            return self.set_here(alloc, path, node);
+        }
+        self.set_below(alloc, key, rest, node, clear)?;
+        if clear {
+            self.remove(name_of(path));
+        }
+        Ok(())
     }
 }

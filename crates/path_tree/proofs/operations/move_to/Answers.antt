@@ -1,69 +1,57 @@
-use Rattle.std.proofs.Common.{rules, ◌≡◌, not, is_some, true, false, sym, ap, subst, ◌∙◌, refl, option_map}
-use Rattle.std.specs.Prelude.{◌&&◌, IfErr, Result}
-use Rattle.plain_model.specs.Trees.{Tree, Refusal, at, change}
+use Rattle.std.proofs.Common.{refl, sym, ap, subst, ◌∙◌, option_map}
+use Rattle.std.specs.Prelude.{Result}
+use Rattle.plain_model.specs.Trees.{Tree, Refusal, change, put_all, cleared_for, within_paths}
 use Rattle.plain_model.specs.Trees.Refusal.{MissingSource, PathBytes}
-use Rattle.path_tree.specs.Answers.{moves, TellsOf}
-use Rattle.path_tree.specs.Folders.{tree_under}
-use Rattle.path_tree.specs.Folders.Member.{file}
+use Rattle.path_tree.specs.Answers.{moves, IsAnswer}
+use Rattle.path_tree.specs.Folders.{prefixed}
 use Rattle.path_tree.specs.Inside.{member_of}
-use Rattle.path_tree.specs.Suffixes.{file_of}
-use Rattle.path_tree.proofs.Levels.{if_ok}
-use Rattle.path_tree.proofs.Suffixes.{subtree_is, under_in_order, nothing_taken, some_taken, file_back, moves_none, moves_some, moves_made, tells}
+use Rattle.path_tree.specs.PathMaps.{IsInOrder}
+use Rattle.path_tree.specs.Setting.{suffixes, Finds}
+use Rattle.path_tree.proofs.Suffixes.{subtree_is, some_suffixes, moves_none, moves_long, moves_made, base_in_order, tells}
 use Rattle.path_tree.proofs.operations.move_to.Goals as goal
 
-pub returns-then-is_nothing-clause-refused : goal.returns-then-is_nothing-clause-refused
-returns-then-is_nothing-clause-refused c =
-    let old = c.args.root.now in
+pub returns-then-is_missing : goal.returns-then-is_missing
+returns-then-is_missing c =
+    let old = c.args.root.now.value in
     let s = c.args.source.now in
     let t = c.args.target.now in
-    let o = at old s in
-    let at_path = option_map member_of c.file_at-file.result in
-    let below = option_map member_of c.in_ok-below.below in
-    let is = subtree_is s o (tree_under below) old c.requires.order (under_in_order below c.in_ok-below.ensures.fits) refl c.in_ok-below.ensures.found in
-    let tested : (not (is_some (option_map file o)) && not (is_some below)) ≡ true = rw (← c.file_at-file.ensures, ← c.is_nothing.ensures) c.if-is_nothing.true in
-    tells (change (moves c.args.keep s t) old) MissingSource _ (moves_none c.args.keep s t old o below is (nothing_taken o below tested)) refl
+    let m = option_map member_of c.in_ok-node.node in
+    let found = subst (λ (x : Tree). Finds s m x) c.deref.ensures c.in_ok-node.ensures.found in
+    let is = subtree_is s m old c.requires.form.in_order c.in_ok-node.ensures.fits found in
+    record {
+      done = tt;
+      refused = tells (change (moves c.args.keep s t) old) MissingSource _ (moves_none c.args.keep s t old m is (sym c.if-is_missing.ensures)) refl;
+      unchanged = refl;
+    }
 
-pub returns-then-is_long-clause-refused : goal.returns-then-is_long-clause-refused
-returns-then-is_long-clause-refused c =
-    let old = c.args.root.now in
+pub returns-then-is_long : goal.returns-then-is_long
+returns-then-is_long c =
+    let old = c.args.root.now.value in
     let s = c.args.source.now in
     let t = c.args.target.now in
-    let o = at old s in
-    let at_path = option_map member_of c.file_at-file.result in
-    let below = option_map member_of c.in_ok-below.below in
-    let is = subtree_is s o (tree_under below) old c.requires.order (under_in_order below c.in_ok-below.ensures.fits) refl c.in_ok-below.ensures.found in
-    let tested : (not (is_some (option_map file o)) && not (is_some below)) ≡ false = rw (← c.file_at-file.ensures, ← c.is_nothing.ensures) c.if-is_nothing.false in
-    let some = some_taken o below c.in_ok-below.ensures.fits tested in
-    tells (change (moves c.args.keep s t) old) PathBytes _ (moves_some c.args.keep s t old o below is c.in_ok-below.ensures.fits some true (sym c.is_long.ensures ∙ c.if-is_long.true)) refl
+    let m = option_map member_of c.in_ok-node.node in
+    let found = subst (λ (x : Tree). Finds s m x) c.deref.ensures c.in_ok-node.ensures.found in
+    let is = subtree_is s m old c.requires.form.in_order c.in_ok-node.ensures.fits found in
+    let some = some_suffixes m c.in_ok-node.ensures.fits (sym c.if-is_missing.ensures) in
+    record {
+      done = tt;
+      refused = tells (change (moves c.args.keep s t) old) PathBytes _ (moves_long c.args.keep s t old m is some (sym c.if-is_long.ensures)) refl;
+      unchanged = refl;
+    }
 
-pub returns-clause-done : goal.returns-clause-done
-returns-clause-done c =
-    let old = c.args.root.now in
-    let s = c.args.source.now in
-    let t = c.args.target.now in
-    let o = at old s in
-    let at_path = option_map member_of c.file_at-file.result in
-    let below = option_map member_of c.in_ok-below.below in
-    let is = subtree_is s o (tree_under below) old c.requires.order (under_in_order below c.in_ok-below.ensures.fits) refl c.in_ok-below.ensures.found in
-    let tested : (not (is_some (option_map file o)) && not (is_some below)) ≡ false = rw (← c.file_at-file.ensures, ← c.is_nothing.ensures) c.if-is_nothing.false in
-    let some = some_taken o below c.in_ok-below.ensures.fits tested in
-    let long = sym c.is_long.ensures ∙ c.if-is_long.false in
-    let file_one : file_of at_path ≡ o = ap file_of c.file_at-file.ensures ∙ file_back o in
-    let expected = moves_made c.args.keep s t old o at_path below c.in_ok-made.made is c.in_ok-below.ensures.fits some long file_one c.in_ok-made.ensures in
-    if_ok c.within.result c.within.ensures.done (λ f h. expected ∙ h.1)
+pub placed-requires-clause-order : goal.placed-requires-clause-order
+placed-requires-clause-order c =
+    subst (λ (x : Tree). IsInOrder x) (sym c.in_ok-base.ensures) (base_in_order c.args.keep c.args.source.now c.args.root.now.value c.requires.form.in_order)
 
-pub returns-clause-refused : goal.returns-clause-refused
-returns-clause-refused c =
-    let old = c.args.root.now in
+pub returns : goal.returns
+returns c =
+    let old = c.args.root.now.value in
     let s = c.args.source.now in
     let t = c.args.target.now in
-    let o = at old s in
-    let at_path = option_map member_of c.file_at-file.result in
-    let below = option_map member_of c.in_ok-below.below in
-    let is = subtree_is s o (tree_under below) old c.requires.order (under_in_order below c.in_ok-below.ensures.fits) refl c.in_ok-below.ensures.found in
-    let tested : (not (is_some (option_map file o)) && not (is_some below)) ≡ false = rw (← c.file_at-file.ensures, ← c.is_nothing.ensures) c.if-is_nothing.false in
-    let some = some_taken o below c.in_ok-below.ensures.fits tested in
-    let long = sym c.is_long.ensures ∙ c.if-is_long.false in
-    let file_one : file_of at_path ≡ o = ap file_of c.file_at-file.ensures ∙ file_back o in
-    let expected = moves_made c.args.keep s t old o at_path below c.in_ok-made.made is c.in_ok-below.ensures.fits some long file_one c.in_ok-made.ensures in
-    subst (λ (d : Result Tree Refusal). IfErr c.within.result (λ fault. TellsOf d fault)) (sym expected) c.within.ensures.refused
+    let m = option_map member_of c.in_ok-node.node in
+    let found = subst (λ (x : Tree). Finds s m x) c.deref.ensures c.in_ok-node.ensures.found in
+    let is = subtree_is s m old c.requires.form.in_order c.in_ok-node.ensures.fits found in
+    let some = some_suffixes m c.in_ok-node.ensures.fits (sym c.if-is_missing.ensures) in
+    let made = c.in_ok-made.ensures ∙ ap (λ (x : Tree). put_all (prefixed t (suffixes m)) (cleared_for t x)) c.in_ok-base.ensures in
+    let expected = moves_made c.args.keep s t old m is some (sym c.if-is_long.ensures) ∙ ap (λ (x : Tree). within_paths x) (sym made) in
+    subst (λ (e : Result Tree Refusal). IsAnswer e old c.take_within.result c.take_within.new.root.value) (sym expected) c.take_within.ensures

@@ -1,8 +1,8 @@
-use Rattle.std.proofs.Common.{rules, ◌≡◌, ◌<◌, length, sym, ap, subst, ◌∙◌, Option, Some, None, true, arith}
+use Rattle.std.proofs.Common.{◌≡◌, ◌<◌, length, sym, ap, subst, ◌∙◌, Some, None, true, arith}
 use Rattle.plain_model.specs.Paths.{Bytes}
 use Rattle.plain_model.specs.Trees.{at}
 use Rattle.path_tree.specs.declared.folder.Node.{Node}
-use Rattle.path_tree.specs.Folders.{Member, at_member, rest_of, key_of, is_folder_key, AreSound, flat}
+use Rattle.path_tree.specs.Folders.{key_of, is_folder_key}
 use Rattle.path_tree.specs.Folders.Member.{file, folder}
 use Rattle.path_tree.specs.Inside.{rows_of, member_of}
 use Rattle.path_tree.specs.Falls.{key_long}
@@ -28,7 +28,8 @@ returns-in-None t c =
     let path = c.args.path.now in
     let is_key = c.split_at.ensures.front ∙ c.key_len-len.ensures.key in
     let is_rest = c.split_at.ensures.back ∙ c.key_len-len.ensures.rest in
-    looked c.args.self.now rows path c.split_at.result.0.now c.split_at.result.1.now (None) c.self.view_is c.self.invariant.rows is_key is_rest (rw (← c.as_slice-children.ensures.value) c.in-None.ensures)
+    looked c.args.self.now rows path c.split_at.result.0.now c.split_at.result.1.now (None) c.self.view_is c.self.invariant.rows is_key is_rest
+    (rw (← c.as_slice-children.ensures.value) c.in-None.ensures)
 
 pub returns-then-is_empty : goal.returns-then-is_empty
 returns-then-is_empty t c =
@@ -39,7 +40,8 @@ returns-then-is_empty t c =
     let found : Some (file c.in-Some-File.entry) ≡ at rows c.split_at.result.0.now =
     rw (← c.as_slice-children.ensures.value) (ap (λ (n : Node). Some (member_of n)) (sym c.in-Some-File.field-0-is) ∙ c.in-Some-File.ensures) in
     at_file_end c.split_at.result.1.now c.in-Some-File.entry c.if-is_empty.ensures
-    ∙ looked c.args.self.now rows path c.split_at.result.0.now c.split_at.result.1.now (Some (file c.in-Some-File.entry)) c.self.view_is c.self.invariant.rows is_key is_rest found
+    ∙ looked c.args.self.now rows path c.split_at.result.0.now c.split_at.result.1.now
+    (Some (file c.in-Some-File.entry)) c.self.view_is c.self.invariant.rows is_key is_rest found
 
 pub returns-else-is_empty : goal.returns-else-is_empty
 returns-else-is_empty t c =
@@ -50,7 +52,8 @@ returns-else-is_empty t c =
     let found : Some (file c.in-Some-File.entry) ≡ at rows c.split_at.result.0.now =
     rw (← c.as_slice-children.ensures.value) (ap (λ (n : Node). Some (member_of n)) (sym c.in-Some-File.field-0-is) ∙ c.in-Some-File.ensures) in
     at_file_more c.split_at.result.1.now c.in-Some-File.entry c.if-is_empty.ensures
-    ∙ looked c.args.self.now rows path c.split_at.result.0.now c.split_at.result.1.now (Some (file c.in-Some-File.entry)) c.self.view_is c.self.invariant.rows is_key is_rest found
+    ∙ looked c.args.self.now rows path c.split_at.result.0.now c.split_at.result.1.now
+    (Some (file c.in-Some-File.entry)) c.self.view_is c.self.invariant.rows is_key is_rest found
 
 pub returns-in-Some-Subfolder : goal.returns-in-Some-Subfolder
 returns-in-Some-Subfolder t c =
@@ -61,4 +64,5 @@ returns-in-Some-Subfolder t c =
     let found : Some (folder c.in-Some-Subfolder.below.value) ≡ at rows c.split_at.result.0.now =
     rw (← c.as_slice-children.ensures.value) (ap (λ (n : Node). Some (member_of n)) (sym c.in-Some-Subfolder.field-0-is) ∙ c.in-Some-Subfolder.ensures) in
     rw (c.get.ensures, c.deref.ensures)
-    (looked c.args.self.now rows path c.split_at.result.0.now c.split_at.result.1.now (Some (folder c.in-Some-Subfolder.below.value)) c.self.view_is c.self.invariant.rows is_key is_rest found)
+    (looked c.args.self.now rows path c.split_at.result.0.now c.split_at.result.1.now
+    (Some (folder c.in-Some-Subfolder.below.value)) c.self.view_is c.self.invariant.rows is_key is_rest found)

@@ -1,4 +1,4 @@
-use Rattle.std.proofs.Common.{rules, ◌≡◌, ◌++◌, [], sym, ap, subst, ◌∙◌}
+use Rattle.std.proofs.Common.{◌++◌, [], sym, ap, subst, ◌∙◌}
 use Rattle.plain_model.specs.Trees.{Tree}
 use Rattle.path_tree.specs.Folders.{prefixed}
 use Rattle.path_tree.specs.Sound.{AllPaths}
