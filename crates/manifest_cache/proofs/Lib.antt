@@ -1,0 +1,4 @@
+mod KeptTrees
+mod Lines
+mod Sound
+mod Walking

@@ -1,0 +1,4 @@
+pub mod Kept
+pub mod Lending
+pub mod Lines
+pub mod Walks

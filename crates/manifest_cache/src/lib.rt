@@ -1,0 +1,10 @@
+//! The trees of commits, at most 64 of which are kept. Read in this order: `walk`, `folding`, `using` (the tree of one
+//! commit), `manifests` (the trees that are kept).
+#![tactic(auto)]
+
+mod folding;
+mod manifests;
+mod using;
+mod walk;
+
+pub use manifests::Manifests;

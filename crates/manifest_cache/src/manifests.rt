@@ -1,0 +1,85 @@
+//! The trees that are kept.
+ghost use Rattle.std.specs.Prelude.{◌≡◌, ◌+◌, ◌≤◌, [], Some, length, IfOk, IsSome, nat_eq};
+ghost use Rattle.std.specs.List.{IsDistinct};
+ghost use Rattle.std.specs.Map.{keys_of};
+ghost use Rattle.plain_model.specs.Histories.{tree};
+ghost use Rattle.plain_model.specs.Lookups.{find_event};
+ghost use Rattle.plain_model.specs.declared.id.AnyId.TheVariants.{Commit};
+ghost use Rattle.manifest_cache.specs.Kept.{AgreesWith, is_kept, ops_to_fold};
+
+use crate::using::{keep, kept_tree};
+use crate::walk::Trees;
+use event_arena::Events;
+use lru::LruCache;
+use path_tree::PathTree;
+use plain_model::{CommitId, MAX_KEPT_TREES, NoMemory, Steps};
+use std::alloc::Global;
+use std::marker::Model;
+use std::num::NonZeroUsize;
+
+/// Trees of commits of a history, the last used ones: 64 at most. Contracts see a list of commits with their trees, the last
+/// used first. (own)
+#[derive(Drop)]
+pub struct Manifests {
+    alloc: Global,
+    trees: Trees,
+}
+
+impl Model for Manifests {
+    ghost use Rattle.std.specs.Prelude.{◌≡◌};
+    ghost use Rattle.manifest_cache.specs.Kept.{Kept};
+
+    ghost Value = { Kept };
+
+    ghost view = { λ m. m.trees.entries };
+
+    ghost invariant = { λ m. m.trees.cap ≡ 64 };
+}
+
+impl Manifests {
+    ghost use Rattle.std.specs.Borrow.{sem};
+    ghost use Rattle.manifest_cache.specs.Lending.{Uses};
+
+    /// No tree is kept.
+    pub fn new(alloc: Global) -> Result<Manifests, NoMemory>
+        ensures { IfOk result (λ made. made ≡ []) }
+    {
+        let most = NonZeroUsize::new(MAX_KEPT_TREES as usize).unwrap();
+        let trees = LruCache::sparse(alloc, most)?;
+        Ok(Manifests { alloc, trees })
+    }
+
+    /// How many trees are kept. No commit is kept twice.
+    pub fn len(&self) -> usize
+        ensures count { result ≡ length self.now }
+        ensures few { result ≤ MAX_KEPT_TREES }
+        ensures once { IsDistinct nat_eq (keys_of self.now) }
+    {
+        self.trees.len()
+    }
+
+    /// Whether the tree of the commit is kept. It takes no memory.
+    pub fn kept(&self, id: CommitId) -> bool
+        ensures { result ≡ is_kept self.now id }
+    {
+        self.trees.contains(&id.number())
+    }
+
+    /// The tree of a commit, which is kept from then on. It is folded from the nearest kept tree on the commit's line of first
+    /// parents, and each operation that is applied counts as a step.
+    pub fn get<L>(
+        &mut self,
+        events: &Events,
+        id: CommitId,
+        steps: &mut Steps<L>,
+    ) -> Result<&PathTree, NoMemory>
+        requires agrees { AgreesWith events.now.list self.old }
+        requires live { IsSome (find_event (Commit id) events.now.list) }
+        ensures* kept { sem 𝓛 (Uses self.entry events.now.list id result) }
+        ensures tree { IfOk result (λ t. tree events.now.list id ≡ Some t.now) }
+        ensures counted { steps.new ≤ steps.old + ops_to_fold self.old events.now.list id }
+    {
+        keep(self.alloc, &mut self.trees, events, id, steps)?;
+        Ok(kept_tree(&self.trees, id))
+    }
+}

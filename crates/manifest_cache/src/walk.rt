@@ -1,0 +1,82 @@
+//! From a commit back along first parents to one whose tree is kept, or to the root.
+ghost use Rattle.std.specs.Prelude.{◌≡◌, IfOk, IsSome};
+ghost use Rattle.plain_model.specs.Lookups.{find_event};
+ghost use Rattle.plain_model.specs.declared.id.AnyId.TheVariants.{Commit};
+ghost use Rattle.manifest_cache.specs.Kept.{AgreesWith};
+ghost use Rattle.manifest_cache.specs.Walks.{Leads, event_ops, first_parent, ops_at, parent_at};
+
+use event_arena::Events;
+use lru::LruCache;
+use path_tree::PathTree;
+use plain_model::{AnyId, CommitId, FileOp, Items, NoMemory, ParentList, PlainEvent};
+use std::alloc::Global;
+
+/// Kept trees, by the numbers of their commits' ids.
+pub type Trees = LruCache<u64, PathTree>;
+
+/// The first parent of an event that is a commit and has parents.
+pub fn first_parent(event: &PlainEvent) -> Option<CommitId>
+    ensures { result ≡ first_parent event.now }
+{
+    match event {
+        PlainEvent::Commit { parents, .. } => parents.as_slice().first().copied(),
+        _ => None,
+    }
+}
+
+/// The operations of an event; none where it is no commit.
+pub fn event_ops(event: &PlainEvent) -> &[FileOp]
+    ensures { result.now ≡ event_ops event.now }
+{
+    match event {
+        PlainEvent::Commit { ops, .. } => ops.as_slice(),
+        _ => &[],
+    }
+}
+
+fn parent_at(events: &Events, commit: CommitId) -> Option<CommitId>
+    ensures { result ≡ parent_at events.now.list commit }
+{
+    match events.event(AnyId::Commit(commit)) {
+        Some(event) => first_parent(event),
+        None => None,
+    }
+}
+
+/// The operations of a commit.
+pub fn ops_at(events: &Events, commit: CommitId) -> &[FileOp]
+    ensures { result.now ≡ ops_at events.now.list commit }
+{
+    match events.event(AnyId::Commit(commit)) {
+        Some(event) => event_ops(event),
+        None => &[],
+    }
+}
+
+/// The commits to be folded for the tree of a commit, the newest first, and the tree on which the oldest hangs: the kept one
+/// that is nearest on the line of first parents, or the empty one under the root.
+pub fn walk_back(
+    alloc: Global,
+    kept: &Trees,
+    events: &Events,
+    commit: CommitId,
+) -> Result<(ParentList, PathTree), NoMemory>
+    requires agrees { AgreesWith events.now.list kept.now.entries }
+    requires live { IsSome (find_event (Commit commit) events.now.list) }
+    ensures { IfOk result (λ found. Leads kept.now.entries events.now.list commit found.0 found.1) }
+{
+    // Its contract says that the history is sound.
+    let _ = events.count();
+    let mut walk: ParentList = Items::empty(alloc);
+    let mut at = commit;
+    loop {
+        if let Some(tree) = kept.peek(&at.number()) {
+            return Ok((walk, tree.share()?));
+        }
+        walk.push(at)?;
+        match parent_at(events, at) {
+            Some(parent) => at = parent,
+            None => return Ok((walk, PathTree::new(alloc)?)),
+        }
+    }
+}
