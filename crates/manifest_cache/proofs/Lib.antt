@@ -1,4 +1,7 @@
 mod KeptTrees
+mod LastUsed
 mod Lines
+mod SameLines
+mod Sifting
 mod Sound
 mod Walking

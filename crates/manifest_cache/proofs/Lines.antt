@@ -59,6 +59,11 @@ tree_line_in (n ∷ older) c = elim (cases_Bool (n.id == c)) [
 pub tree_line : (events : List PlainEvent) (c : ℕ) → tree events c ≡ tree_along (line events c)
 tree_line events c = tree_line_in (past events) c
 
+-- what makes a tree is a line
+pub line_of_tree : (o : Option Line) → IsSome (tree_along o) → IsSome o
+line_of_tree None h = absurd (true≢false (sym h))
+line_of_tree (Some l) h = refl
+
 -- ---- what is later doesn't count
 
 skip : (a b : Past) (c : ℕ) → knows a c ≡ false → line_in (a ++ b) c ≡ line_in b c

@@ -1,8 +1,7 @@
 -- The line of a commit in a sound history, one step back.
-use Rattle.std.proofs.Common.{◌≡◌, ℕ, List, [], ◌∷◌, ◌++◌, Option, Some, None, refl, sym, ap, subst, ◌∙◌, append_assoc, append-nil}
+use Rattle.std.proofs.Common.{◌≡◌, ℕ, List, [], ◌∷◌, ◌++◌, Some, refl, sym, ap, subst, ◌∙◌, append_assoc, append-nil}
 use Rattle.std.specs.Prelude.{IsSome, is_some}
 use Rattle.std.specs.List.{AllByRecursion}
-use Rattle.std.proofs.lemmas.Bool.{true≢false}
 use Rattle.plain_model.specs.declared.id.AnyId.TheVariants as any
 use Rattle.plain_model.specs.declared.event.PlainEvent.{PlainEvent}
 use Rattle.plain_model.specs.declared.event.PlainEvent.TheVariants.{Blob, Commit, Tag, Reset, Pass}
@@ -13,9 +12,9 @@ use Rattle.history_laws.proofs.Ids.{has_id_still}
 use Rattle.event_arena.specs.Once.{AreDistinct}
 use Rattle.event_arena.proofs.SoundLemmas.{has_id-find, sound-once}
 use Rattle.event_arena.proofs.SpentLemmas.{find-id}
-use Rattle.manifest_cache.specs.Lines.{Line, line, line_before}
+use Rattle.manifest_cache.specs.Lines.{line, line_before}
 use Rattle.manifest_cache.specs.Walks.{event_ops}
-use Rattle.manifest_cache.proofs.Lines.{after_found, found_split, line_front, line_here, not_again, tree_along, tree_line, with_commit}
+use Rattle.manifest_cache.proofs.Lines.{after_found, found_split, line_front, line_here, line_of_tree, not_again, tree_line, with_commit}
 
 -- an event is sound after those before it
 sound_at : (earlier xs ys : List PlainEvent) (e : PlainEvent) → AreSoundAfter earlier (xs ++ e ∷ ys) → IsSoundEvent (earlier ++ xs) e
@@ -73,8 +72,4 @@ module _ (events : List PlainEvent) (sound : IsSound events) (c : ℕ) (e : Plai
 
   -- it has a line
   pub has_line : IsSome (line events c)
-  has_line = go (line events c) (ap is_some (sym (tree_line events c)) ∙ live_tree events c sound (ap is_some found))
-    where
-      go : (o : Option Line) → IsSome (tree_along o) → IsSome o
-      go None h = absurd (true≢false (sym h))
-      go (Some l) h = refl
+  has_line = line_of_tree (line events c) (ap is_some (sym (tree_line events c)) ∙ live_tree events c sound (ap is_some found))

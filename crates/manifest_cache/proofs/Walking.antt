@@ -17,7 +17,7 @@ use Rattle.plain_model.specs.Soundness.{IsSound}
 use Rattle.plain_model.specs.Trees.{Tree}
 use Rattle.history_laws.proofs.LineLaws.{folded_more}
 use Rattle.manifest_cache.specs.Kept.{AgreesWith, Kept, after_kept, is_kept, ops_to_fold}
-use Rattle.manifest_cache.specs.Lines.{Line, line, line_before, ops_of}
+use Rattle.manifest_cache.specs.Lines.{Line, line, line_before, ops_of, size}
 use Rattle.manifest_cache.specs.Walks.{Leads, event_ops, first_parent, ops_at, ops_back, parent_at}
 use Rattle.manifest_cache.proofs.KeptTrees.{kept_is}
 use Rattle.manifest_cache.proofs.Lines.{ops_more, tree_along, tree_line, tree_more, with_commit}
@@ -59,12 +59,10 @@ count_more kept (Some l) c ops h there =
     ∙ ap length (ops_more (after_kept kept l) c ops)
     ∙ length-append (ops_of (after_kept kept l)) ops
 
-abbrev pub depth : Option Line → ℕ
-depth o = option_map_or (λ l. length l) o 0
-
-depth_more : (o : Option Line) (c : ℕ) (ops : List FileOp) → IsSome (with_commit c ops o) → depth (with_commit c ops o) ≡ suc (depth o)
-depth_more None c ops there = absurd (true≢false (sym there))
-depth_more (Some l) c ops there = let n = length-append l ((c, ops) ∷ []) in omega (arith, n)
+-- a line with one commit more is longer by one
+pub size_more : (o : Option Line) (c : ℕ) (ops : List FileOp) → IsSome (with_commit c ops o) → size (with_commit c ops o) ≡ suc (size o)
+size_more None c ops there = absurd (true≢false (sym there))
+size_more (Some l) c ops there = let n = length-append l ((c, ops) ∷ []) in omega (arith, n)
 
 -- ---- operations of a walk
 
@@ -78,11 +76,11 @@ pub unkept : (kept : Kept) (n c : ℕ) → n ≡ c → None ≡ lookup (nat_eq n
 unkept kept n c same none = ap (λ k. is_kept kept k) (sym same) ∙ sym (ap is_some none)
 
 -- the first parent, and a root that has none
-parent_is : (ps : List ℕ) (p : ℕ) → slice_get ps 0 ≡ Some p → ps ≡ p ∷ drop 1 ps
+pub parent_is : (ps : List ℕ) (p : ℕ) → slice_get ps 0 ≡ Some p → ps ≡ p ∷ drop 1 ps
 parent_is [] p h = absurd (none-some p h)
 parent_is (q ∷ ps) p h = ap (λ r. r ∷ ps) (same_Some q p h)
 
-no_parents : (ps : List ℕ) → slice_get ps 0 ≡ None → ps ≡ []
+pub no_parents : (ps : List ℕ) → slice_get ps 0 ≡ None → ps ≡ []
 no_parents [] h = refl
 no_parents (q ∷ ps) h = absurd (none-some q (sym h))
 
@@ -154,11 +152,11 @@ module _ (kept : Kept) (events : List PlainEvent) (sound : IsSound events) where
           count = both.1;
         }
 
-    pub goes_down : (p : ℕ) → Some p ≡ parent_at events at → depth (line events p) < depth (line events at)
+    pub goes_down : (p : ℕ) → Some p ≡ parent_at events at → size (line events p) < size (line events at)
     goes_down p parent =
         let first = parent_is (event_parents event) p (sym (ap (λ o. option_and_then first_parent o) found) ∙ sym parent) in
-        let more = ap depth own_line ∙ depth_more (line_before (line events) (event_parents event)) at (event_ops event) there
-        ∙ ap (λ (ps : List ℕ). suc (depth (line_before (line events) ps))) first in
+        let more = ap size own_line ∙ size_more (line_before (line events) (event_parents event)) at (event_ops event) there
+        ∙ ap (λ (ps : List ℕ). suc (size (line_before (line events) ps))) first in
         omega (arith, more)
 
     -- it ends at the root

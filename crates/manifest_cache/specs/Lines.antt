@@ -1,5 +1,6 @@
 -- The line of first parents of a commit, back to its root. (own)
-use Rattle.std.specs.Prelude.{ℕ, ◌==◌, List, [], ◌∷◌, ◌++◌, Option, Some, None, option_map, flat_map, if◌then◌else◌}
+use Rattle.std.specs.Prelude.{ℕ, ◌==◌, List, [], ◌∷◌, ◌++◌, Option, Some, None, option_map, flat_map, length, if◌then◌else◌}
+use Rattle.std.specs.Option.{option_map_or}
 use Rattle.plain_model.specs.declared.operation.FileOp.{FileOp}
 use Rattle.plain_model.specs.declared.event.PlainEvent.{PlainEvent}
 use Rattle.plain_model.specs.Histories.{Past, past}
@@ -25,3 +26,7 @@ line events c = line_in (past events) c
 -- the operations of a line, in order
 abbrev pub ops_of : Line → List FileOp
 ops_of commits = flat_map (λ c. c.1) commits
+
+-- how many commits a line has, if there is one
+abbrev pub size : Option Line → ℕ
+size o = option_map_or (λ commits. length commits) o 0

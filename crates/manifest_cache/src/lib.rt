@@ -2,7 +2,9 @@
 //! commit), `manifests` (the trees that are kept).
 #![tactic(auto)]
 
+mod equal_ops;
 mod folding;
+mod following;
 mod manifests;
 mod using;
 mod walk;

@@ -5,11 +5,13 @@ ghost use Rattle.std.specs.Map.{keys_of};
 ghost use Rattle.plain_model.specs.Histories.{tree};
 ghost use Rattle.plain_model.specs.Lookups.{find_event};
 ghost use Rattle.plain_model.specs.declared.id.AnyId.TheVariants.{Commit};
+ghost use Rattle.manifest_cache.specs.Following.{Follows};
 ghost use Rattle.manifest_cache.specs.Kept.{AgreesWith, is_kept, ops_to_fold};
 
+use crate::following::follow;
 use crate::using::{keep, kept_tree};
 use crate::walk::Trees;
-use event_arena::Events;
+use event_arena::{Events, Plan};
 use lru::LruCache;
 use path_tree::PathTree;
 use plain_model::{CommitId, MAX_KEPT_TREES, NoMemory, Steps};
@@ -27,6 +29,7 @@ pub struct Manifests {
 
 impl Model for Manifests {
     ghost use Rattle.std.specs.Prelude.{◌≡◌};
+    ghost use Rattle.manifest_cache.specs.Following.{Follows};
     ghost use Rattle.manifest_cache.specs.Kept.{Kept};
 
     ghost Value = { Kept };
@@ -81,5 +84,14 @@ impl Manifests {
     {
         keep(self.alloc, &mut self.trees, events, id, steps)?;
         Ok(kept_tree(&self.trees, id))
+    }
+
+    /// Keeps the trees of the commits whose line of first parents has the same commits with the same operations after the plan as
+    /// before it, and no others. It takes no memory.
+    pub fn follow(&mut self, plan: &Plan)
+        requires { AgreesWith plan.now.before self.old }
+        ensures { Follows plan.now.before plan.now.after self.old self.new }
+    {
+        follow(&mut self.trees, plan);
     }
 }
