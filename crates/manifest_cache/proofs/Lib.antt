@@ -4,4 +4,5 @@ mod Lines
 mod SameLines
 mod Sifting
 mod Sound
+mod Steps
 mod Walking

@@ -1,5 +1,5 @@
 -- A commit's tree is its line folded, and its line is that of its first parent with the commit after it.
-use Rattle.std.proofs.Common.{◌≡◌, ℕ, false, List, [], ◌∷◌, ◌++◌, Option, Some, None, refl, sym, ap, subst, ◌∙◌, inl, inr, append_assoc, append-nil, reverse, eq-eqb}
+use Rattle.std.proofs.Common.{◌≡◌, ℕ, false, List, [], ◌∷◌, ◌++◌, Option, Some, None, refl, sym, ap, subst, ◌∙◌, inl, inr, append_assoc, append-nil, reverse, eq-eqb, ◌+◌, suc, arith, length-append}
 use Rattle.std.specs.Prelude.{◌==◌, ◌||◌, IsSome, option_and_then, option_map}
 use Rattle.std.proofs.lemmas.Bool.{cases_Bool, or_parts, true≢false}
 use Rattle.std.proofs.lemmas.List.{reverse-append}
@@ -19,7 +19,7 @@ use Rattle.history_laws.proofs.Ids.{same_id-true}
 use Rattle.history_laws.proofs.LineLaws.{folded_more}
 use Rattle.event_arena.specs.Once.{AreDistinct}
 use Rattle.event_arena.proofs.SpentLemmas.{absent-cons}
-use Rattle.manifest_cache.specs.Lines.{Line, line, line_before, line_in, ops_of}
+use Rattle.manifest_cache.specs.Lines.{Line, line, line_before, line_in, ops_of, size}
 use Rattle.manifest_cache.specs.Walks.{event_ops}
 
 -- ---- trees
@@ -40,6 +40,16 @@ ops_more l c ops = flat_map-append (λ (x : ℕ × List FileOp). x.1) l ((c, ops
 pub tree_more : (o : Option Line) (c : ℕ) (ops : List FileOp) → tree_along (with_commit c ops o) ≡ folded ops (tree_along o)
 tree_more None c ops = refl
 tree_more (Some l) c ops = ap (λ (os : List FileOp). folded os (Some [])) (ops_more l c ops) ∙ folded_more (ops_of l) ops (Some [])
+
+-- a line with one commit more is longer by one
+pub size_more : (o : Option Line) (c : ℕ) (ops : List FileOp) → IsSome (with_commit c ops o) → size (with_commit c ops o) ≡ suc (size o)
+size_more None c ops there = absurd (true≢false (sym there))
+size_more (Some l) c ops there = let n = length-append l ((c, ops) ∷ []) in omega (arith, n)
+
+-- a line with a commit is there where that before it is
+pub before_there : (o : Option Line) (c : ℕ) (ops : List FileOp) → IsSome (with_commit c ops o) → IsSome o
+before_there None c ops h = absurd (true≢false (sym h))
+before_there (Some l) c ops h = refl
 
 begun_along : (older : Past) → ((p : ℕ) → tree_in older p ≡ tree_along (line_in older p)) → (ps : List ℕ) → begun (tree_in older) ps ≡ tree_along (line_before (line_in older) ps)
 begun_along older h [] = refl

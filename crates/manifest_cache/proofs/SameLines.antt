@@ -18,8 +18,8 @@ use Rattle.history_laws.proofs.Ids.{same_id-refl}
 use Rattle.manifest_cache.specs.Following.{HasSameLine, is_before, is_earlier}
 use Rattle.manifest_cache.specs.Lines.{Line, line, line_before, line_in, size}
 use Rattle.manifest_cache.specs.Walks.{event_ops, first_parent}
-use Rattle.manifest_cache.proofs.Lines.{after_found, found_split, line_front, line_here, not_again, with_commit}
-use Rattle.manifest_cache.proofs.Walking.{no_parents, parent_is, size_more}
+use Rattle.manifest_cache.proofs.Lines.{size_more, after_found, found_split, line_front, line_here, not_again, with_commit}
+use Rattle.manifest_cache.proofs.Steps.{absent, front, front_earlier, front_later, front_line, step_parent, step_root}
 
 -- ---- lines with a commit at their end
 
@@ -65,10 +65,6 @@ filled older p h = elim (ends older p) [
   | inr own ↦ not_empty p own.0 own.1 (sym own.2 ∙ h)
 ]
 
--- what isn't there has no line
-pub absent : (events : List PlainEvent) (p : ℕ) → find_event (any.Commit p) events ≡ None → line events p ≡ None
-absent events p h = line_front [] events p h
-
 -- lines of two commits that are there are of the same commit where they are the same
 same_commit : (xs ys : List PlainEvent) (p q : ℕ) → IsSome (line xs p) → line xs p ≡ line ys q → p ≡ q
 same_commit xs ys p q there h = elim (ends (past xs) p) [
@@ -78,112 +74,6 @@ same_commit xs ys p q there h = elim (ends (past xs) p) [
     | inr other ↦ (ends_alike p q own.0 other.0 own.1 other.1 (sym own.2 ∙ h ∙ other.2) (ap is_some (sym own.2) ∙ there)).0
   ]
 ]
-
--- ---- places
-
-place_front : (xs zs : List PlainEvent) (id : AnyId) → IsSome (find_event id xs) → (j : ℕ) × (place_of id (xs ++ zs) ≡ Some j) × (j < length xs)
-place_front [] zs id h = absurd (true≢false (sym h))
-place_front (x ∷ xs) zs id h = elim (cases_Bool (same_id id (id_of x))) [
-  | inl it ↦ (0, rw it refl, omega arith)
-  | inr no_it ↦
-      let r = place_front xs zs id (rw no_it at h) in
-      let less = r.2 in
-      (suc r.0, rw (no_it, r.1) refl, omega (arith, less))
-]
-
-place_back : (xs zs : List PlainEvent) (id : AnyId) (j : ℕ) → find_event id xs ≡ None → place_of id (xs ++ zs) ≡ Some j → length xs ≤ j
-place_back [] zs id j h at = omega arith
-place_back (x ∷ xs) zs id j h at =
-    let rest = absent-cons id x xs h in
-    go (place_of id (xs ++ zs)) (λ k is. place_back xs zs id k rest.1 is) (rw rest.0 at at)
-  where
-    go : (o : Option ℕ) → ((k : ℕ) → o ≡ Some k → length xs ≤ k) → option_map suc o ≡ Some j → suc (length xs) ≤ j
-    go None later e = absurd (none-some j e)
-    go (Some k) later e =
-        let more = later k refl in
-        let same = same_Some (suc k) j e in
-        omega (arith, more, same)
-
-place_own : (xs ys : List PlainEvent) (e : PlainEvent) → find_event (id_of e) xs ≡ None → place_of (id_of e) (xs ++ e ∷ ys) ≡ Some (length xs)
-place_own [] ys e h = rw (same_id-refl (id_of e)) refl
-place_own (x ∷ xs) ys e h =
-    let rest = absent-cons (id_of e) x xs h in
-    rw (rest.0, place_own xs ys e rest.1) refl
-
--- ---- a commit in a list in which no event is twice
-
-module _ (events : List PlainEvent) (once : AreDistinct events) (c : ℕ) (e : PlainEvent) (found : find_event (any.Commit c) events ≡ Some e) where
-  abbrev pub front : List PlainEvent
-  front = (found_split (any.Commit c) events e found).0
-
-  abbrev rest : List PlainEvent
-  rest = (found_split (any.Commit c) events e found).1
-
-  is : events ≡ front ++ e ∷ rest
-  is = (found_split (any.Commit c) events e found).2
-
-  distinct : AreDistinct (front ++ e ∷ rest)
-  distinct = subst AreDistinct is once
-
-  own : any.Commit c ≡ id_of e
-  own = find-id (any.Commit c) events e found
-
-  step : line events c ≡ with_commit c (event_ops e) (line_before (line front) (event_parents e))
-  step = ap (λ (es : List PlainEvent). line es c) is ∙ line_here front rest e c own (ap (λ i. find_event i rest) own ∙ not_again front rest e distinct)
-
-  pub step_root : None ≡ first_parent e → line events c ≡ with_commit c (event_ops e) (Some [])
-  step_root none = step ∙ ap (λ (ps : List ℕ). with_commit c (event_ops e) (line_before (line front) ps)) (no_parents (event_parents e) (sym none))
-
-  module _ (p : ℕ) (parent : Some p ≡ first_parent e) where
-    pub step_parent : line events c ≡ with_commit c (event_ops e) (line front p)
-    step_parent = step ∙ ap (λ (ps : List ℕ). with_commit c (event_ops e) (line_before (line front) ps)) (parent_is (event_parents e) p (sym parent))
-
-    front_found : IsSome (find_event (any.Commit p) front) → line front p ≡ line events p
-    front_found there =
-        sym (ap (λ (es : List PlainEvent). line es p) is ∙ line_front front (e ∷ rest) p (after_found front (e ∷ rest) (any.Commit p) distinct there))
-
-    -- where the commit has a line, its first parent has that before it
-    pub front_line : IsSome (line front p) → line front p ≡ line events p
-    front_line there = go (find_event (any.Commit p) front) refl
-      where
-        go : (o : Option PlainEvent) → find_event (any.Commit p) front ≡ o → line front p ≡ line events p
-        go None none = absurd (true≢false (sym there ∙ ap is_some (absent front p none)))
-        go (Some x) some = front_found (ap is_some some)
-
-    -- whether it is earlier tells whether it is found in front
-    earlier_is : (o : Option PlainEvent) → find_event (any.Commit p) front ≡ o → is_earlier events p c ≡ is_some o
-    earlier_is o at =
-        ap (λ (es : List PlainEvent). is_earlier es p c) is
-        ∙ ap (is_before (place_of (any.Commit p) (front ++ e ∷ rest))) (ap (λ i. place_of i (front ++ e ∷ rest)) own ∙ place_own front rest e (distinct-absent front rest e distinct))
-        ∙ go o at
-      where
-        later : (k : Option ℕ) → ((j : ℕ) → k ≡ Some j → length front ≤ j) → is_before k (Some (length front)) ≡ false
-        later None h = refl
-        later (Some j) h = let more = h j refl in grind (arith, nat_tests)
-
-        below : (j k : ℕ) → j < k → nat_lt j k ≡ true
-        below j k less = grind (arith, nat_tests)
-
-        go : (o : Option PlainEvent) → find_event (any.Commit p) front ≡ o → is_before (place_of (any.Commit p) (front ++ e ∷ rest)) (Some (length front)) ≡ is_some o
-        go None none = later (place_of (any.Commit p) (front ++ e ∷ rest)) (λ j at. place_back front (e ∷ rest) (any.Commit p) j none at)
-        go (Some x) some =
-            let place = place_front front (e ∷ rest) (any.Commit p) (ap is_some some) in
-            let less : place.0 < length front = place.2 in
-            ap (λ k. is_before k (Some (length front))) place.1 ∙ below place.0 (length front) less
-
-    pub front_earlier : is_earlier events p c ≡ true → line front p ≡ line events p
-    front_earlier h = go (find_event (any.Commit p) front) refl
-      where
-        go : (o : Option PlainEvent) → find_event (any.Commit p) front ≡ o → line front p ≡ line events p
-        go None none = absurd (true≢false (sym h ∙ earlier_is None none))
-        go (Some x) some = front_found (ap is_some some)
-
-    pub front_later : is_earlier events p c ≡ false → line front p ≡ None
-    front_later h = go (find_event (any.Commit p) front) refl
-      where
-        go : (o : Option PlainEvent) → find_event (any.Commit p) front ≡ o → line front p ≡ None
-        go None none = absent front p none
-        go (Some x) some = absurd (true≢false (sym (earlier_is (Some x) some) ∙ h))
 
 -- ---- a commit in both lists
 
@@ -252,7 +142,7 @@ module _ (before after : List PlainEvent) (c : ℕ) (there : IsSome (line before
         pub goes_on : event_ops old ≡ event_ops new → p ≡ q → is_earlier after q c ≡ true
             → (HasSameLine before after p ↔ HasSameLine before after c) × IsSome (line before p) × (size (line before p) < size (line before c))
         goes_on ops alike early =
-            let o = front_line before once c old was p parent old_line in
+            let o = front_line before once c old was p old_line in
             let n = front_earlier after twice c new now q other early ∙ ap (line after) (sym alike) in
             let more = ap size old_step ∙ size_more (line old_front p) c (event_ops old) (ap is_some (sym old_step) ∙ there) ∙ ap (λ (l : Option Line). suc (size l)) o in (
               (

@@ -1,5 +1,5 @@
 -- A walk back along first parents: what it folds, and how much of it.
-use Rattle.std.proofs.Common.{◌≡◌, ℕ, ◌+◌, ◌-◌, ◌<◌, suc, true, false, inl, inr, List, [], ◌∷◌, ◌++◌, length, take, get_or, drop, Option, Some, None, refl, sym, ap, ◌∙◌, append_assoc, append-nil, length-append, arith, nat_eq, zero-add}
+use Rattle.std.proofs.Common.{◌≡◌, ℕ, ◌+◌, ◌-◌, ◌<◌, suc, true, false, inl, inr, List, [], ◌∷◌, ◌++◌, length, take, get_or, drop, Option, Some, None, refl, sym, ap, subst, ◌∙◌, append_assoc, append-nil, length-append, arith, nat_eq, zero-add}
 use Rattle.std.specs.Prelude.{◌||◌, IsSome, is_some, option_and_then, slice_get}
 use Rattle.std.specs.List.{list_any}
 use Rattle.std.specs.Map.{lookup}
@@ -13,15 +13,15 @@ use Rattle.plain_model.specs.declared.operation.FileOp.{FileOp}
 use Rattle.plain_model.specs.declared.event.PlainEvent.{PlainEvent}
 use Rattle.plain_model.specs.Histories.{folded, tree}
 use Rattle.plain_model.specs.Lookups.{event_parents, find_event}
-use Rattle.plain_model.specs.Soundness.{IsSound}
 use Rattle.plain_model.specs.Trees.{Tree}
 use Rattle.history_laws.proofs.LineLaws.{folded_more}
+use Rattle.event_arena.specs.Once.{AreDistinct}
 use Rattle.manifest_cache.specs.Kept.{AgreesWith, Kept, after_kept, is_kept, ops_to_fold}
 use Rattle.manifest_cache.specs.Lines.{Line, line, line_before, ops_of, size}
 use Rattle.manifest_cache.specs.Walks.{Leads, event_ops, first_parent, ops_at, ops_back, parent_at}
 use Rattle.manifest_cache.proofs.KeptTrees.{kept_is}
-use Rattle.manifest_cache.proofs.Lines.{ops_more, tree_along, tree_line, tree_more, with_commit}
-use Rattle.manifest_cache.proofs.Sound.{has_line, line_step, parent_live}
+use Rattle.manifest_cache.proofs.Lines.{before_there, line_of_tree, ops_more, size_more, tree_along, tree_line, tree_more, with_commit}
+use Rattle.manifest_cache.proofs.Steps.{event_of, line_step, no_parents, parent_is}
 
 -- ---- the commits after the last that is kept
 
@@ -59,11 +59,6 @@ count_more kept (Some l) c ops h there =
     ∙ ap length (ops_more (after_kept kept l) c ops)
     ∙ length-append (ops_of (after_kept kept l)) ops
 
--- a line with one commit more is longer by one
-pub size_more : (o : Option Line) (c : ℕ) (ops : List FileOp) → IsSome (with_commit c ops o) → size (with_commit c ops o) ≡ suc (size o)
-size_more None c ops there = absurd (true≢false (sym there))
-size_more (Some l) c ops there = let n = length-append l ((c, ops) ∷ []) in omega (arith, n)
-
 -- ---- operations of a walk
 
 -- one commit more, further back
@@ -75,49 +70,39 @@ ops_back_more events (d ∷ walk) c = ap (λ (os : List FileOp). os ++ ops_at ev
 pub unkept : (kept : Kept) (n c : ℕ) → n ≡ c → None ≡ lookup (nat_eq n) kept → is_kept kept c ≡ false
 unkept kept n c same none = ap (λ k. is_kept kept k) (sym same) ∙ sym (ap is_some none)
 
--- the first parent, and a root that has none
-pub parent_is : (ps : List ℕ) (p : ℕ) → slice_get ps 0 ≡ Some p → ps ≡ p ∷ drop 1 ps
-parent_is [] p h = absurd (none-some p h)
-parent_is (q ∷ ps) p h = ap (λ r. r ∷ ps) (same_Some q p h)
-
-pub no_parents : (ps : List ℕ) → slice_get ps 0 ≡ None → ps ≡ []
-no_parents [] h = refl
-no_parents (q ∷ ps) h = absurd (none-some q (sym h))
-
 -- the walk has come from c to `at`
 pub record HasCome (kept : Kept) (events : List PlainEvent) (c : ℕ) (walk : List ℕ) (at : ℕ) : Type 0 where
-  pub live : IsSome (find_event (any.Commit at) events)
+  pub there : IsSome (line events at)
   pub tree : tree events c ≡ folded (ops_back events walk) (tree events at)
   pub count : ops_to_fold kept events c ≡ length (ops_back events walk) + ops_to_fold kept events at
 
-module _ (kept : Kept) (events : List PlainEvent) (sound : IsSound events) where
-  pub begins : (c : ℕ) → IsSome (find_event (any.Commit c) events) → HasCome kept events c [] c
-  begins c live = record { live = live; tree = sym (none (tree events c)); count = sym (zero-add (ops_to_fold kept events c)) }
+module _ (kept : Kept) (events : List PlainEvent) (once : AreDistinct events) where
+  pub begins : (c : ℕ) → IsSome (tree events c) → HasCome kept events c [] c
+  begins c has = record {
+    there = line_of_tree (line events c) (ap is_some (sym (tree_line events c)) ∙ has);
+    tree = sym (none (tree events c));
+    count = sym (zero-add (ops_to_fold kept events c));
+  }
     where
       none : (o : Option Tree) → folded [] o ≡ o
       none None = refl
       none (Some t) = refl
 
-  -- the event at which the walk is
-  event_of : (o : Option PlainEvent) → IsSome o → (e : PlainEvent) × (o ≡ Some e)
-  event_of None h = absurd (true≢false (sym h))
-  event_of (Some e) h = (e, refl)
-
   module _ (c at : ℕ) (walk : List ℕ) (come : HasCome kept events c walk at) where
     abbrev event : PlainEvent
-    event = (event_of (find_event (any.Commit at) events) come.live).0
+    event = (event_of events at come.there).0
 
     found : find_event (any.Commit at) events ≡ Some event
-    found = (event_of (find_event (any.Commit at) events) come.live).1
+    found = (event_of events at come.there).1
 
     own_ops : ops_at events at ≡ event_ops event
     own_ops = ap (λ o. option_map_or event_ops o []) found
 
     own_line : line events at ≡ with_commit at (event_ops event) (line_before (line events) (event_parents event))
-    own_line = line_step events sound at event found
+    own_line = line_step events once at event found come.there
 
     there : IsSome (with_commit at (event_ops event) (line_before (line events) (event_parents event)))
-    there = ap is_some (sym own_line) ∙ has_line events sound at event found
+    there = ap is_some (sym own_line) ∙ come.there
 
     own_tree : tree events at ≡ folded (ops_at events at) (tree_along (line_before (line events) (event_parents event)))
     own_tree =
@@ -147,7 +132,7 @@ module _ (kept : Kept) (events : List PlainEvent) (sound : IsSound events) where
     goes_on longer p is h parent =
         let first = parent_is (event_parents event) p (sym (ap (λ o. option_and_then first_parent o) found) ∙ sym parent) in
         let both = further longer is (line events p) (ap (line_before (line events)) first) h in record {
-          live = parent_live events sound at event found p (drop 1 (event_parents event)) first;
+          there = subst (λ (ps : List ℕ). IsSome (line_before (line events) ps)) first (before_there (line_before (line events) (event_parents event)) at (event_ops event) there);
           tree = both.0 ∙ ap (folded (ops_back events longer)) (sym (tree_line events p));
           count = both.1;
         }

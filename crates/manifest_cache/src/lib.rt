@@ -5,6 +5,7 @@
 mod equal_ops;
 mod folding;
 mod following;
+mod listed;
 mod manifests;
 mod using;
 mod walk;

@@ -8,8 +8,9 @@ ghost use Rattle.plain_model.specs.Trees.{Tree};
 ghost use Rattle.plain_model.specs.declared.id.AnyId.TheVariants.{Commit};
 ghost use Rattle.manifest_cache.specs.Kept.{AgreesWith, is_kept, ops_to_fold, used};
 
-use crate::folding::folded;
-use crate::walk::{Trees, walk_back};
+use crate::folding::tree_of;
+use crate::listed::Listed;
+use crate::walk::Trees;
 use event_arena::Events;
 use path_tree::PathTree;
 use plain_model::{CommitId, NoMemory, Steps};
@@ -35,8 +36,9 @@ pub fn keep<L>(
         kept.promote(&commit.number());
         return Ok(());
     }
-    let (walk, base) = walk_back(alloc, kept, events, commit)?;
-    let tree = folded(events, walk.as_slice(), base, steps)?;
+    // Its contract says that the history is sound.
+    let _ = events.count();
+    let tree = tree_of(alloc, kept, &Listed::History(events), commit, steps)?;
     kept.put(commit.number(), tree)?;
     Ok(())
 }

@@ -1,11 +1,11 @@
 //! From a commit back along first parents to one whose tree is kept, or to the root.
 ghost use Rattle.std.specs.Prelude.{◌≡◌, IfOk, IsSome};
-ghost use Rattle.plain_model.specs.Lookups.{find_event};
-ghost use Rattle.plain_model.specs.declared.id.AnyId.TheVariants.{Commit};
+ghost use Rattle.plain_model.specs.Histories.{tree};
 ghost use Rattle.manifest_cache.specs.Kept.{AgreesWith};
+ghost use Rattle.manifest_cache.specs.Listed.{events_of};
 ghost use Rattle.manifest_cache.specs.Walks.{Leads, event_ops, first_parent, ops_at, parent_at};
 
-use event_arena::Events;
+use crate::listed::Listed;
 use lru::LruCache;
 use path_tree::PathTree;
 use plain_model::{AnyId, CommitId, FileOp, Items, NoMemory, ParentList, PlainEvent};
@@ -34,20 +34,20 @@ pub fn event_ops(event: &PlainEvent) -> &[FileOp]
     }
 }
 
-fn parent_at(events: &Events, commit: CommitId) -> Option<CommitId>
-    ensures { result ≡ parent_at events.now.list commit }
+fn parent_at(listed: &Listed, commit: CommitId) -> Option<CommitId>
+    ensures { result ≡ parent_at (events_of listed.now) commit }
 {
-    match events.event(AnyId::Commit(commit)) {
+    match listed.event(AnyId::Commit(commit)) {
         Some(event) => first_parent(event),
         None => None,
     }
 }
 
 /// The operations of a commit.
-pub fn ops_at(events: &Events, commit: CommitId) -> &[FileOp]
-    ensures { result.now ≡ ops_at events.now.list commit }
+pub fn ops_at<'a>(listed: &'a Listed, commit: CommitId) -> &'a [FileOp]
+    ensures { result.now ≡ ops_at (events_of listed.now) commit }
 {
-    match events.event(AnyId::Commit(commit)) {
+    match listed.event(AnyId::Commit(commit)) {
         Some(event) => event_ops(event),
         None => &[],
     }
@@ -58,15 +58,16 @@ pub fn ops_at(events: &Events, commit: CommitId) -> &[FileOp]
 pub fn walk_back(
     alloc: Global,
     kept: &Trees,
-    events: &Events,
+    listed: &Listed,
     commit: CommitId,
 ) -> Result<(ParentList, PathTree), NoMemory>
-    requires agrees { AgreesWith events.now.list kept.now.entries }
-    requires live { IsSome (find_event (Commit commit) events.now.list) }
-    ensures { IfOk result (λ found. Leads kept.now.entries events.now.list commit found.0 found.1) }
+    requires agrees { AgreesWith (events_of listed.now) kept.now.entries }
+    requires there { IsSome (tree (events_of listed.now) commit) }
+    ensures { IfOk result
+        (λ found. Leads kept.now.entries (events_of listed.now) commit found.0 found.1) }
 {
-    // Its contract says that the history is sound.
-    let _ = events.count();
+    // Its contract says that no event is there twice.
+    let _ = listed.count();
     let mut walk: ParentList = Items::empty(alloc);
     let mut at = commit;
     loop {
@@ -74,7 +75,7 @@ pub fn walk_back(
             return Ok((walk, tree.share()?));
         }
         walk.push(at)?;
-        match parent_at(events, at) {
+        match parent_at(listed, at) {
             Some(parent) => at = parent,
             None => return Ok((walk, PathTree::new(alloc)?)),
         }

@@ -3,13 +3,14 @@ use Rattle.std.specs.Prelude.{IsSome, is_some}
 use Rattle.plain_model.specs.declared.operation.FileOp.{FileOp}
 use Rattle.plain_model.specs.Histories.{folded}
 use Rattle.history_laws.proofs.LineLaws.{folded_more}
+use Rattle.manifest_cache.specs.Listed.{events_of}
 use Rattle.manifest_cache.specs.Walks.{ops_at, ops_back}
 use Rattle.manifest_cache.proofs.Walking.{front_applies, part_left}
 use Rattle.manifest_cache.proofs.folding.folded.Goals as goal
 
 pub apply_all-requires : goal.apply_all-requires
 apply_all-requires g c =
-    let events = c.args.events.now.list in
+    let events = (events_of c.args.listed.now) in
     let walk = c.args.walk.now in
     let at = c.index-walk-walk.result in
     let part = part_left events walk c.loop-after.after at c.loop-after-test.true c.index-walk-walk.is in
@@ -20,7 +21,7 @@ apply_all-requires g c =
 
 pub returns-in_err-apply_all-clause-counted : goal.returns-in_err-apply_all-clause-counted
 returns-in_err-apply_all-clause-counted g c =
-    let events = c.args.events.now.list in
+    let events = (events_of c.args.listed.now) in
     let walk = c.args.walk.now in
     let at = c.index-walk-walk.result in
     let part = part_left events walk c.loop-after.after at c.loop-after-test.true c.index-walk-walk.is in
@@ -33,7 +34,7 @@ returns-in_err-apply_all-clause-counted g c =
 
 pub loop-after-preserved : goal.loop-after-preserved
 loop-after-preserved g c =
-    let events = c.args.events.now.list in
+    let events = (events_of c.args.listed.now) in
     let walk = c.args.walk.now in
     let at = c.index-walk-walk.result in
     let part = part_left events walk c.loop-after.after at c.loop-after-test.true c.index-walk-walk.is in

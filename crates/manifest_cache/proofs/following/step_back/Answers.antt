@@ -1,6 +1,7 @@
 use Rattle.std.proofs.Common.{◌∙◌, sym}
 use Rattle.std.proofs.lemmas.Bool.{true≢false}
-use Rattle.manifest_cache.proofs.SameLines.{absent, goes_on, later_parent, no_root, not_there, now_root, other_ops, other_parent, same_root, was_there}
+use Rattle.manifest_cache.proofs.SameLines.{goes_on, later_parent, no_root, not_there, now_root, other_ops, other_parent, same_root, was_there}
+use Rattle.manifest_cache.proofs.Steps.{absent}
 use Rattle.manifest_cache.proofs.following.step_back.Goals as goal
 
 pub returns-in_default : goal.returns-in_default
