@@ -1,5 +1,5 @@
 -- What is kept where a tree is used.
-use Rattle.std.proofs.Common.{◌≡◌, ℕ, zero, suc, true, false, inl, inr, List, [], ◌∷◌, take, Option, Some, None, refl, sym, ap, ◌∙◌, nat_eq, eqb-true, eq-eqb}
+use Rattle.std.proofs.Common.{◌≡◌, ℕ, ◌-◌, zero, suc, true, false, inl, inr, List, [], ◌∷◌, take, Option, Some, None, refl, sym, ap, ◌∙◌, nat_eq, eqb-true, eq-eqb}
 use Rattle.std.specs.Map.{lookup, lookup_entry, remove_entry}
 use Rattle.std.specs.Option.{option_map_or}
 use Rattle.std.proofs.lemmas.Bool.{cases_Bool, true≢false}
@@ -88,6 +88,17 @@ agrees_used events kept c t h is = elim (cases_Bool (is_kept kept c)) [
   | inl it ↦ rw it (is, agrees_without events kept c h)
   | inr no_it ↦ rw no_it (is, agrees_take events 63 kept h)
 ]
+
+-- a tree that is put agrees where it is that of its commit
+pub agrees_put : (events : List PlainEvent) (cache : LruCache ℕ Tree) (c : ℕ) (t : Tree) → AgreesWith events cache.entries → tree events c ≡ Some t → AgreesWith events (put_entries nat_eq cache c t)
+agrees_put events cache c t h is = elim (cases_Bool (is_kept cache.entries c)) [
+  | inl it ↦ go (lookup_entry (nat_eq c) cache.entries) (has_entry events cache.entries c h it)
+  | inr no_it ↦ rw (no_entry cache.entries c no_it) (is, agrees_take events (cache.cap - 1) cache.entries h)
+]
+  where
+    go : (o : Option (ℕ × Tree)) → HasEntry events c o → AgreesWith events (option_map_or (λ e. (e.0, t) ∷ remove_entry (nat_eq c) cache.entries) o ((c, t) ∷ take (cache.cap - 1) cache.entries))
+    go None own = absurd own
+    go (Some k) own = (ap (tree events) own.0 ∙ is, agrees_without events cache.entries c h)
 
 -- the tree that was used is found
 pub lookup_used : (kept : Kept) (c : ℕ) (t : Tree) → lookup (nat_eq c) (used c t kept) ≡ Some t

@@ -1,7 +1,9 @@
+mod Checked
 mod KeptTrees
 mod LastUsed
 mod Lines
 mod SameLines
+mod Prefixes
 mod Sifting
 mod Sound
 mod Steps

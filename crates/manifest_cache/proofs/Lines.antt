@@ -1,5 +1,5 @@
 -- A commit's tree is its line folded, and its line is that of its first parent with the commit after it.
-use Rattle.std.proofs.Common.{◌≡◌, ℕ, false, List, [], ◌∷◌, ◌++◌, Option, Some, None, refl, sym, ap, subst, ◌∙◌, inl, inr, append_assoc, append-nil, reverse, eq-eqb, ◌+◌, suc, arith, length-append}
+use Rattle.std.proofs.Common.{◌≡◌, ℕ, false, List, [], ◌∷◌, ◌++◌, Option, Some, None, refl, sym, ap, subst, ◌∙◌, inl, inr, append_assoc, append-nil, reverse, eq-eqb, suc, arith, length-append}
 use Rattle.std.specs.Prelude.{◌==◌, ◌||◌, IsSome, option_and_then, option_map}
 use Rattle.std.proofs.lemmas.Bool.{cases_Bool, or_parts, true≢false}
 use Rattle.std.proofs.lemmas.List.{reverse-append}
@@ -80,10 +80,10 @@ skip : (a b : Past) (c : ℕ) → knows a c ≡ false → line_in (a ++ b) c ≡
 skip [] b c h = refl
 skip (n ∷ a) b c h = let parts = or_parts (n.id == c) (knows a c) h in rw parts.0 (skip a b c parts.1)
 
-past-append : (xs ys : List PlainEvent) → past (xs ++ ys) ≡ past ys ++ past xs
+pub past-append : (xs ys : List PlainEvent) → past (xs ++ ys) ≡ past ys ++ past xs
 past-append xs ys = ap reverse (nodes_append xs ys) ∙ reverse-append (nodes xs) (nodes ys)
 
-unknown : (ys : List PlainEvent) (c : ℕ) → find_event (any.Commit c) ys ≡ None → knows (past ys) c ≡ false
+pub unknown : (ys : List PlainEvent) (c : ℕ) → find_event (any.Commit c) ys ≡ None → knows (past ys) c ≡ false
 unknown [] c h = refl
 unknown (Blob id mark bytes ∷ ys) c h = unknown ys c h
 unknown (Tag id name target tagger comment mark ∷ ys) c h = unknown ys c h

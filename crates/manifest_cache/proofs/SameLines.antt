@@ -1,24 +1,19 @@
 -- When a commit's line is the same in two lists, told by one step back along first parents.
-use Rattle.std.proofs.Common.{◌≡◌, ℕ, suc, ◌<◌, ◌≤◌, true, false, ◌⊎◌, inl, inr, List, [], ◌∷◌, ◌++◌, length, Option, Some, None, refl, sym, ap, subst, ◌∙◌, arith, nat_lt, eqb-true}
-use Rattle.std.specs.Prelude.{◌==◌, ◌↔◌, IsSome, is_some, option_map}
+use Rattle.std.proofs.Common.{◌≡◌, ℕ, suc, ◌<◌, true, false, ◌⊎◌, inl, inr, List, [], ◌∷◌, ◌++◌, Option, Some, None, refl, sym, ap, ◌∙◌, arith, eqb-true}
+use Rattle.std.specs.Prelude.{◌==◌, ◌↔◌, IsSome, is_some}
 use Rattle.std.proofs.lemmas.Bool.{cases_Bool, true≢false}
-use Rattle.std.proofs.lemmas.Bool.Decides.{nat_tests}
 use Rattle.std.proofs.lemmas.Option.{none-some, same_Some}
 use Rattle.lru.proofs.Splits.{nil_ne_cut}
-use Rattle.plain_model.specs.declared.id.AnyId.{AnyId}
 use Rattle.plain_model.specs.declared.id.AnyId.TheVariants as any
 use Rattle.plain_model.specs.declared.operation.FileOp.{FileOp}
 use Rattle.plain_model.specs.declared.event.PlainEvent.{PlainEvent}
 use Rattle.plain_model.specs.Histories.{Past, past}
-use Rattle.plain_model.specs.Lookups.{event_parents, find_event, id_of, place_of, same_id}
+use Rattle.plain_model.specs.Lookups.{find_event}
 use Rattle.event_arena.specs.Once.{AreDistinct}
-use Rattle.event_arena.proofs.OnceLemmas.{distinct-absent}
-use Rattle.event_arena.proofs.SpentLemmas.{absent-cons, find-id}
-use Rattle.history_laws.proofs.Ids.{same_id-refl}
-use Rattle.manifest_cache.specs.Following.{HasSameLine, is_before, is_earlier}
+use Rattle.manifest_cache.specs.Following.{HasSameLine, is_earlier}
 use Rattle.manifest_cache.specs.Lines.{Line, line, line_before, line_in, size}
 use Rattle.manifest_cache.specs.Walks.{event_ops, first_parent}
-use Rattle.manifest_cache.proofs.Lines.{size_more, after_found, found_split, line_front, line_here, not_again, with_commit}
+use Rattle.manifest_cache.proofs.Lines.{size_more, with_commit}
 use Rattle.manifest_cache.proofs.Steps.{absent, front, front_earlier, front_later, front_line, step_parent, step_root}
 
 -- ---- lines with a commit at their end

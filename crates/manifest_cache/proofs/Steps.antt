@@ -1,22 +1,19 @@
 -- The line of a commit in a list in which no event is twice, one step back.
-use Rattle.std.proofs.Common.{◌≡◌, ℕ, suc, ◌<◌, ◌≤◌, true, false, ◌⊎◌, inl, inr, List, [], ◌∷◌, ◌++◌, length, Option, Some, None, refl, sym, ap, subst, ◌∙◌, arith, nat_lt, eqb-true, drop}
-use Rattle.std.specs.Prelude.{◌==◌, IsSome, is_some, option_map, slice_get}
+use Rattle.std.proofs.Common.{◌≡◌, ℕ, suc, ◌<◌, ◌≤◌, true, false, inl, inr, List, [], ◌∷◌, ◌++◌, length, Option, Some, None, refl, sym, ap, subst, ◌∙◌, arith, nat_lt, drop}
+use Rattle.std.specs.Prelude.{IsSome, is_some, option_map, slice_get}
 use Rattle.std.proofs.lemmas.Bool.{cases_Bool, true≢false}
 use Rattle.std.proofs.lemmas.Bool.Decides.{nat_tests}
 use Rattle.std.proofs.lemmas.Option.{none-some, same_Some}
-use Rattle.lru.proofs.Splits.{nil_ne_cut}
 use Rattle.plain_model.specs.declared.id.AnyId.{AnyId}
 use Rattle.plain_model.specs.declared.id.AnyId.TheVariants as any
-use Rattle.plain_model.specs.declared.operation.FileOp.{FileOp}
 use Rattle.plain_model.specs.declared.event.PlainEvent.{PlainEvent}
-use Rattle.plain_model.specs.Histories.{Past, past}
 use Rattle.plain_model.specs.Lookups.{event_parents, find_event, id_of, place_of, same_id}
 use Rattle.event_arena.specs.Once.{AreDistinct}
 use Rattle.event_arena.proofs.OnceLemmas.{distinct-absent}
 use Rattle.event_arena.proofs.SpentLemmas.{absent-cons, find-id}
 use Rattle.history_laws.proofs.Ids.{same_id-refl}
-use Rattle.manifest_cache.specs.Following.{HasSameLine, is_before, is_earlier}
-use Rattle.manifest_cache.specs.Lines.{Line, line, line_before, line_in, size}
+use Rattle.manifest_cache.specs.Following.{is_before, is_earlier}
+use Rattle.manifest_cache.specs.Lines.{line, line_before}
 use Rattle.manifest_cache.specs.Walks.{event_ops, first_parent}
 use Rattle.manifest_cache.proofs.Lines.{after_found, before_there, found_split, line_front, line_here, not_again, with_commit}
 
@@ -53,7 +50,7 @@ place_front (x ∷ xs) zs id h = elim (cases_Bool (same_id id (id_of x))) [
       (suc r.0, rw (no_it, r.1) refl, omega (arith, less))
 ]
 
-place_back : (xs zs : List PlainEvent) (id : AnyId) (j : ℕ) → find_event id xs ≡ None → place_of id (xs ++ zs) ≡ Some j → length xs ≤ j
+pub place_back : (xs zs : List PlainEvent) (id : AnyId) (j : ℕ) → find_event id xs ≡ None → place_of id (xs ++ zs) ≡ Some j → length xs ≤ j
 place_back [] zs id j h at = omega arith
 place_back (x ∷ xs) zs id j h at =
     let rest = absent-cons id x xs h in
@@ -152,4 +149,3 @@ module _ (events : List PlainEvent) (once : AreDistinct events) (c : ℕ) (e : P
         go : (o : Option PlainEvent) → find_event (any.Commit p) front ≡ o → line front p ≡ None
         go None none = absent front p none
         go (Some x) some = absurd (true≢false (sym (earlier_is (Some x) some) ∙ h))
-

@@ -1,5 +1,5 @@
 -- A walk along first parents, from a commit back to one whose tree is kept or to the root. (own)
-use Rattle.std.specs.Prelude.{◌≡◌, ℕ, List, [], ◌∷◌, ◌++◌, Option, Some, IsSome, length, option_and_then, slice_get}
+use Rattle.std.specs.Prelude.{◌≡◌, ℕ, List, [], ◌∷◌, ◌++◌, Option, Some, None, IsSome, length, option_and_then, slice_get}
 use Rattle.std.specs.Option.{option_map_or}
 use Rattle.plain_model.specs.declared.id.AnyId.TheVariants as any
 use Rattle.plain_model.specs.declared.operation.FileOp.{FileOp}
@@ -9,6 +9,14 @@ use Rattle.plain_model.specs.Histories.{folded, tree}
 use Rattle.plain_model.specs.Lookups.{event_parents, find_event}
 use Rattle.plain_model.specs.Trees.{Tree}
 use Rattle.manifest_cache.specs.Kept.{Kept, ops_to_fold}
+
+-- the id of an event, if it is a commit
+abbrev pub commit_id : PlainEvent → Option ℕ
+commit_id (Commit id mark branch author committer encoding comment parents ops aliases) = Some id
+commit_id (Blob id mark bytes) = None
+commit_id (Tag id name target tagger comment mark) = None
+commit_id (Reset id branch target) = None
+commit_id (Pass id line) = None
 
 -- the operations of an event, if it is a commit
 abbrev pub event_ops : PlainEvent → List FileOp

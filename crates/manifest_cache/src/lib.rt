@@ -2,6 +2,8 @@
 //! commit), `manifests` (the trees that are kept).
 #![tactic(auto)]
 
+mod changes;
+mod checking;
 mod equal_ops;
 mod folding;
 mod following;

@@ -1,20 +1,24 @@
 //! The trees that are kept.
-ghost use Rattle.std.specs.Prelude.{◌≡◌, ◌+◌, ◌≤◌, [], Some, length, IfOk, IsSome, nat_eq};
+ghost use Rattle.std.specs.Prelude.{◌≡◌, ◌+◌, ◌≤◌, ℕ, [], Some, length, IfOk, IsSome, OnOk, nat_eq};
 ghost use Rattle.std.specs.List.{IsDistinct};
 ghost use Rattle.std.specs.Map.{keys_of};
-ghost use Rattle.plain_model.specs.Histories.{tree};
+ghost use Rattle.plain_model.specs.Faults.{Returns};
+ghost use Rattle.plain_model.specs.Histories.{IsLinkedPast, past, tree};
 ghost use Rattle.plain_model.specs.Lookups.{find_event};
+ghost use Rattle.plain_model.specs.Soundness.{IsCommitOf, IsSound};
 ghost use Rattle.plain_model.specs.declared.id.AnyId.TheVariants.{Commit};
+ghost use Rattle.manifest_cache.specs.Checking.{tree_check};
 ghost use Rattle.manifest_cache.specs.Following.{Follows};
 ghost use Rattle.manifest_cache.specs.Kept.{AgreesWith, is_kept, ops_to_fold};
 
+use crate::checking::check;
 use crate::following::follow;
 use crate::using::{keep, kept_tree};
 use crate::walk::Trees;
 use event_arena::{Events, Plan};
 use lru::LruCache;
 use path_tree::PathTree;
-use plain_model::{CommitId, MAX_KEPT_TREES, NoMemory, Steps};
+use plain_model::{CommitId, Halt, MAX_KEPT_TREES, NoMemory, Steps};
 use std::alloc::Global;
 use std::marker::Model;
 use std::num::NonZeroUsize;
@@ -29,6 +33,7 @@ pub struct Manifests {
 
 impl Model for Manifests {
     ghost use Rattle.std.specs.Prelude.{◌≡◌};
+    ghost use Rattle.manifest_cache.specs.Checking.{tree_check};
     ghost use Rattle.manifest_cache.specs.Following.{Follows};
     ghost use Rattle.manifest_cache.specs.Kept.{Kept};
 
@@ -84,6 +89,21 @@ impl Manifests {
     {
         keep(self.alloc, &mut self.trees, events, id, steps)?;
         Ok(kept_tree(&self.trees, id))
+    }
+
+    /// The tree check on the list after a plan: whether each commit has a tree there. A fault is that of the first commit, in the
+    /// order of the list, that has a refused operation, and of its first such operation: `MissingSource`, or `Limit` with `Paths`
+    /// or `PathBytes`. Only the events from the first on that the plan changes are looked at. It leaves what is kept.
+    pub fn check(&mut self, plan: &Plan) -> Result<(), Halt>
+        requires sound { IsSound plan.now.before }
+        requires agrees { AgreesWith plan.now.before self.old }
+        requires earlier { IsLinkedPast (past plan.now.after) }
+        ensures checked { Returns (λ done. done) result (tree_check plan.now.after) }
+        ensures trees { OnOk result
+            ((c : ℕ) → IsCommitOf plan.now.after c → IsSome (tree plan.now.after c)) }
+        ensures same { self.new ≡ self.old }
+    {
+        check(self.alloc, &self.trees, plan)
     }
 
     /// Keeps the trees of the commits whose line of first parents has the same commits with the same operations after the plan as

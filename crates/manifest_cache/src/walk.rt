@@ -3,7 +3,7 @@ ghost use Rattle.std.specs.Prelude.{◌≡◌, IfOk, IsSome};
 ghost use Rattle.plain_model.specs.Histories.{tree};
 ghost use Rattle.manifest_cache.specs.Kept.{AgreesWith};
 ghost use Rattle.manifest_cache.specs.Listed.{events_of};
-ghost use Rattle.manifest_cache.specs.Walks.{Leads, event_ops, first_parent, ops_at, parent_at};
+ghost use Rattle.manifest_cache.specs.Walks.{Leads, commit_id, event_ops, first_parent, ops_at, parent_at};
 
 use crate::listed::Listed;
 use lru::LruCache;
@@ -13,6 +13,16 @@ use std::alloc::Global;
 
 /// Kept trees, by the numbers of their commits' ids.
 pub type Trees = LruCache<u64, PathTree>;
+
+/// The id of an event that is a commit.
+pub fn commit_id(event: &PlainEvent) -> Option<CommitId>
+    ensures { result ≡ commit_id event.now }
+{
+    match event {
+        PlainEvent::Commit { id, .. } => Some(*id),
+        _ => None,
+    }
+}
 
 /// The first parent of an event that is a commit and has parents.
 pub fn first_parent(event: &PlainEvent) -> Option<CommitId>

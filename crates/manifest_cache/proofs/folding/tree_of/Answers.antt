@@ -1,4 +1,4 @@
-use Rattle.std.proofs.Common.{◌≡◌, ◌∙◌, ◌≤◌, ◌+◌, List, ℕ, length, sym, ap, Some, arith}
+use Rattle.std.proofs.Common.{◌∙◌, List, ℕ, sym, ap, Some}
 use Rattle.std.specs.Prelude.{is_some}
 use Rattle.plain_model.specs.Histories.{folded}
 use Rattle.manifest_cache.specs.Listed.{events_of}
