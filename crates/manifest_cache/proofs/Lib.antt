@@ -7,4 +7,5 @@ mod Prefixes
 mod Sifting
 mod Sound
 mod Steps
+mod UsedTrees
 mod Walking
