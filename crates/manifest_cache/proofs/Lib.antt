@@ -1,4 +1,6 @@
 mod Checked
+mod ExampleLines
+mod Examples
 mod KeptTrees
 mod LastUsed
 mod Lines

@@ -1,5 +1,5 @@
 -- What is kept where a tree was used: its own, none that is new, and all but one of the others.
-use Rattle.std.proofs.Common.{◌≡◌, ℕ, ◌-◌, ◌≤◌, ◌<◌, Bool, true, false, cond, ◌⊎◌, inl, inr, List, [], ◌∷◌, ◌++◌, length, take, drop, Contains, refl, sym, ap, subst, ◌∙◌, nat_eq, eqb-true, arith, length-drop}
+use Rattle.std.proofs.Common.{◌≡◌, ℕ, ◌≤◌, ◌<◌, Bool, true, false, cond, ◌⊎◌, inl, inr, [], ◌∷◌, length, take, drop, Contains, refl, sym, ap, subst, ◌∙◌, nat_eq, eqb-true, arith, length-drop}
 use Rattle.std.specs.Map.{remove_entry}
 use Rattle.std.proofs.lemmas.List.{take-append-drop, take_all}
 use Rattle.std.proofs.lemmas.List.Elements.{Contains-append_cases}

@@ -1,4 +1,5 @@
 pub mod Checking
+pub mod Examples
 pub mod Following
 pub mod Kept
 pub mod Lending

@@ -15,3 +15,6 @@ mod walk;
 
 pub use laws::a_used_tree_is_kept;
 pub use manifests::Manifests;
+
+#[cfg(test)]
+mod tests;
