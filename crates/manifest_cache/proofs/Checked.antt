@@ -1,10 +1,11 @@
 -- The tree check, event by event.
 use Rattle.std.proofs.Common.{◌≡◌, ℕ, zero, suc, ◌+◌, ◌<◌, ◌≤◌, ◌⊎◌, inl, inr, List, [], ◌∷◌, ◌++◌, length, take, drop, Option, Some, None, Result, Ok, Err, refl, sym, ap, subst, ◌∙◌, arith, add-one, append_assoc}
-use Rattle.std.specs.Prelude.{IfSome, IsSome, IsTrue, is_some, option_and_then, option_map, slice_get}
+use Rattle.std.specs.Prelude.{◌↔◌, IfSome, IsSome, IsTrue, is_some, option_and_then, option_map, slice_get}
 use Rattle.std.specs.List.{AllByRecursion}
 use Rattle.std.specs.Option.{option_or}
 use Rattle.std.proofs.lemmas.Bool.{cases_Bool, true≢false}
 use Rattle.std.proofs.lemmas.List.{take-append-drop, take_all}
+use Rattle.std.proofs.lemmas.Option.{none-some}
 use Rattle.plain_model.specs.declared.id.AnyId.{AnyId}
 use Rattle.plain_model.specs.declared.id.AnyId.TheVariants as any
 use Rattle.plain_model.specs.declared.fault.Fault.{Fault}
@@ -36,9 +37,20 @@ pub none_refused : (n : ℕ) (ops : List FileOp) (t : Tree) → IsSome (folded o
 none_refused n [] t h = refl
 none_refused n (op ∷ ops) t h = go (apply op t) refl (λ m u. none_refused m ops u)
   where
-    go : (r : Result Tree Refusal) → apply op t ≡ r → ((m : ℕ) (u : Tree) → IsSome (folded ops (Some u)) → first_refused m ops u ≡ None) → unless_refused n (first_refused (n + 1) ops) (apply op t) ≡ None
+    go : (r : Result Tree Refusal) → apply op t ≡ r → ((m : ℕ) (u : Tree) → IsSome (folded ops (Some u)) → first_refused m ops u ≡ None)
+        → unless_refused n (first_refused (n + 1) ops) (apply op t) ≡ None
     go (Ok u) is later = rw is (later (n + 1) u (rw is at h))
     go (Err why) is later = absurd (true≢false (sym (rw is at h)))
+
+-- where none is refused, all are applied
+all_applied : (n : ℕ) (ops : List FileOp) (t : Tree) → first_refused n ops t ≡ None → IsSome (folded ops (Some t))
+all_applied n [] t h = refl
+all_applied n (op ∷ ops) t h = go (apply op t) refl (λ m u. all_applied m ops u)
+  where
+    go : (r : Result Tree Refusal) → apply op t ≡ r → ((m : ℕ) (u : Tree) → first_refused m ops u ≡ None → IsSome (folded ops (Some u)))
+        → IsSome (folded (op ∷ ops) (Some t))
+    go (Ok u) is later = rw is (later (n + 1) u (rw is at h))
+    go (Err why) is later = absurd (none-some (n, why) (sym (rw is at h)))
 
 -- ---- faults of lists
 
@@ -46,7 +58,8 @@ pub fault-append : (events xs ys : List PlainEvent) → first_fault events (xs +
 fault-append events [] ys = refl
 fault-append events (x ∷ xs) ys = ap (option_or (event_fault events x)) (fault-append events xs ys) ∙ go (event_fault events x)
   where
-    go : (o : Option Fault) → option_or o (option_or (first_fault events xs) (first_fault events ys)) ≡ option_or (option_or o (first_fault events xs)) (first_fault events ys)
+    go : (o : Option Fault)
+        → option_or o (option_or (first_fault events xs) (first_fault events ys)) ≡ option_or (option_or o (first_fault events xs)) (first_fault events ys)
     go None = refl
     go (Some f) = refl
 
@@ -91,7 +104,8 @@ known_found xs p h = go (find_event (any.Commit p) xs) refl
     go None none = absurd (true≢false (sym h ∙ unknown xs p none))
     go (Some e) some = refl
 
-parents_found : (xs ys : List PlainEvent) (e : PlainEvent) → IsLinkedPast (past (xs ++ e ∷ ys)) → AllByRecursion (λ p. IsSome (find_event (any.Commit p) xs)) (event_parents e)
+parents_found : (xs ys : List PlainEvent) (e : PlainEvent) → IsLinkedPast (past (xs ++ e ∷ ys))
+    → AllByRecursion (λ p. IsSome (find_event (any.Commit p) xs)) (event_parents e)
 parents_found xs ys (Blob id mark bytes) h = tt
 parents_found xs ys (Tag id name target tagger comment mark) h = tt
 parents_found xs ys (Reset id branch target) h = tt
@@ -156,14 +170,17 @@ module _ (after : List PlainEvent) (once : AreDistinct after) (linked : IsLinked
         go (p ∷ ps) = refl
 
     -- what its operations make is its tree
-    pub made_here : (o : Option ℕ) (t u : Tree) (c : ℕ) → o ≡ first_parent e → begun_of (tree after) o ≡ Some t → folded (event_ops e) (Some t) ≡ Some u → any.Commit c ≡ id_of e → tree after c ≡ Some u
+    pub made_here : (o : Option ℕ) (t u : Tree) (c : ℕ) → o ≡ first_parent e → begun_of (tree after) o ≡ Some t
+        → folded (event_ops e) (Some t) ≡ Some u → any.Commit c ≡ id_of e → tree after c ≡ Some u
     made_here o t u c is made applied own = tree_here c own ∙ ap (folded (event_ops e)) (begun_is o t is made) ∙ applied
 
     -- what is refused is its fault
-    pub fault_here : (o : Option ℕ) (t : Tree) (f : Fault) (mark : ℕ) → o ≡ first_parent e → begun_of (tree after) o ≡ Some t → IsMarked mark e → option_map (fault_of mark) (first_refused 1 (event_ops e) t) ≡ Some f → event_fault after e ≡ Some f
+    pub fault_here : (o : Option ℕ) (t : Tree) (f : Fault) (mark : ℕ) → o ≡ first_parent e → begun_of (tree after) o ≡ Some t → IsMarked mark e
+        → option_map (fault_of mark) (first_refused 1 (event_ops e) t) ≡ Some f → event_fault after e ≡ Some f
     fault_here o t f mark is made marked refused = go e marked (begun_is o t is made) refused
       where
-        go : (e : PlainEvent) → IsMarked mark e → begun (tree after) (event_parents e) ≡ Some t → option_map (fault_of mark) (first_refused 1 (event_ops e) t) ≡ Some f → event_fault after e ≡ Some f
+        go : (e : PlainEvent) → IsMarked mark e → begun (tree after) (event_parents e) ≡ Some t
+            → option_map (fault_of mark) (first_refused 1 (event_ops e) t) ≡ Some f → event_fault after e ≡ Some f
         go (Blob id m bytes) marked begins refused = absurd marked
         go (Tag id name target tagger comment m) marked begins refused = absurd marked
         go (Reset id branch target) marked begins refused = absurd marked
@@ -175,7 +192,8 @@ module _ (after : List PlainEvent) (once : AreDistinct after) (linked : IsLinked
     pub no_fault : ((c : ℕ) → any.Commit c ≡ id_of e → IsSome (tree after c)) → event_fault after e ≡ None
     no_fault has = go e (λ c own. sym (ap is_some (tree_here c own)) ∙ has c own)
       where
-        go : (e : PlainEvent) → ((c : ℕ) → any.Commit c ≡ id_of e → IsSome (folded (event_ops e) (begun (tree after) (event_parents e)))) → event_fault after e ≡ None
+        go : (e : PlainEvent) → ((c : ℕ) → any.Commit c ≡ id_of e → IsSome (folded (event_ops e) (begun (tree after) (event_parents e))))
+            → event_fault after e ≡ None
         go (Blob id mark bytes) h = refl
         go (Tag id name target tagger comment mark) h = refl
         go (Reset id branch target) h = refl
@@ -185,6 +203,30 @@ module _ (after : List PlainEvent) (once : AreDistinct after) (linked : IsLinked
             begins : (o : Option Tree) → IsSome (folded ops o) → option_and_then (λ t. option_map (fault_of mark) (first_refused 1 ops t)) o ≡ None
             begins None h = refl
             begins (Some t) h = ap (option_map (fault_of mark)) (none_refused 1 ops t h)
+
+    -- where it has no fault, it has a tree
+    pub has_tree : HaveTrees after xs → event_fault after e ≡ None → (c : ℕ) → any.Commit c ≡ id_of e → IsSome (tree after c)
+    has_tree have none c own = ap is_some (tree_here c own) ∙ go e (begins (event_parents e) found) none c own
+      where
+        begins : (ps : List ℕ) → AllByRecursion (λ p. IsSome (find_event (any.Commit p) xs)) ps → IsSome (begun (tree after) ps)
+        begins [] h = refl
+        begins (p ∷ ps) h = have p h.0
+
+        go : (e : PlainEvent) → IsSome (begun (tree after) (event_parents e)) → event_fault after e ≡ None → (c : ℕ) → any.Commit c ≡ id_of e
+            → IsSome (folded (event_ops e) (begun (tree after) (event_parents e)))
+        go (Blob id mark bytes) h none c own = cc
+        go (Tag id name target tagger comment mark) h none c own = cc
+        go (Reset id branch target) h none c own = cc
+        go (Pass id line) h none c own = cc
+        go (Commit id mark branch author committer encoding comment parents ops aliases) h none c own = applied (begun (tree after) parents) h none
+          where
+            no_map : (o : Option (ℕ × Refusal)) → option_map (fault_of mark) o ≡ None → o ≡ None
+            no_map None h = refl
+            no_map (Some r) h = absurd (none-some (fault_of mark r) (sym h))
+
+            applied : (o : Option Tree) → IsSome o → option_and_then (λ t. option_map (fault_of mark) (first_refused 1 ops t)) o ≡ None → IsSome (folded ops o)
+            applied None h none = absurd (true≢false (sym h))
+            applied (Some t) h none = all_applied 1 ops t (no_map (first_refused 1 ops t) none)
 
     -- one commit more has a tree
     pub one_more : HaveTrees after xs → ((c : ℕ) → any.Commit c ≡ id_of e → IsSome (tree after c)) → HaveTrees after (take (k + 1) after)
@@ -215,7 +257,8 @@ module _ (after : List PlainEvent) (once : AreDistinct after) (linked : IsLinked
       last_found xs e id own = subst (λ i. IsSome (find_event i (xs ++ e ∷ []))) (sym own) (sym (has_id-find (xs ++ e ∷ []) (id_of e)) ∙ has_own xs [] e)
 
   -- the first fault is that of an event after such ones
-  pub first_is : (k : ℕ) (e : PlainEvent) (f : Fault) → slice_get after k ≡ Some e → k < length after → HaveTrees after (take k after) → event_fault after e ≡ Some f → first_fault after after ≡ Some f
+  pub first_is : (k : ℕ) (e : PlainEvent) (f : Fault) → slice_get after k ≡ Some e → k < length after → HaveTrees after (take k after)
+      → event_fault after e ≡ Some f → first_fault after after ≡ Some f
   first_is k e f at within have fault =
       ap (first_fault after) (is k e at)
       ∙ fault-append after (take k after) (e ∷ drop (suc k) after)
@@ -236,3 +279,35 @@ module _ (after : List PlainEvent) (once : AreDistinct after) (linked : IsLinked
       → (h : Halt) → Applies mark (event_ops e) t (Err h) u → Checks after k (Err h)
   refused_checks k e at within have o t u mark first made marked (halt.Refused f) refused = first_is k e f at within have (fault_here k e at o t f mark first made marked refused)
   refused_checks k e at within have o t u mark first made marked halt.Memory refused = tt
+
+  -- where events in front have no fault, their commits have trees
+  have_front : (k : ℕ) → k ≤ length after → first_fault after (take k after) ≡ None → HaveTrees after (take k after)
+  have_front zero within none = λ c h. absurd (true≢false (sym h))
+  have_front (suc k) within none =
+      let e = some_at after k (omega (arith, within)) in
+      let more = take-item after k e.0 e.1 in
+      let both = neither (first_fault after (take k after)) (event_fault after e.0) (sym (fault-append after (take k after) (e.0 ∷ [])) ∙ sym (ap (first_fault after) more) ∙ none) in
+      let earlier = have_front k (omega (arith, within)) both.0 in
+      λ c h. elim (found_last (take k after) e.0 (any.Commit c) (subst (λ (es : List PlainEvent). IsSome (find_event (any.Commit c) es)) more h)) [
+        | inl front ↦ earlier c front
+        | inr own ↦ has_tree k e.0 e.1 earlier both.1 c own
+      ]
+    where
+      neither : (o p : Option Fault) → option_or o (option_or p None) ≡ None → (o ≡ None) × (p ≡ None)
+      neither None None h = (refl, refl)
+      neither None (Some f) h = absurd (none-some f (sym h))
+      neither (Some f) p h = absurd (none-some f (sym h))
+
+  whole : take (length after) after ≡ after
+  whole = take_all (length after) after (omega arith)
+
+  -- the check answers Ok exactly where each commit has a tree
+  pub check_finds : HaveTrees after after ↔ (tree_check after ≡ Ok tt)
+  check_finds = (
+    λ have. (all_checked (length after) (omega arith) (subst (HaveTrees after) (sym whole) have)).1,
+    λ ok. subst (HaveTrees after) whole (have_front (length after) (omega arith) (ap (first_fault after) whole ∙ no_fault_of (first_fault after after) ok)),
+  )
+    where
+      no_fault_of : (o : Option Fault) → unless o ≡ Ok tt → o ≡ None
+      no_fault_of None h = refl
+      no_fault_of (Some f) h = cc

@@ -22,7 +22,8 @@ use Rattle.history_laws.proofs.Lists.{all_join}
 use Rattle.manifest_cache.specs.Examples.{link, parents_at}
 use Rattle.manifest_cache.proofs.Examples.{who_formed}
 
-sound-append : (earlier xs : List PlainEvent) (e : PlainEvent) → AreSoundAfter earlier xs → IsSoundEvent (earlier ++ xs) e → AreSoundAfter earlier (xs ++ e ∷ [])
+sound-append : (earlier xs : List PlainEvent) (e : PlainEvent) → AreSoundAfter earlier xs → IsSoundEvent (earlier ++ xs) e
+    → AreSoundAfter earlier (xs ++ e ∷ [])
 sound-append earlier [] e h s = (subst (λ es. IsSoundEvent es e) (append-nil earlier) s, tt)
 sound-append earlier (x ∷ xs) e h s = (h.0, sound-append (earlier ++ x ∷ []) xs e h.1 (subst (λ es. IsSoundEvent es e) (sym (append_assoc earlier (x ∷ []) xs)) s))
 

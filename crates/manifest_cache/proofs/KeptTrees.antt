@@ -49,7 +49,8 @@ promoted_is events kept c agrees h = go (lookup_entry (nat_eq c) kept) (has_entr
     go None no_entry = absurd no_entry
     go (Some k) own = (k.1, own.1, rw h (ap (λ d. (d, k.1) ∷ remove_entry (nat_eq c) kept) own.0))
 
-pub promoted_cache : (events : List PlainEvent) (cache : LruCache ℕ Tree) (n c : ℕ) → cache.cap ≡ 64 → n ≡ c → AgreesWith events cache.entries → is_kept cache.entries n ≡ true
+pub promoted_cache : (events : List PlainEvent) (cache : LruCache ℕ Tree) (n c : ℕ) → cache.cap ≡ 64 → n ≡ c → AgreesWith events cache.entries
+    → is_kept cache.entries n ≡ true
     → (t : Tree) × (tree events c ≡ Some t) × (lru_cache (promoted (nat_eq n) cache.entries) cache.cap ≡ lru_cache (used c t cache.entries) 64)
 promoted_cache events cache n c cap same agrees h =
     let made = promoted_is events cache.entries n agrees h in (
@@ -83,20 +84,23 @@ agrees_take events zero kept h = tt
 agrees_take events (suc n) [] h = tt
 agrees_take events (suc n) (k ∷ kept) h = (h.0, agrees_take events n kept h.1)
 
-pub agrees_used : (events : List PlainEvent) (kept : Kept) (c : ℕ) (t : Tree) → AgreesWith events kept → tree events c ≡ Some t → AgreesWith events (used c t kept)
+pub agrees_used : (events : List PlainEvent) (kept : Kept) (c : ℕ) (t : Tree) → AgreesWith events kept → tree events c ≡ Some t
+    → AgreesWith events (used c t kept)
 agrees_used events kept c t h is = elim (cases_Bool (is_kept kept c)) [
   | inl it ↦ rw it (is, agrees_without events kept c h)
   | inr no_it ↦ rw no_it (is, agrees_take events 63 kept h)
 ]
 
 -- a tree that is put agrees where it is that of its commit
-pub agrees_put : (events : List PlainEvent) (cache : LruCache ℕ Tree) (c : ℕ) (t : Tree) → AgreesWith events cache.entries → tree events c ≡ Some t → AgreesWith events (put_entries nat_eq cache c t)
+pub agrees_put : (events : List PlainEvent) (cache : LruCache ℕ Tree) (c : ℕ) (t : Tree) → AgreesWith events cache.entries → tree events c ≡ Some t
+    → AgreesWith events (put_entries nat_eq cache c t)
 agrees_put events cache c t h is = elim (cases_Bool (is_kept cache.entries c)) [
   | inl it ↦ go (lookup_entry (nat_eq c) cache.entries) (has_entry events cache.entries c h it)
   | inr no_it ↦ rw (no_entry cache.entries c no_it) (is, agrees_take events (cache.cap - 1) cache.entries h)
 ]
   where
-    go : (o : Option (ℕ × Tree)) → HasEntry events c o → AgreesWith events (option_map_or (λ e. (e.0, t) ∷ remove_entry (nat_eq c) cache.entries) o ((c, t) ∷ take (cache.cap - 1) cache.entries))
+    go : (o : Option (ℕ × Tree)) → HasEntry events c o
+        → AgreesWith events (option_map_or (λ e. (e.0, t) ∷ remove_entry (nat_eq c) cache.entries) o ((c, t) ∷ take (cache.cap - 1) cache.entries))
     go None own = absurd own
     go (Some k) own = (ap (tree events) own.0 ∙ is, agrees_without events cache.entries c h)
 

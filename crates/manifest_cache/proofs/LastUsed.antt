@@ -10,15 +10,15 @@ use Rattle.lru.specs.LruCache.{last_entry, promoted}
 
 module _ {X : Type 0} where
   -- no key is that of another pair
-  abbrev Lacks : ℕ → List (ℕ × X) → Type 0
-  Lacks id [] = Unit {0}
-  Lacks id (e ∷ es) = (nat_eq id e.0 ≡ false) × Lacks id es
+  abbrev Misses : ℕ → List (ℕ × X) → Type 0
+  Misses id [] = Unit {0}
+  Misses id (e ∷ es) = (nat_eq id e.0 ≡ false) × Misses id es
 
-  lookup_last : (es : List (ℕ × X)) (e : ℕ × X) → Lacks e.0 es → lookup_entry (nat_eq e.0) (es ++ e ∷ []) ≡ Some e
+  lookup_last : (es : List (ℕ × X)) (e : ℕ × X) → Misses e.0 es → lookup_entry (nat_eq e.0) (es ++ e ∷ []) ≡ Some e
   lookup_last [] e h = rw (nat_eq_equiv.refl e.0) refl
   lookup_last (x ∷ es) e h = rw h.0 (lookup_last es e h.1)
 
-  remove_last : (es : List (ℕ × X)) (e : ℕ × X) → Lacks e.0 es → remove_entry (nat_eq e.0) (es ++ e ∷ []) ≡ es
+  remove_last : (es : List (ℕ × X)) (e : ℕ × X) → Misses e.0 es → remove_entry (nat_eq e.0) (es ++ e ∷ []) ≡ es
   remove_last [] e h = rw (nat_eq_equiv.refl e.0) refl
   remove_last (x ∷ es) e h = rw h.0 (ap (λ (xs : List (ℕ × X)). x ∷ xs) (remove_last es e h.1))
 
@@ -26,7 +26,7 @@ module _ {X : Type 0} where
   key_apart k [] e h = h.0
   key_apart k (f ∷ es) e h = key_apart k es e h.1
 
-  apart : (es : List (ℕ × X)) (e : ℕ × X) → IsDistinct nat_eq (keys_of (es ++ e ∷ [])) → Lacks e.0 es
+  apart : (es : List (ℕ × X)) (e : ℕ × X) → IsDistinct nat_eq (keys_of (es ++ e ∷ [])) → Misses e.0 es
   unfolding IsDistinct
   apart [] e h = tt
   apart (x ∷ es) e h = (nat_eq_equiv.symm e.0 x.0 ∙ key_apart x.0 es e h.0, apart es e h.1)
@@ -45,8 +45,8 @@ module _ {X : Type 0} where
     -- it goes first
     pub promoted_last : IsDistinct nat_eq (keys_of all) → promoted (nat_eq e.0) all ≡ e ∷ es
     promoted_last once =
-        let lacks = apart es e (rw is at once) in
-        ap (promoted (nat_eq e.0)) is ∙ rw (lookup_last es e lacks, remove_last es e lacks) refl
+        let misses = apart es e (rw is at once) in
+        ap (promoted (nat_eq e.0)) is ∙ rw (lookup_last es e misses, remove_last es e misses) refl
 
     -- it goes away
     pub rest_is : take (length all - 1) all ≡ es

@@ -51,7 +51,8 @@ pub before_there : (o : Option Line) (c : ℕ) (ops : List FileOp) → IsSome (w
 before_there None c ops h = absurd (true≢false (sym h))
 before_there (Some l) c ops h = refl
 
-begun_along : (older : Past) → ((p : ℕ) → tree_in older p ≡ tree_along (line_in older p)) → (ps : List ℕ) → begun (tree_in older) ps ≡ tree_along (line_before (line_in older) ps)
+begun_along : (older : Past) → ((p : ℕ) → tree_in older p ≡ tree_along (line_in older p)) → (ps : List ℕ)
+    → begun (tree_in older) ps ≡ tree_along (line_before (line_in older) ps)
 begun_along older h [] = refl
 begun_along older h (p ∷ ps) = h p
 
@@ -121,7 +122,8 @@ line_here xs ys (Commit id mark branch author committer encoding comment parents
 -- ---- an event among others
 
 -- what is found has events before and after it
-pub found_split : (id : AnyId) (es : List PlainEvent) (e : PlainEvent) → find_event id es ≡ Some e → (xs : List PlainEvent) × (ys : List PlainEvent) × (es ≡ xs ++ e ∷ ys)
+pub found_split : (id : AnyId) (es : List PlainEvent) (e : PlainEvent) → find_event id es ≡ Some e
+    → (xs : List PlainEvent) × (ys : List PlainEvent) × (es ≡ xs ++ e ∷ ys)
 found_split id [] e h = absurd (none-some e h)
 found_split id (x ∷ es) e h = elim (cases_Bool (same_id id (id_of x))) [
   | inl it ↦ ([], es, ap (λ (z : PlainEvent). z ∷ es) (same_Some x e (rw it at h)))

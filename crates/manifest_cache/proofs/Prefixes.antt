@@ -43,7 +43,8 @@ line_trim (n ∷ older) c = elim (cases_Bool (n.id == c)) [
   | inr other ↦ rw other (line_trim older c)
 ]
   where
-    go : (ps : List ℕ) → ((p : ℕ) → line_in older p ≡ line_by (map trim older) p) → line_before (line_in older) ps ≡ by_parent (line_by (map trim older)) (slice_get ps 0)
+    go : (ps : List ℕ) → ((p : ℕ) → line_in older p ≡ line_by (map trim older) p)
+        → line_before (line_in older) ps ≡ by_parent (line_by (map trim older)) (slice_get ps 0)
     go [] h = refl
     go (p ∷ ps) h = h p
 

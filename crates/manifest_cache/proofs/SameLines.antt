@@ -1,4 +1,4 @@
--- When a commit's line is the same in two lists, told by one step back along first parents.
+-- When a commit's line is the same in two lists, known from one step back along first parents.
 use Rattle.std.proofs.Common.{◌≡◌, ℕ, suc, ◌<◌, true, false, ◌⊎◌, inl, inr, List, [], ◌∷◌, ◌++◌, Option, Some, None, refl, sym, ap, ◌∙◌, arith, eqb-true}
 use Rattle.std.specs.Prelude.{◌==◌, ◌↔◌, IsSome, is_some}
 use Rattle.std.proofs.lemmas.Bool.{cases_Bool, true≢false}
@@ -29,7 +29,8 @@ snoc (a ∷ l) (b ∷ m) x y h =
     ((λ i. head i ∷ rest.0 i), rest.1)
 
 -- the same line ends with the same commit, the same operations and the same line before them
-ends_alike : (c d : ℕ) (ops others : List FileOp) (o p : Option Line) → with_commit c ops o ≡ with_commit d others p → IsSome (with_commit c ops o) → (c ≡ d) × (ops ≡ others) × (o ≡ p)
+ends_alike : (c d : ℕ) (ops others : List FileOp) (o p : Option Line) → with_commit c ops o ≡ with_commit d others p → IsSome (with_commit c ops o)
+    → (c ≡ d) × (ops ≡ others) × (o ≡ p)
 ends_alike c d ops others None p h there = absurd (true≢false (sym there))
 ends_alike c d ops others (Some l) None h there = absurd (none-some (l ++ (c, ops) ∷ []) (sym h))
 ends_alike c d ops others (Some l) (Some m) h there =

@@ -129,7 +129,8 @@ module _ (events : List PlainEvent) (once : AreDistinct events) (c : ℕ) (e : P
         below : (j k : ℕ) → j < k → nat_lt j k ≡ true
         below j k less = grind (arith, nat_tests)
 
-        go : (o : Option PlainEvent) → find_event (any.Commit p) front ≡ o → is_before (place_of (any.Commit p) (front ++ e ∷ rest)) (Some (length front)) ≡ is_some o
+        go : (o : Option PlainEvent) → find_event (any.Commit p) front ≡ o
+            → is_before (place_of (any.Commit p) (front ++ e ∷ rest)) (Some (length front)) ≡ is_some o
         go None none = later (place_of (any.Commit p) (front ++ e ∷ rest)) (λ j at. place_back front (e ∷ rest) (any.Commit p) j none at)
         go (Some x) some =
             let place = place_front front (e ∷ rest) (any.Commit p) (ap is_some some) in

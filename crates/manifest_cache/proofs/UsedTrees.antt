@@ -25,7 +25,8 @@ module _ (c : ℕ) (t : Tree) (kept : Kept) where
   others_stay [] k h = absurd (Contains-nil k h)
   others_stay (e ∷ es) k h = go (nat_eq c e.0) refl (λ later. others_stay es k later)
     where
-      go : (b : Bool) → nat_eq c e.0 ≡ b → (Contains es k → (k.0 ≡ c) ⊎ Contains (remove_entry (nat_eq c) es) k) → (k.0 ≡ c) ⊎ Contains (cond b es (e ∷ remove_entry (nat_eq c) es)) k
+      go : (b : Bool) → nat_eq c e.0 ≡ b → (Contains es k → (k.0 ≡ c) ⊎ Contains (remove_entry (nat_eq c) es) k)
+          → (k.0 ≡ c) ⊎ Contains (cond b es (e ∷ remove_entry (nat_eq c) es)) k
       go true it rest = elim (Contains-cons e es k h) [ inl own ↦ inl (sym (ap (λ (x : ℕ × Tree). x.0) own) ∙ sym (eqb-true c e.0 it)) | inr later ↦ inr later ]
       go false it rest = elim (Contains-cons e es k h) [
         | inl own ↦ inr (subst (Contains (e ∷ remove_entry (nat_eq c) es)) own (Contains-head e (remove_entry (nat_eq c) es)))

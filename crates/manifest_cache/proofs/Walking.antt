@@ -34,7 +34,8 @@ after_own kept (d ∷ l) c ops h = rw (some l, or-true (is_kept kept d.0)) (afte
     some (x ∷ l) = ap (λ b. is_kept kept x.0 || b) (some l) ∙ or-true (is_kept kept x.0)
 
 -- one that isn't kept is one more
-after_more : (kept : Kept) (l : Line) (c : ℕ) (ops : List FileOp) → is_kept kept c ≡ false → after_kept kept (l ++ (c, ops) ∷ []) ≡ after_kept kept l ++ (c, ops) ∷ []
+after_more : (kept : Kept) (l : Line) (c : ℕ) (ops : List FileOp) → is_kept kept c ≡ false
+    → after_kept kept (l ++ (c, ops) ∷ []) ≡ after_kept kept l ++ (c, ops) ∷ []
 after_more kept [] c ops h = rw h refl
 after_more kept (d ∷ l) c ops h =
     let later = after_more kept l c ops h in
@@ -51,7 +52,8 @@ count_own : (kept : Kept) (o : Option Line) (c : ℕ) (ops : List FileOp) → is
 count_own kept None c ops h = refl
 count_own kept (Some l) c ops h = ap (λ (m : Line). length (ops_of m)) (after_own kept l c ops h)
 
-count_more : (kept : Kept) (o : Option Line) (c : ℕ) (ops : List FileOp) → is_kept kept c ≡ false → IsSome (with_commit c ops o) → count kept (with_commit c ops o) ≡ count kept o + length ops
+count_more : (kept : Kept) (o : Option Line) (c : ℕ) (ops : List FileOp) → is_kept kept c ≡ false → IsSome (with_commit c ops o)
+    → count kept (with_commit c ops o) ≡ count kept o + length ops
 count_more kept None c ops h there = absurd (true≢false (sym there))
 count_more kept (Some l) c ops h there =
     ap (λ (m : Line). length (ops_of m)) (after_more kept l c ops h)
@@ -144,7 +146,8 @@ module _ (kept : Kept) (events : List PlainEvent) (once : AreDistinct events) wh
         omega (arith, more)
 
     -- it ends at the root
-    pub ends_at_root : IsSome (tree events c) → (longer : List ℕ) (t : Tree) → t ≡ [] → longer ≡ walk ++ at ∷ [] → is_kept kept at ≡ false → None ≡ parent_at events at → Leads kept events c longer t
+    pub ends_at_root : IsSome (tree events c) → (longer : List ℕ) (t : Tree) → t ≡ [] → longer ≡ walk ++ at ∷ [] → is_kept kept at ≡ false
+        → None ≡ parent_at events at → Leads kept events c longer t
     ends_at_root has longer t empty is h parent =
         let none = no_parents (event_parents event) (sym (ap (λ o. option_and_then first_parent o) found) ∙ sym parent) in
         let both = further longer is (Some []) (ap (line_before (line events)) none) h in record {

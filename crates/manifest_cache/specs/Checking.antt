@@ -1,5 +1,6 @@
 -- The tree check: the first operation that a tree refuses, in the order of the commits and of their operations. (own)
-use Rattle.std.specs.Prelude.{◌≡◌, ℕ, ◌+◌, List, [], ◌∷◌, Option, Some, None, Result, Ok, Err, IsSome, flat_map, option_and_then, option_map, option_to_list, take}
+use Rattle.std.specs.Prelude.{◌≡◌, ℕ, ◌+◌, List, [], ◌∷◌, Option, Some, None, Result, Ok, Err, IsSome, flat_map}
+use Rattle.std.specs.Prelude.{option_and_then, option_map, option_to_list, take}
 use Rattle.std.specs.Option.{option_or}
 use Rattle.plain_model.specs.declared.id.AnyId.TheVariants as any
 use Rattle.plain_model.specs.declared.event.PlainEvent.{PlainEvent}
@@ -54,7 +55,7 @@ unless (Some f) = Err f
 abbrev pub tree_check : List PlainEvent → Result (Unit {0}) Fault
 tree_check events = unless (first_fault events events)
 
--- ---- what the check stands on
+-- ---- what the check rests on
 
 -- each of these commits has a tree among the events
 abbrev pub HaveTrees : List PlainEvent → List PlainEvent → Type 0

@@ -1,5 +1,6 @@
-//! The trees of commits, at most 64 of which are kept. Read in this order: `listed`, `walk`, `folding`, `using` (the tree of one
-//! commit), `equal_ops`, `following` (what stays after a plan), `changes`, `checking` (the tree check), `manifests`, `laws`.
+//! The trees of commits, at most 64 of which are kept. Read in this order: `listed`, `walk`, `folding`, `using` (the
+//! tree of one commit), `equal_ops`, `following` (what stays after a plan), `changes`, `checking` (the tree check),
+//! `manifests`, `laws`.
 #![tactic(auto)]
 
 mod changes;
@@ -13,7 +14,7 @@ mod manifests;
 mod using;
 mod walk;
 
-pub use laws::a_used_tree_is_kept;
+pub use laws::{a_used_tree_is_kept, the_check_finds_what_has_no_tree};
 pub use manifests::Manifests;
 
 #[cfg(test)]

@@ -1,5 +1,5 @@
 //! The lists of events whose commits are walked.
-ghost use Rattle.std.specs.Prelude.{◌≡◌, option_map};
+ghost use Rattle.std.specs.Prelude.{◌≡◌, length, option_map};
 ghost use Rattle.event_arena.specs.Once.{AreDistinct};
 ghost use Rattle.plain_model.specs.Lookups.{find_event};
 ghost use Rattle.manifest_cache.specs.Listed.{events_of};
@@ -29,7 +29,8 @@ impl Listed<'_> {
 
     /// How many events there are. None is there twice.
     pub fn count(&self) -> usize
-        ensures { AreDistinct (events_of self.now) }
+        ensures count { result ≡ length (events_of self.now) }
+        ensures once { AreDistinct (events_of self.now) }
     {
         match self {
             Listed::History(events) => events.count(),

@@ -23,8 +23,8 @@ use std::alloc::Global;
 use std::marker::Model;
 use std::num::NonZeroUsize;
 
-/// Trees of commits of a history, the last used ones: 64 at most. Contracts see a list of commits with their trees, the last
-/// used first. (own)
+/// Trees of commits of a history, the last used ones: 64 at most. Contracts see a list of commits with their trees,
+/// the last used first. (own)
 #[derive(Drop)]
 pub struct Manifests {
     alloc: Global,
@@ -73,8 +73,8 @@ impl Manifests {
         self.trees.contains(&id.number())
     }
 
-    /// The tree of a commit, which is kept from then on. It is folded from the nearest kept tree on the commit's line of first
-    /// parents, and each operation that is applied counts as a step.
+    /// The tree of a commit, which is kept from then on. It is folded from the nearest kept tree on the commit's line
+    /// of first parents, and each operation that is applied counts as a step. (git-fast-import, `from`.)
     pub fn get<L>(
         &mut self,
         events: &Events,
@@ -91,9 +91,10 @@ impl Manifests {
         Ok(kept_tree(&self.trees, id))
     }
 
-    /// The tree check on the list after a plan: whether each commit has a tree there. A fault is that of the first commit, in the
-    /// order of the list, that has a refused operation, and of its first such operation: `MissingSource`, or `Limit` with `Paths`
-    /// or `PathBytes`. Only the events from the first on that the plan changes are looked at. It leaves what is kept.
+    /// The tree check on the list after a plan: whether each commit has a tree there. A fault is that of the first
+    /// commit, in the order of the list, that has a refused operation, and of its first such operation:
+    /// `MissingSource`, or `Limit` with `Paths` or `PathBytes`. Only the events from the first on that the plan changes
+    /// are looked at. It leaves what is kept. (own)
     pub fn check(&mut self, plan: &Plan) -> Result<(), Halt>
         requires sound { IsSound plan.now.before }
         requires agrees { AgreesWith plan.now.before self.old }
@@ -106,8 +107,8 @@ impl Manifests {
         check(self.alloc, &self.trees, plan)
     }
 
-    /// Keeps the trees of the commits whose line of first parents has the same commits with the same operations after the plan as
-    /// before it, and no others. It takes no memory.
+    /// Keeps the trees of the commits whose line of first parents has the same commits with the same operations after
+    /// the plan as before it, and no others. It takes no memory. (own)
     pub fn follow(&mut self, plan: &Plan)
         requires { AgreesWith plan.now.before self.old }
         ensures { Follows plan.now.before plan.now.after self.old self.new }

@@ -319,7 +319,7 @@ fn checked(alloc: Global, source: &[u8]) -> Result<Text, Fail> {
 }
 
 #[test]
-fn the_first_refused_operation_is_told(rt: HostRuntime) -> Result<(), Fail> {
+fn the_first_refused_operation_is_reported(rt: HostRuntime) -> Result<(), Fail> {
     let rows: [(&str, &[u8], &[u8]); 2] = [
         ("the source is there", b"g", b"ok  4 "),
         ("it was deleted", b"h", b"54 MissingSource mark=:6 op=2 4 "),

@@ -63,8 +63,8 @@ pub fn ops_at<'a>(listed: &'a Listed, commit: CommitId) -> &'a [FileOp]
     }
 }
 
-/// The commits to be folded for the tree of a commit, the newest first, and the tree on which the oldest hangs: the kept one
-/// that is nearest on the line of first parents, or the empty one under the root.
+/// The commits to be folded for the tree of a commit, the newest first, and the tree on which the oldest hangs: the
+/// kept one that is nearest on the line of first parents, or the empty one under the root.
 pub fn walk_back(
     alloc: Global,
     kept: &Trees,

@@ -15,7 +15,7 @@ returns g c =
     let ok = c.in_ok-keep.ensures.ok in
     let t : Tree = ok.0 in
     let ends = ap (λ (k : LruCache ℕ Tree). k.entries) ok.2 ∙ ap (used id t) c.self.view_is in
-    let found = sym (lookup_used old id t) ∙ ap (lookup (nat_eq id)) (sym ends) ∙ c.kept_tree.ensures in
+    let found : Some t ≡ Some c.kept_tree.result.now = sym (lookup_used old id t) ∙ ap (lookup (nat_eq id)) (sym ends) ∙ c.kept_tree.ensures in
     let same : t ≡ c.kept_tree.result.now = same_Some t c.kept_tree.result.now found in (
       (
         refl,
