@@ -7,16 +7,12 @@ use Rattle.std.proofs.lemmas.Bool.Decides.{nat_tests}
 use Rattle.std.proofs.lemmas.Fmt.{decimal_by_steps_wide}
 use Rattle.std.proofs.lemmas.List.Folds.{list_all-append}
 use Rattle.plain_model.specs.Paths.{Bytes}
-use Rattle.plain_model.specs.Numbers.{IsNumeral, decimal_of, digits_within, is_digit, value_after}
+use Rattle.plain_model.specs.Numbers.{IsNumeral, decimal_of, digits_within, is_digit}
+use Rattle.plain_model.proofs.Numbers.{value_push}
 
 -- 48 and a number below 10 is a digit
 pub digit : (d : ℕ) → d < 10 → is_digit (48 + d) ≡ true
 digit d h = and_from (nat_le 48 (48 + d)) (nat_le (48 + d) 57) (le-leb 48 (48 + d) (omega arith)) (le-leb (48 + d) 57 (omega arith))
-
--- the value with one more digit
-pub value_push : (a : ℕ) (ds : Bytes) (d : ℕ) → value_after a (ds ++ d ∷ []) ≡ 10 * value_after a ds + (d - 48)
-value_push a [] d = refl
-value_push a (x ∷ xs) d = value_push (10 * a + (x - 48)) xs d
 
 -- a number below 10 has one digit
 one_digit : (most n : ℕ) → n < 10 → digits_within (suc most) n ≡ (48 + n) ∷ []

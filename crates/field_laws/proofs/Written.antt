@@ -14,8 +14,8 @@ use Rattle.plain_model.specs.Numbers.{IsNumeral, is_digit}
 use Rattle.plain_model.specs.People.{is_clean, IsNamePart, IsZone, IsSigned}
 use Rattle.plain_model.specs.Parts.{has_no_lf, IsLine, begins}
 use Rattle.plain_model.specs.Text.{line, zone, person, begins_quoted, quoted, last_path}
-use Rattle.field_laws.proofs.Decimals.{digit, value_push}
-use Rattle.plain_model.proofs.Numbers.{eqb_turned}
+use Rattle.plain_model.proofs.Numbers.{value_push, eqb_turned}
+use Rattle.field_laws.proofs.Decimals.{digit}
 use Rattle.field_laws.proofs.Persons.{all_pass}
 
 -- ---- numbers

@@ -9,6 +9,7 @@ use Rattle.plain_model.specs.declared.fault.Why.TheVariants.{LeftOut}
 use Rattle.plain_model.specs.declared.event.PlainEvent.{PlainEvent}
 use Rattle.plain_model.specs.declared.event.PlainEvent.TheVariants as plain
 use Rattle.plain_model.specs.Paths.{Bytes}
+use Rattle.plain_model.proofs.Words.{begins_rest}
 use Rattle.plain_model.specs.Soundness.{is_passed_line}
 use Rattle.plain_model.specs.Parts.{begins, has_no_lf}
 use Rattle.field_laws.proofs.FieldSteps.{ok_then}
@@ -23,15 +24,6 @@ use Rattle.stream_grammar.specs.Lines.{gone_on, is_left_out_feature, passed, is_
 use Rattle.round_trip_laws.proofs.Points.{Point, point, Leads}
 use Rattle.round_trip_laws.proofs.WrittenLines.{is_between, finishes}
 
--- what begins with a word is that word and a rest
-begins_is : (w text : Bytes) → begins w text ≡ true → (rest : Bytes) × (text ≡ w ++ rest)
-begins_is [] text h = (text, refl)
-begins_is (c ∷ w) [] h = absurd cc
-begins_is (c ∷ w) (b ∷ text) h =
-    let parts = and_parts (c == b) (begins w text) h in
-    let more = begins_is w text parts.1 in
-    (more.0, λ i. sym (eqb-true c b parts.0) i ∷ more.1 i)
-
 none_left : (rest : Bytes) → length rest ≡ 0 → rest ≡ []
 none_left [] h = refl
 none_left (b ∷ rest) h = absurd (omega (arith, h))
@@ -39,7 +31,7 @@ none_left (b ∷ rest) h = absurd (omega (arith, h))
 -- a word alone, by its length
 whole_word : (w text : Bytes) (n : ℕ) → length w ≡ n → begins w text ≡ true → (length text == n) ≡ true → text ≡ w
 whole_word w text n e h k =
-    let is = begins_is w text h in
+    let is = begins_rest w text h in
     let size = eqb-true (length text) n k in
     is.1 ∙ ap (λ (l : Bytes). w ++ l) (none_left is.0 (omega (arith, e, size, ap length is.1, length-append w is.0))) ∙ append-nil w
 
@@ -113,12 +105,12 @@ module _ (d : Expected) (between : is_between d ≡ true) (wants : Bool) (events
           let parts = and_parts (begins (codes "checkpoint") text) (length text == 10) x in
           subst PassLeads (sym (whole_word (codes "checkpoint") text 10 refl parts.0 parts.1)) (word.Pass, line_passes (codes "checkpoint") refl refl refl refl refl)
       go plain false x true y c z f w k =
-          let is = begins_is (codes "progress ") text y in
+          let is = begins_rest (codes "progress ") text y in
           subst PassLeads (sym is.1) (word.Pass, line_passes (codes "progress " ++ is.0) (sym (ap has_no_lf is.1) ∙ plain) refl refl refl refl)
       go plain false x false y true z f w k =
-          let is = begins_is (codes "option ") text z in
+          let is = begins_rest (codes "option ") text z in
           subst PassLeads (sym is.1) (word.Pass, line_passes (codes "option " ++ is.0) (sym (ap has_no_lf is.1) ∙ plain) refl refl refl refl)
       go plain false x false y false z true w k =
-          let is = begins_is (codes "feature ") text w in
+          let is = begins_rest (codes "feature ") text w in
           subst PassLeads (sym is.1) (feature_passes is.0 (sym (ap has_no_lf is.1) ∙ plain) (sym (ap is_left_out_feature is.1) ∙ is_kept text k))
       go plain false x false y false z false w k = absurd cc

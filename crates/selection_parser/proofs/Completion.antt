@@ -1,9 +1,9 @@
 -- What a reader has read can be completed to a selection.
-use Rattle.std.proofs.Common.{◌≡◌, ℕ, suc, ◌==◌, ◌||◌, Bool, true, false, cond, List, [], ◌∷◌, ◌++◌, Option, Some, None, refl, sym, ◌∙◌, ap, subst, inl}
+use Rattle.std.proofs.Common.{◌≡◌, ℕ, suc, ◌||◌, Bool, true, false, cond, List, [], ◌∷◌, ◌++◌, Option, Some, None, refl, sym, ◌∙◌, ap, subst, inl}
 use Rattle.std.proofs.Common.{inr, append_assoc, append-nil}
 use Rattle.std.specs.Prelude.{codes, ◌⊎◌}
 use Rattle.std.specs.List.{list_any}
-use Rattle.std.proofs.lemmas.Bool.{eqb-true, and_parts}
+use Rattle.plain_model.proofs.Words.{begins_rest}
 use Rattle.plain_model.specs.Paths.{Bytes, is_empty}
 use Rattle.plain_model.specs.Parts.{begins}
 use Rattle.selection_parser.specs.declared.function.Function.{Function}
@@ -113,14 +113,6 @@ path_finishes [] =
 path_finishes (c ∷ cs) = (93 ∷ [], place.AfterPath (c ∷ cs), _, (place.AfterPath (c ∷ cs), refl, refl), refl)
 
 -- ---- a function's name
-
-begins_rest : (word text : Bytes) → begins word text ≡ true → (rest : Bytes) × (text ≡ word ++ rest)
-begins_rest [] text h = (text, refl)
-begins_rest (w ∷ word) [] h = absurd cc
-begins_rest (w ∷ word) (b ∷ text) h =
-    let p = and_parts (w == b) (begins word text) h in
-    let rest = begins_rest word text p.1 in
-    (rest.0, ap (λ c. c ∷ text) (sym (eqb-true w b p.0)) ∙ ap (λ t. w ∷ t) rest.1)
 
 either : (a b : Bool) → (a || b) ≡ true → (a ≡ true) ⊎ (b ≡ true)
 either true b h = inl refl

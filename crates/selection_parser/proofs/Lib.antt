@@ -1,5 +1,4 @@
 pub mod Backslashes
-pub mod Begins
 pub mod Closing
 pub mod Completion
 pub mod Frames

@@ -5,7 +5,8 @@ use Rattle.std.specs.Prelude.{not, nat_lt, codes}
 use Rattle.std.proofs.lemmas.Bool.{and_parts, eqb-true}
 use Rattle.std.proofs.lemmas.Bool.Decides.{nat_tests}
 use Rattle.std.proofs.lemmas.Grind.{common_steps}
-use Rattle.plain_model.specs.Numbers.{is_digit, value_after, IsNumeral}
+use Rattle.plain_model.specs.Numbers.{is_digit, IsNumeral}
+use Rattle.plain_model.proofs.Numbers.{value_push}
 use Rattle.plain_model.specs.Paths.{Bytes, is_empty}
 use Rattle.selection_parser.specs.declared.item.Item.{Item}
 use Rattle.selection_parser.specs.declared.item.Spot.{Spot}
@@ -24,15 +25,11 @@ use Rattle.selection_parser.proofs.PatternSteps.{chosen, was_placed, adds_push, 
 
 -- ---- spots
 
-value_after-push : (k : ℕ) (ds : Bytes) (b : ℕ) → value_after k (ds ++ b ∷ []) ≡ 10 * value_after k ds + (b - 48)
-value_after-push k [] b = refl
-value_after-push k (d ∷ ds) b = value_after-push (10 * k + (d - 48)) ds b
-
 numeral_push : (ds : Bytes) (n b : ℕ) → IsNumeral ds n → is_digit b ≡ true → IsNumeral (ds ++ b ∷ []) (10 * n + (b - 48))
 numeral_push ds n b h k = record {
   some = (let more = length-push ds b in omega arith);
   all = all_push is_digit ds b h.all k;
-  value = value_after-push 0 ds b ∙ ap (λ v. 10 * v + (b - 48)) h.value;
+  value = value_push 0 ds b ∙ ap (λ v. 10 * v + (b - 48)) h.value;
 }
   where
     length-push : (xs : Bytes) (c : ℕ) → 1 ≤ length (xs ++ c ∷ [])

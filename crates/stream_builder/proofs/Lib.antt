@@ -4,6 +4,5 @@ mod Pushed
 mod Kept
 mod Counting
 mod Built
-mod Fronts
 mod Limited
 mod FirstParents

@@ -1,0 +1,22 @@
+-- Texts that begin with a word.
+use Rattle.std.proofs.Common.{◌≡◌, true, [], ◌∷◌, ◌++◌, length, take, refl, sym, ap, nat_eq, eqb-true}
+use Rattle.std.specs.Prelude.{◌==◌, ◌&&◌}
+use Rattle.std.specs.Cmp.Lexicographic.{pointwise}
+use Rattle.std.proofs.lemmas.Bool.{and_parts}
+use Rattle.plain_model.specs.Parts.{begins}
+use Rattle.plain_model.specs.Paths.{Bytes}
+
+-- as `starts_with` of a slice has it
+pub pointwise_begins : (word text : Bytes) → pointwise nat_eq word (take (length word) text) ≡ begins word text
+pointwise_begins [] text = refl
+pointwise_begins (w ∷ word) [] = refl
+pointwise_begins (w ∷ word) (b ∷ text) = ap (λ t. (w == b) && t) (pointwise_begins word text)
+
+-- what begins with a word is that word and a rest
+pub begins_rest : (word text : Bytes) → begins word text ≡ true → (rest : Bytes) × (text ≡ word ++ rest)
+begins_rest [] text h = (text, refl)
+begins_rest (w ∷ word) [] h = absurd cc
+begins_rest (w ∷ word) (b ∷ text) h =
+    let parts = and_parts (w == b) (begins word text) h in
+    let more = begins_rest word text parts.1 in
+    (more.0, λ i. sym (eqb-true w b parts.0) i ∷ more.1 i)
