@@ -1,6 +1,6 @@
 -- A folder under a key is set in place.
 use Rattle.std.proofs.Common.{◌≡◌, ℕ, ◌+◌, Bool, true, false, List, [], ◌∷◌, ◌++◌, take, drop, refl, sym, ap, subst, ◌∙◌, Option, Some, None, is_some, true≢false, arith}
-use Rattle.std.specs.Prelude.{slice_index_or, slice_set, Result, Ok, Err, OnErr}
+use Rattle.std.specs.Prelude.{slice_index_or, slice_set}
 use Rattle.plain_model.specs.Paths.{Bytes}
 use Rattle.plain_model.specs.Trees.{TreeOf, Tree}
 use Rattle.path_tree.specs.declared.folder.Child.{Child}
@@ -33,10 +33,6 @@ filled_none (e ∷ t) h = absurd (true≢false (sym h))
 pub folder_fits : (key : Bytes) (m : Member) → Fits key m → is_folder_key key ≡ true → is_folder m ≡ true
 folder_fits key (file entry) f k = absurd (not_both key f k)
 folder_fits key (folder tree) f k = refl
-
-pub on_err : {V E : Type 0} {P : Type 0} (r : Result V E) → P → OnErr r P
-on_err (Ok v) h = tt
-on_err (Err e) h = h
 
 -- ---- the rows
 

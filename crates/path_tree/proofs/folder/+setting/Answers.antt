@@ -1,5 +1,6 @@
 use Rattle.std.proofs.Common.{◌≡◌, ◌<◌, length, refl, sym, ap, subst, ◌∙◌, List, Option, None, true, false, cond, option_map, arith}
 use Rattle.std.proofs.lemmas.List.{get_or-set_same}
+use Rattle.std.proofs.lemmas.Result.{MatchResult-from_err}
 use Rattle.std.specs.Prelude.{◌&&◌, MatchOption, slice_index_or, bytes_eq}
 use Rattle.plain_model.specs.Paths.{Bytes, is_empty}
 use Rattle.plain_model.specs.Trees.{Tree, TreeOf, at}
@@ -17,7 +18,7 @@ use Rattle.path_tree.proofs.Setting.{long_is_folder, slash_of_rest, name_is}
 use Rattle.path_tree.proofs.Searching.{absent_at}
 use Rattle.path_tree.proofs.Placing.{places_way, none_below}
 use Rattle.path_tree.proofs.Exchanges.{fits_index, index_alike, rows_removed_set}
-use Rattle.path_tree.proofs.Editing.{folder_fits, on_err, same_set, set_some, set_none, below_sound, below_places}
+use Rattle.path_tree.proofs.Editing.{folder_fits, same_set, set_some, set_none, below_sound, below_places}
 use Rattle.path_tree.proofs.folder.+setting.Goals as goal
 
 -- ---- a new folder
@@ -180,8 +181,8 @@ setting::set_child-returns-in_err-set_node-in-Ok-clause-unchanged t c =
     let new : Child = record { key = d.key; node = c.set_node.new.folder } in
     let found = subst (λ (l : List Child). IsFound c.args.key.now l i) c.as_slice.ensures.value c.in-Ok.ensures.found in
     let is_key : d.key.value.items ≡ c.args.key.now = ap (λ (x : Child). x.key.value.items) c.index_mut.ensures.value ∙ found.key_is d in
-    on_err c.from_residual.result
-    (same_set c.args.key.now cs i d new found is_key
+    MatchResult-from_err c.from_residual.result _ _ c.from_residual.ensures.0
+    (λ _. same_set c.args.key.now cs i d new found is_key
     (c.in_err-set_node-in-Ok.ensures.unchanged ∙ ap (λ (x : Child). member_of x.node) c.index_mut.ensures.value))
 
 pub setting::set_child-returns-in-Err-clause-set :

@@ -1,11 +1,12 @@
-use Rattle.surgeon_store.proofs.Written.{written, written_some, on_err, part_whole}
+use Rattle.std.proofs.lemmas.Result.{MatchResult-from_err}
+use Rattle.surgeon_store.proofs.Written.{written, written_some, part_whole}
 use Rattle.surgeon_store.proofs.whole_files.write_text.Goals as goal
 
 pub returns-in_err-written-clause-part : goal.returns-in_err-written-clause-part
 returns-in_err-written-clause-part g c =
     let state = g.S.Store.state in
     let wrote = c.write_begun-written.ensures in
-    on_err c.from_residual.result (rw c.finish_write-finished.ensures.files
+    MatchResult-from_err c.from_residual.result _ _ c.from_residual.ensures.0 (λ _. rw c.finish_write-finished.ensures.files
     (written_some (state c.args.store.now) (state c.begin_write.new.self) (state c.write_begun-written.new.store) c.args.name.now c.args.bytes.now c.in-Ok.ensures.begins wrote.writing wrote.beside wrote.part))
 
 pub returns-in-Ok-finished-clause-ok : goal.returns-in-Ok-finished-clause-ok
