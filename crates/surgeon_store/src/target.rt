@@ -122,7 +122,7 @@ fn place_of<R: Files>(alloc: Global, rt: &R, name: &str) -> Result<Option<Place>
         Ok(_) => Ok(None),
         Err(error) => match error.kind() {
             ErrorKind::OutOfMemory => Err(CreateFault::Memory),
-            // A link to nothing is there.
+            // Nothing is there, not even a link.
             ErrorKind::NotFound if rt.symlink_metadata(name).is_err() => {
                 let path = PathBuf::from_str(alloc, name)?;
                 Ok(Some(Place {
@@ -130,6 +130,7 @@ fn place_of<R: Files>(alloc: Global, rt: &R, name: &str) -> Result<Option<Place>
                     permissions: None,
                 }))
             }
+            // A link to nothing, and what can't be looked at, are written directly.
             _ => Ok(None),
         },
     }
