@@ -1,5 +1,5 @@
 -- How a machine goes over lines and blocks, whole or in parts.
-use Rattle.std.proofs.Common.{◌≡◌, ℕ, zero, suc, ◌+◌, ◌≤◌, Bool, true, false, cond, not, List, [], ◌∷◌, ◌++◌, length, Ok, refl, sym, ◌∙◌, ap, inl, inr, arith, append_assoc, append-nil, add-zero}
+use Rattle.std.proofs.Common.{◌≡◌, ℕ, zero, suc, ◌+◌, ◌-◌, ◌≤◌, Bool, true, false, cond, not, List, [], ◌∷◌, ◌++◌, length, Ok, refl, sym, ◌∙◌, ap, inl, inr, arith, append_assoc, append-nil, add-zero}
 use Rattle.std.specs.Prelude.{count_by, flat_map, fold}
 use Rattle.std.proofs.lemmas.Bool.{and_parts, not-true}
 use Rattle.plain_model.specs.Paths.{Bytes}
@@ -63,6 +63,19 @@ module _ {State Why : Type 0} (a : Automaton State Why) (j : ℕ → Bool) where
       ∙ ap (outcome_from a j (after_line n s line)) (sym e.1)
 
   -- ---- counted blocks
+
+  -- a part of a block
+  pub block_part : (k n from : ℕ) (bytes : Bytes) (s : State) (part : Bytes) → length part ≤ k
+      → run a j (At n (InBlock from k bytes) s) part ≡ At (n + count_by is_lf part) (InBlock from (k - length part) (bytes ++ part)) s
+  block_part k n from bytes s [] h =
+      let none : n ≡ n + count_by is_lf [] = omega arith in
+      let left : k ≡ k - length {A = ℕ} [] = omega arith in
+      (λ i. At (none i) (InBlock from (left i) (sym (append-nil bytes) i)) s)
+  block_part zero n from bytes s (b ∷ bs) h = absurd (omega arith)
+  block_part (suc k) n from bytes s (b ∷ bs) h =
+      let left : k - length bs ≡ suc k - length (b ∷ bs) = omega arith in
+      block_part k (number_past n b) from (bytes ++ b ∷ []) s bs (omega arith)
+      ∙ (λ i. At (past_count n b bs i) (InBlock from (left i) (append_assoc bytes (b ∷ []) bs i)) s)
 
   -- the end of a block, and what follows
   pub block_end : (k n from : ℕ) (bytes : Bytes) (s : State) (inside : Bool) (part rest : Bytes) → length part ≡ suc k

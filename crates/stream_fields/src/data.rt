@@ -7,9 +7,6 @@ ghost use Rattle.std.specs.Prelude.{
   take,
   drop,
   bytes_eq,
-  None,
-  is_some,
-  IsTrue,
   IfSome,
 };
 ghost use Rattle.std.specs.Option.{option_map, option_copied};
@@ -19,17 +16,26 @@ ghost use Rattle.plain_model.specs.Fields.{
   delimiter_in,
   delimited,
   extent_in,
-  extent_by,
   block_after,
   or_defect as or_defect_field,
 };
-ghost use Rattle.plain_model.specs.Parts.{number_of};
-ghost use Rattle.stream_fields.specs.Blocks.{IsFirstLine, EndsAt};
+ghost use Rattle.stream_fields.specs.Blocks.{EndsAt, IsFirstLine, SaysExtent};
 
 use crate::fault::or_defect;
 use crate::lines::{place_of, words};
 use crate::numbers::{is_number, number_up_to};
 use plain_model::Why;
+
+/// How far a block goes.
+#[derive(Clone, Copy, Debug)]
+pub enum Extent<'a> {
+    /// So many bytes.
+    Counted(u64),
+    /// More bytes than what was asked for.
+    Longer,
+    /// Lines up to one that equals the delimiter.
+    Delimited(&'a [u8]),
+}
 
 // What is after the word `data` and a space.
 #[tactic(auto, unfolding(plain_model::specs::Fields::data_text))]
@@ -52,6 +58,26 @@ fn delimiter_of(text: &[u8]) -> Option<&[u8]>
     match text {
         [b'<', b'<', _, ..] => Some(&text[2..]),
         _ => None,
+    }
+}
+
+/// How far the block after a line `data COUNT` or `data <<DELIMITER` goes, where a count is at most so great. (git-fast-import,
+/// `data`.)
+pub fn extent_up_to(most: u64, line: &[u8]) -> Result<Extent<'_>, Why>
+    ensures { SaysExtent most result (extent_in line.now) }
+{
+    let Some(text) = text_of_data(line) else {
+        return Err(Why::BadData);
+    };
+    if is_number(text) {
+        return match number_up_to(most, text) {
+            Some(count) => Ok(Extent::Counted(count)),
+            None => Ok(Extent::Longer),
+        };
+    }
+    match delimiter_of(text) {
+        Some(delimiter) => Ok(Extent::Delimited(delimiter)),
+        None => Err(Why::BadData),
     }
 }
 
@@ -90,49 +116,17 @@ fn delimited_end(delimiter: &[u8], text: &[u8]) -> Option<(usize, usize)>
     None
 }
 
-// The end of a block of so many bytes as the digits say.
-fn counted_end(digits: &[u8], text: &[u8]) -> Result<(usize, usize), Why>
-    requires { IsTrue (is_some (number_of digits.now)) }
-    ensures { EndsAt text.now result
-        (block_after (extent_by digits.now (number_of digits.now)) text.now) }
-{
-    match number_up_to(text.len() as u64, digits) {
-        Some(count) => Ok((count as usize, count as usize)),
-        None => Err(Why::Truncated),
-    }
-}
-
-// The end of a block up to a delimiter, after a text that says it.
-#[tactic(auto, unfolding(plain_model::specs::Fields::block_after))]
-fn end_by_delimiter(spelled: &[u8], text: &[u8]) -> Result<(usize, usize), Why>
-    ensures { EndsAt text.now result (block_after (extent_by spelled.now None) text.now) }
-{
-    match delimiter_of(spelled) {
-        Some(delimiter) => or_defect(Why::Truncated, delimited_end(delimiter, text)),
-        None => Err(Why::BadData),
-    }
-}
-
-// The end of a block, after a text that says how far it goes.
-fn end_by(spelled: &[u8], text: &[u8]) -> Result<(usize, usize), Why>
-    ensures { EndsAt text.now result
-        (block_after (extent_by spelled.now (number_of spelled.now)) text.now) }
-{
-    if is_number(spelled) {
-        counted_end(spelled, text)
-    } else {
-        end_by_delimiter(spelled, text)
-    }
-}
-
 /// How many bytes of a text are the block after a line `data COUNT` or `data <<DELIMITER`, and how many are before
 /// what follows it. A count is compared before anything is taken. (git-fast-import, `data`.)
-#[tactic(auto, unfolding(plain_model::specs::Fields::extent_in, plain_model::specs::Fields::block_after),)]
+#[tactic(auto, unfolding(plain_model::specs::Fields::block_after))]
 pub fn block_end(head: &[u8], text: &[u8]) -> Result<(usize, usize), Why>
     ensures { EndsAt text.now result (block_after (extent_in head.now) text.now) }
 {
-    match text_of_data(head) {
-        Some(spelled) => end_by(spelled, text),
-        None => Err(Why::BadData),
+    match extent_up_to(text.len() as u64, head)? {
+        Extent::Counted(count) => Ok((count as usize, count as usize)),
+        Extent::Longer => Err(Why::Truncated),
+        Extent::Delimited(delimiter) => {
+            or_defect(Why::Truncated, delimited_end(delimiter, text))
+        }
     }
 }

@@ -15,6 +15,7 @@ mod writing;
 mod written_parts;
 
 pub use cursor::Cursor;
+pub use data::{Extent, extent_up_to};
 pub use fault::{FieldFault, or_defect};
 pub use lines::{count_line_ends, cut, first_line, skip_line_feed, strip, words};
 pub use names::read_name;

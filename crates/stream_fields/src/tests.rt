@@ -55,6 +55,21 @@ fn op_shown(alloc: Global, line: &[u8]) -> Result<Text, Fail> {
     Ok(out)
 }
 
+// COUNT, longer, or <<DELIMITER
+fn extent_shown(alloc: Global, most: u64, line: &[u8]) -> Result<Text, Fail> {
+    let mut out = Items::empty(alloc);
+    match extent_up_to(most, line) {
+        Ok(Extent::Counted(count)) => out.push_number(count)?,
+        Ok(Extent::Longer) => out.push_all(b"longer")?,
+        Ok(Extent::Delimited(delimiter)) => {
+            out.push_all(b"<<")?;
+            out.push_all(delimiter)?;
+        }
+        Err(why) => put_fault(&mut out, alloc, FieldFault::Bad(why))?,
+    }
+    Ok(out)
+}
+
 // BYTES|THE LINE THAT FOLLOWS|ITS NUMBER, after a text whose first line is one of data
 fn block_shown(alloc: Global, text: &[u8]) -> Result<Text, Fail> {
     let mut out = Items::empty(alloc);
@@ -329,6 +344,23 @@ fn blocks_of_data(rt: HostRuntime) -> Result<(), Fail> {
     for (what, text, want) in rows {
         let shown = block_shown(rt.alloc(), text)?;
         assert_eq!(rt; shown.as_slice(), want, "{what}");
+    }
+    Ok(())
+}
+
+#[test]
+fn how_far_blocks_go(rt: HostRuntime) -> Result<(), Fail> {
+    let rows: [(&[u8], &[u8]); 6] = [
+        (b"data 0", b"0"),
+        (b"data 12", b"12"),
+        (b"data 13", b"longer"),
+        (b"data <<END OF IT", b"<<END OF IT"),
+        (b"data 1x", b"BadData"),
+        (b"date 1", b"BadData"),
+    ];
+    for (line, want) in rows {
+        let shown = extent_shown(rt.alloc(), 12, line)?;
+        assert_eq!(rt; shown.as_slice(), want);
     }
     Ok(())
 }

@@ -5,13 +5,13 @@ use Rattle.plain_model.specs.Paths.{Bytes}
 use Rattle.line_automaton.specs.Machine.{all, closed, verdict}
 use Rattle.stream_grammar.specs.declared.lines.Standing.{Standing}
 use Rattle.stream_grammar.specs.Known.{Known}
-use Rattle.stream_grammar.specs.Limits.{if_known, known_given, known_in, stream_within}
+use Rattle.stream_grammar.specs.Limits.{if_known, known_given, known_in, stream_of, stream_within}
 use Rattle.stream_reader.specs.declared.fault.ReadFault.{ReadFault}
 use Rattle.stream_reader.specs.declared.fault.ReadFault.TheVariants as read
 use Rattle.stream_reader.specs.declared.place.Place.{Place}
 use Rattle.stream_reader.specs.declared.place.Place.TheVariants as place
 use Rattle.stream_reader.specs.Answers.{IsFaultOf}
-use Rattle.stream_reader.specs.Reading.{HasStopped, IsGiven, IsIn, StreamMachine, after, has_begun, reported}
+use Rattle.stream_reader.specs.Reading.{HasStopped, IsIn, StreamMachine, after, has_begun, reported}
 
 -- a line that has begun gets its LF
 pub last_line : (standing : Standing) (known : Known) (n come : ℕ) (p : Place) (m : StreamMachine) → has_begun p ≡ true → IsIn standing known n come p m → closed stream_within all m ≡ after m (10 ∷ [])
@@ -36,11 +36,11 @@ reported_stops standing known n come (place.AfterBlock in_line) fault m e h = ab
 reported_stops standing known n come place.Over fault m e h = absurd cc
 
 -- a machine that has stopped gives its fault, also at the end
-pub stopped_given : (fault : ReadFault) (m : StreamMachine) → HasStopped fault m → IsGiven (known_given (verdict stream_within m)) fault
+pub stopped_given : (fault : ReadFault) (m : StreamMachine) → HasStopped fault m → IsFaultOf (known_given (verdict stream_within m)) fault
 stopped_given (read.BadStream n why) m is = ap (λ (x : StreamMachine). known_given (verdict stream_within x)) is
 stopped_given (read.Limit which number) m (n, is, same) =
     ap (λ (x : StreamMachine). known_given (verdict stream_within x)) is ∙ ap (λ k. Err (plain.Limit which k)) (sym same)
-stopped_given read.MarksSpent m h = h
+stopped_given read.MarksSpent m h = absurd h
 stopped_given read.Memory m h = tt
 
 pub stopped_closed : (fault : ReadFault) (m : StreamMachine) → HasStopped fault m → HasStopped fault (closed stream_within all m)
@@ -50,8 +50,8 @@ stopped_closed read.MarksSpent m h = h
 stopped_closed read.Memory m h = tt
 
 -- a fault of the lines is that of the stream
-pub given_fault : (bytes : Bytes) (fault : ReadFault) → IsGiven (known_in bytes) fault → IsFaultOf bytes fault
+pub given_fault : (bytes : Bytes) (fault : ReadFault) → IsFaultOf (known_in bytes) fault → IsFaultOf (stream_of bytes) fault
 given_fault bytes (read.BadStream n why) e = ap if_known e
 given_fault bytes (read.Limit which number) e = ap if_known e
-given_fault bytes read.MarksSpent h = absurd h
+given_fault bytes read.MarksSpent e = ap if_known e
 given_fault bytes read.Memory h = tt

@@ -1,4 +1,3 @@
-mod Extents
 mod Steps
 mod Pieces
 mod Lines

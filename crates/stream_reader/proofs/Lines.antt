@@ -3,6 +3,7 @@ use Rattle.std.proofs.Common.{◌≡◌, ℕ, zero, suc, ◌+◌, ◌-◌, ◌^�
 use Rattle.std.specs.Prelude.{bytes_eq}
 use Rattle.plain_model.specs.declared.fault.Which.{Which}
 use Rattle.plain_model.specs.declared.fault.Why.{Why}
+use Rattle.plain_model.specs.Fields.{◌>>=◌, Extent, extent_in}
 use Rattle.plain_model.specs.Paths.{Bytes}
 use Rattle.line_automaton.specs.Limits.{Cause}
 use Rattle.line_automaton.specs.Limits.Cause.{Defect, Exceeds}
@@ -15,16 +16,20 @@ use Rattle.stream_grammar.specs.declared.lines.Word.{Word}
 use Rattle.stream_grammar.specs.declared.lines.Word.TheVariants as word
 use Rattle.stream_grammar.specs.Known.{Known, with_data}
 use Rattle.stream_grammar.specs.Limits.{judged_within, stream_within}
-use Rattle.stream_grammar.specs.Lines.{State, after_word, data_arrived, is_comment, is_inline_expected, next_of, word_of}
+use Rattle.stream_grammar.specs.Lines.{State, after_word, data_arrived, is_comment, is_inline_expected, next_by, next_of, word_of}
 use Rattle.stream_builder.specs.declared.fault.LineFault.{LineFault}
 use Rattle.stream_builder.specs.declared.fault.LineFault.TheVariants as fault_of_line
 use Rattle.stream_builder.specs.Judging.{Judges}
 use Rattle.stream_reader.specs.declared.fault.ReadFault.TheVariants as read
 use Rattle.stream_reader.specs.declared.place.Place.TheVariants as place
 use Rattle.stream_reader.specs.Reading.{HasStopped, IsAt, IsIn, StreamMachine, after_compared, after_line, goes, in_line, state}
-use Rattle.stream_reader.proofs.Steps.{comment_step, form_refused, block_refused, made, next_is_line}
+use Rattle.stream_reader.proofs.Steps.{comment_step, block_refused, made, next_is_line}
 
 -- ---- by what follows a line of data
+
+-- what follows it, by how far it says that its block goes
+pub data_next : (line : Bytes) (r : Result Extent Why) → extent_in line ≡ r → next_of word.Data line ≡ (r >>= λ extent. Ok (next_by extent))
+data_next line r e = ap (λ (x : Result Extent Why). x >>= λ extent. Ok (next_by extent)) e
 
 module _ (standing : Standing) (known : Known) (n come : ℕ) (line : Bytes) (spelled : List Bytes) (next : Result Next Why) where
   -- a block of no bytes is there at once
@@ -54,9 +59,6 @@ module _ (standing : Standing) (known : Known) (n come : ℕ) (line : Bytes) (sp
     ap (goes n line (state standing spelled known)) e ∙ (λ i. At (n + 1) (InDelimited n (sym is i) (sym none i) (sym nothing i)) (state standing spelled known)),
   )
 
-  pub no_block : (why : Why) → next ≡ Err why → HasStopped (read.BadStream n why) (goes n line (state standing spelled known) next)
-  no_block why e = ap (goes n line (state standing spelled known)) e
-
 -- ---- by what a line is
 
 abbrev by_step : ℕ → Bytes → Result (State × Next) (Cause Why Which) → StreamMachine
@@ -70,9 +72,6 @@ module _ (standing : Standing) (known : Known) (n come : ℕ) (line : Bytes) (sp
   )
 
   module _ (w : Word) (plain : is_comment line ≡ false) (is : w ≡ word_of line) where
-    pub misplaced : (why : Why) → after_word standing w ≡ Err why → HasStopped (read.BadStream n why) (after_line n (state standing spelled known) line)
-    misplaced why e = ap (by_step n line) (form_refused standing known line spelled w plain is why e)
-
     module _ (t : Standing) (stands : after_word standing w ≡ Ok t) where
       -- a line of data goes by what follows it
       pub data_goes : w ≡ word.Data → (next : Result Next Why) → next_of word.Data line ≡ next

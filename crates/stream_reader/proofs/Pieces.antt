@@ -1,5 +1,5 @@
 -- What pieces of a stream make of the machine.
-use Rattle.std.proofs.Common.{◌≡◌, ℕ, zero, suc, ◌+◌, ◌-◌, ◌^◌, ◌<◌, ◌≤◌, Bool, true, false, cond, not, List, [], ◌∷◌, ◌++◌, length, take, Result, Ok, Err, refl, sym, ap, subst, ◌∙◌, arith, append_assoc, append-nil}
+use Rattle.std.proofs.Common.{◌≡◌, ℕ, zero, suc, ◌+◌, ◌-◌, ◌^◌, ◌<◌, ◌≤◌, Bool, true, false, not, List, [], ◌∷◌, ◌++◌, length, take, Result, Ok, Err, refl, sym, ap, subst, ◌∙◌, arith, append-nil}
 use Rattle.std.specs.Prelude.{count_by, get_or}
 use Rattle.plain_model.specs.Paths.{Bytes}
 use Rattle.plain_model.specs.Parts.{is_lf, has_no_lf}
@@ -8,7 +8,6 @@ use Rattle.line_automaton.specs.Machine.Machine.{At}
 use Rattle.line_automaton.specs.Machine.Mode.{InLine, InBlock, After, InDelimited, Ended}
 use Rattle.line_automaton.proofs.DrivingLaws as driving
 use Rattle.line_automaton.proofs.FirstLines.{inside_after}
-use Rattle.line_automaton.proofs.LineLaws.{count-cons}
 use Rattle.line_automaton.proofs.Runs.{stays}
 use Rattle.stream_grammar.specs.declared.lines.Standing.{Standing}
 use Rattle.stream_grammar.specs.Known.{Known, with_data}
@@ -38,30 +37,13 @@ line_end standing known n begun part m plain (spelled, is) =
 
 -- ---- counted blocks
 
-past_count : (n b : ℕ) (bs : Bytes) → number_past n b + count_by is_lf bs ≡ n + count_by is_lf (b ∷ bs)
-past_count n b bs = go (is_lf b) ∙ ap (λ k. n + k) (sym (count-cons b bs))
-  where
-    go : (t : Bool) → cond t (n + 1) n + count_by is_lf bs ≡ n + (cond t 1 0 + count_by is_lf bs)
-    go true = omega arith
-    go false = omega arith
-
--- a part of a block
-block_run : (part : Bytes) (n from k : ℕ) (bytes : Bytes) (s : State) → length part ≤ k
-    → after (At n (InBlock from k bytes) s) part ≡ At (n + count_by is_lf part) (InBlock from (k - length part) (bytes ++ part)) s
-block_run [] n from k bytes s h =
-    ap (λ (x : Bytes). At n (InBlock from k x) s) (sym (append-nil bytes)) ∙ (let none : n ≡ n + count_by is_lf [] = omega arith in let left : k ≡ k - length {A = ℕ} [] = omega arith in (λ i. At (none i) (InBlock from (left i) (bytes ++ [])) s))
-block_run (b ∷ bs) n from zero bytes s h = absurd (omega arith)
-block_run (b ∷ bs) n from (suc k) bytes s h =
-    block_run bs (number_past n b) from k (bytes ++ b ∷ []) s (omega arith)
-    ∙ (let left : k - length bs ≡ suc k - length (b ∷ bs) = omega arith in (λ i. At (past_count n b bs i) (InBlock from (left i) (append_assoc bytes (b ∷ []) bs i)) s))
-
 -- more of a block of so many bytes
 pub block_part : (standing : Standing) (known : Known) (n come from more : ℕ) (bytes part : Bytes) (r : Result Place ReadFault) (m : StreamMachine)
     → length part ≤ more → Makes r (place.Block from (more - length part) (bytes ++ part)) → IsAt standing known n (InBlock from more bytes) m
     → Leads standing known (n + count_by is_lf part) come r (after m part)
 block_part standing known n come from more bytes part (Ok p) m less made (spelled, is) =
     subst (λ (q : Place). IsIn standing known (n + count_by is_lf part) come q (after m part)) (sym made)
-    (spelled, ap (λ (x : StreamMachine). after x part) is ∙ block_run part n from more bytes (state standing spelled known) less)
+    (spelled, ap (λ (x : StreamMachine). after x part) is ∙ driving.block_part stream_within all more n from bytes (state standing spelled known) part less)
 block_part standing known n come from more bytes part (Err fault) m less made here = subst (λ (f : ReadFault). HasStopped f (after m part)) (sym made) tt
 
 -- the end of a block
@@ -81,7 +63,7 @@ endless_on standing known n n' come from part m room (i, k, bytes, high, here) =
   k - length part,
   bytes ++ part,
   omega (arith, room, high),
-  (here.0, ap (λ (x : StreamMachine). after x part) here.1 ∙ block_run part i from k bytes (state standing here.0 known) (omega (arith, room, high))),
+  (here.0, ap (λ (x : StreamMachine). after x part) here.1 ∙ driving.block_part stream_within all k i from bytes (state standing here.0 known) part (omega (arith, room, high))),
 )
 
 -- ---- after a block

@@ -102,13 +102,6 @@ abbrev pub Makes : Result Place ReadFault → Place → Type 0
 Makes (Ok made) p = made ≡ p
 Makes (Err fault) p = fault ≡ read.Memory
 
--- the fault is the one that is given; out of memory may be reported in place of anything
-abbrev pub IsGiven : {A : Type 0} → Result A Fault → ReadFault → Type 0
-IsGiven r (read.BadStream n why) = r ≡ Err (plain.BadStream n why)
-IsGiven r (read.Limit which number) = r ≡ Err (plain.Limit which number)
-IsGiven r read.MarksSpent = ⊥
-IsGiven r read.Memory = Unit {0}
-
 -- something has come of a line, which the end of the stream ends
 abbrev pub is_some_text : Bytes → Bool
 is_some_text [] = false

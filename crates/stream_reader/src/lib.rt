@@ -1,7 +1,6 @@
 //! A stream is read to its history, or to the fault of its first line that is refused, at once or in pieces.
 #![tactic(auto)]
 
-mod blocks;
 mod fault;
 mod place;
 mod reader;

@@ -31,7 +31,6 @@ ghost use Rattle.stream_reader.specs.Reading.{
   HasCome,
   HasRead,
   IsAt,
-  IsGiven,
   Leads,
   Makes,
   StreamMachine,
@@ -49,7 +48,6 @@ ghost use Rattle.stream_reader.specs.Reading.{
   state,
 };
 
-use crate::blocks::{Extent, read_extent};
 use crate::fault::ReadFault;
 use crate::place::Place;
 use plain_model::{EventList, Items, Text, Why};
@@ -58,11 +56,14 @@ use std::marker::Model;
 use std::mem;
 use stream_builder::{Builder, LineFault};
 use stream_drafts::FinishFault;
-use stream_fields::{count_line_ends, cut};
+use stream_fields::{Extent, count_line_ends, cut, extent_up_to};
 use stream_grammar::{Expected, Standing, Word, is_comment, limit_number};
 
 /// A reader takes fewer bytes than this in all: no more fit into a memory. (own)
 const MAX_BYTES: u64 = 1 << 63;
+
+/// A block of more bytes than this is never whole. (own)
+const MAX_COUNT: u64 = 1 << 63;
 
 // The fault of a line by its number.
 fn in_line(line: u64, fault: LineFault) -> ReadFault
@@ -217,7 +218,7 @@ impl StreamReader {
             (next_of word.Data line.now)) }
     {
         let from = self.number;
-        match read_extent(line) {
+        match extent_up_to(MAX_COUNT, line) {
             Ok(Extent::Counted(0)) => {
                 self.builder
                     .take_block(self.standing.is_inline(), Items::empty(self.alloc))?;
@@ -228,10 +229,10 @@ impl StreamReader {
                 more: count - 1,
                 bytes: Items::empty(self.alloc),
             }),
-            Ok(Extent::Endless) => Ok(Place::EndlessBlock { from }),
-            Ok(Extent::Delimited) => Ok(Place::DelimitedBlock {
+            Ok(Extent::Longer) => Ok(Place::EndlessBlock { from }),
+            Ok(Extent::Delimited(delimiter)) => Ok(Place::DelimitedBlock {
                 from,
-                delimiter: Items::of(self.alloc, &line[7..])?,
+                delimiter: Items::of(self.alloc, delimiter)?,
                 bytes: Items::empty(self.alloc),
                 begun: Items::empty(self.alloc),
             }),
@@ -557,7 +558,7 @@ impl StreamReader {
         ensures ok { OnOk result ((m : StreamMachine) → HasCome self.now m →
             known_given (verdict stream_within m) ≡ Ok self.now.known) }
         ensures fault { IfErr result (λ fault. (m : StreamMachine) → HasCome self.now m →
-            IsGiven (known_given (verdict stream_within m)) fault) }
+            IsFaultOf (known_given (verdict stream_within m)) fault) }
     {
         let line = match &self.place {
             Place::Line { .. } if self.standing.must_go_on() => self.number,
@@ -585,7 +586,7 @@ impl StreamReader {
         ensures list { IfOk result
             (λ list. (bytes : Bytes) → HasRead self bytes → stream_of bytes ≡ Ok list) }
         ensures fault { IfErr result
-            (λ fault. (bytes : Bytes) → HasRead self bytes → IsFaultOf bytes fault) }
+            (λ fault. (bytes : Bytes) → HasRead self bytes → IsFaultOf (stream_of bytes) fault) }
     {
         if let Err(fault) = self.close() {
             return Err(fault);
@@ -604,7 +605,7 @@ impl StreamReader {
 /// Reads a stream at once.
 pub fn read_stream(alloc: Global, text: &[u8]) -> Result<EventList, ReadFault>
     ensures list { IfOk result (λ list. stream_of text.now ≡ Ok list) }
-    ensures fault { IfErr result (IsFaultOf text.now) }
+    ensures fault { IfErr result (IsFaultOf (stream_of text.now)) }
 {
     let mut reader = StreamReader::new(alloc);
     if let Err(fault) = reader.feed(text) {

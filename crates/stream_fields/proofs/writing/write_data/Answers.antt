@@ -1,7 +1,6 @@
-use Rattle.std.proofs.Common.{◌≡◌, List, ◌++◌, ◌∷◌, [], codes, length, arith, rules, sym, ap, ◌∙◌}
+use Rattle.std.proofs.Common.{length, arith, rules}
 use Rattle.field_laws.proofs.Decimals.{decimal_of_is}
 use Rattle.field_laws.proofs.FieldsAgain.{data_again}
-use Rattle.plain_model.specs.Text.{line}
 use Rattle.stream_fields.proofs.writing.write_data.Goals as goal
 
 pub returns-in-Ok-clause-ok : goal.returns-in-Ok-clause-ok

@@ -1,6 +1,0 @@
-use Rattle.std.proofs.Common.{sym, ◌∙◌}
-use Rattle.stream_fields.proofs.DigitLemmas.{is_some-number_of, some_bytes}
-use Rattle.stream_reader.proofs.blocks.is_number.Goals as goal
-
-pub returns-then-not-is_empty : goal.returns-then-not-is_empty
-returns-then-not-is_empty c = c.are_digits.ensures ∙ sym (is_some-number_of c.args.text.now (some_bytes c.args.text.now (sym c.if-not-is_empty.ensures)))
