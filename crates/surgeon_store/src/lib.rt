@@ -19,5 +19,5 @@ pub use memory::{MemorySink, MemoryStore};
 pub use outside::{CreateFault, Failed, OpenFault, Sink, Store, WriteFault};
 pub use store_sink::StoreSink;
 pub use sure::{SureSink, SureStore};
-pub use whole_files::{ReadEnd, read_file, read_front, write_text};
+pub use whole_files::{ReadEnd, open_file, read_file, read_front, write_text};
 pub use writing::{WriteEnd, write_all};

@@ -19,7 +19,7 @@ ghost use Rattle.std.specs.Prelude.{
 };
 ghost use Rattle.std.specs.FinMap.{get, insert};
 ghost use Rattle.plain_model.specs.Counts.{Rose};
-ghost use Rattle.surgeon_store.specs.Outside.{Reads, Writes, beside_of};
+ghost use Rattle.surgeon_store.specs.Outside.{Misses, Opens, Reads, Writes, beside_of};
 ghost use Rattle.surgeon_store.specs.WholeFiles.{
   Grows,
   GrowsSome,
@@ -67,6 +67,27 @@ impl From<Halt> for ReadEnd {
     }
 }
 
+/// Begins to read a file, which is there, from its first byte.
+pub fn open_file<S: Store>(alloc: Global, store: &mut S, name: &str) -> Result<(), ReadEnd>
+    ensures opens { OnOk result (Opens (S.state store.old) name.now (S.state store.new)) }
+    ensures absent { (fault : Fault) → result ≡ Err (ReadEnd.Refused fault)
+        → (fault ≡ Fault.Absent name.now) × Misses (S.state store.old) name.now }
+    ensures missed { (fault : Fault) → result ≡ Err (ReadEnd.Refused fault)
+        → Rose (S.state store.old).misses (S.state store.new).misses }
+    ensures failed { IsErrOf result ReadEnd.SourceFault
+        → Rose (S.state store.old).read_faults (S.state store.new).read_faults }
+    ensures frame { Reads (S.state store.old) (S.state store.new) }
+{
+    match store.begin_read(name) {
+        Ok(()) => Ok(()),
+        Err(OpenFault::Absent) => Err(ReadEnd::Refused(Fault::Absent {
+            name: Items::of(alloc, name.as_bytes())?,
+        })),
+        Err(OpenFault::Failed) => Err(ReadEnd::SourceFault),
+        Err(OpenFault::Memory) => Err(ReadEnd::Memory),
+    }
+}
+
 // What is left of the file that is read, up to so many bytes; no more of it is taken.
 fn rest_up_to<S: Store>(alloc: Global, store: &mut S, most: u64) -> Result<Text, ReadEnd>
     ensures found { IfOk result
@@ -111,14 +132,8 @@ pub fn read_front<S: Store>(
         → Rose (S.state store.old).read_faults (S.state store.new).read_faults }
     ensures frame { Reads (S.state store.old) (S.state store.new) }
 {
-    match store.begin_read(name) {
-        Ok(()) => rest_up_to(alloc, store, most),
-        Err(OpenFault::Absent) => Err(ReadEnd::Refused(Fault::Absent {
-            name: Items::of(alloc, name.as_bytes())?,
-        })),
-        Err(OpenFault::Failed) => Err(ReadEnd::SourceFault),
-        Err(OpenFault::Memory) => Err(ReadEnd::Memory),
-    }
+    open_file(alloc, store, name)?;
+    rest_up_to(alloc, store, most)
 }
 
 /// All the bytes of a file, which is there and within a limit.
