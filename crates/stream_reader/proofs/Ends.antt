@@ -1,17 +1,20 @@
 -- Where a stream ends.
-use Rattle.std.proofs.Common.{◌≡◌, ℕ, true, [], ◌∷◌, Err, sym, ap, subst, ◌∙◌}
+use Rattle.std.proofs.Common.{◌≡◌, ℕ, true, [], ◌∷◌, Ok, Err, sym, ap, subst, ◌∙◌}
 use Rattle.plain_model.specs.declared.fault.Fault.TheVariants as plain
 use Rattle.plain_model.specs.Paths.{Bytes}
-use Rattle.line_automaton.specs.Machine.{all, closed, verdict}
+use Rattle.line_automaton.specs.Machine.{Mode, all, closed, verdict}
+use Rattle.line_automaton.specs.Machine.Machine.{At}
+use Rattle.line_automaton.specs.Machine.Mode.{InLine, InBlock, After, InDelimited, Ended}
 use Rattle.stream_grammar.specs.declared.lines.Standing.{Standing}
 use Rattle.stream_grammar.specs.Known.{Known}
+use Rattle.stream_grammar.specs.Lines.{State}
 use Rattle.stream_grammar.specs.Limits.{if_known, known_given, known_in, stream_of, stream_within}
 use Rattle.stream_reader.specs.declared.fault.ReadFault.{ReadFault}
 use Rattle.stream_reader.specs.declared.fault.ReadFault.TheVariants as read
 use Rattle.stream_reader.specs.declared.place.Place.{Place}
 use Rattle.stream_reader.specs.declared.place.Place.TheVariants as place
 use Rattle.stream_reader.specs.Answers.{IsFaultOf}
-use Rattle.stream_reader.specs.Reading.{HasStopped, IsIn, StreamMachine, after, has_begun, reported}
+use Rattle.stream_reader.specs.Reading.{HasStopped, IsIn, StreamMachine, after, has_begun, reported, state}
 
 -- a line that has begun gets its LF
 pub last_line : (standing : Standing) (known : Known) (n come : ℕ) (p : Place) (m : StreamMachine) → has_begun p ≡ true → IsIn standing known n come p m → closed stream_within all m ≡ after m (10 ∷ [])
@@ -34,6 +37,16 @@ reported_stops standing known n come (place.Block from more bytes) fault m e h =
 reported_stops standing known n come (place.EndlessBlock from) fault m e h = absurd cc
 reported_stops standing known n come (place.AfterBlock in_line) fault m e h = absurd cc
 reported_stops standing known n come place.Over fault m e h = absurd cc
+
+-- where no fault is reported it hasn't stopped
+pub reads_on : (standing : Standing) (known : Known) (n come : ℕ) (p : Place) (m : StreamMachine) → Ok tt ≡ reported p → IsIn standing known n come p m → (i : ℕ) × (mode : Mode) × (s : State) × (m ≡ At i mode s)
+reads_on standing known n come (place.Line text) m e (spelled, is) = (n, InLine text, state standing spelled known, is)
+reads_on standing known n come (place.Block from more bytes) m e (spelled, is) = (n, InBlock from more bytes, state standing spelled known, is)
+reads_on standing known n come (place.EndlessBlock from) m e (i, k, bytes, large, (spelled, is)) = (i, InBlock from k bytes, state standing spelled known, is)
+reads_on standing known n come (place.AfterBlock in_line) m e (spelled, is) = (n, After in_line, state standing spelled known, is)
+reads_on standing known n come (place.DelimitedBlock from delimiter bytes text) m e (spelled, is) = (n, InDelimited from delimiter bytes text, state standing spelled known, is)
+reads_on standing known n come place.Over m e (i, (spelled, is)) = (i, Ended, state standing spelled known, is)
+reads_on standing known n come (place.Refused fault) m e h = absurd cc
 
 -- a machine that has stopped gives its fault, also at the end
 pub stopped_given : (fault : ReadFault) (m : StreamMachine) → HasStopped fault m → IsFaultOf (known_given (verdict stream_within m)) fault

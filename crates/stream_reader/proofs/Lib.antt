@@ -2,4 +2,4 @@ mod Steps
 mod Pieces
 mod Lines
 mod Taken
-mod Ends
+pub mod Ends
