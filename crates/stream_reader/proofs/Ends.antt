@@ -5,6 +5,7 @@ use Rattle.plain_model.specs.Paths.{Bytes}
 use Rattle.line_automaton.specs.Machine.{Mode, all, closed, verdict}
 use Rattle.line_automaton.specs.Machine.Machine.{At}
 use Rattle.line_automaton.specs.Machine.Mode.{InLine, InBlock, After, InDelimited, Ended}
+use Rattle.line_automaton.proofs.Runs.{stays}
 use Rattle.stream_grammar.specs.declared.lines.Standing.{Standing}
 use Rattle.stream_grammar.specs.Known.{Known}
 use Rattle.stream_grammar.specs.Lines.{State}
@@ -55,6 +56,13 @@ stopped_given (read.Limit which number) m (n, is, same) =
     ap (λ (x : StreamMachine). known_given (verdict stream_within x)) is ∙ ap (λ k. Err (plain.Limit which k)) (sym same)
 stopped_given read.MarksSpent m h = absurd h
 stopped_given read.Memory m h = tt
+
+-- it stays so
+pub stopped_on : (fault : ReadFault) (m : StreamMachine) (part : Bytes) → HasStopped fault m → HasStopped fault (after m part)
+stopped_on (read.BadStream n why) m part is = ap (λ (x : StreamMachine). after x part) is ∙ stays stream_within all n _ part
+stopped_on (read.Limit which number) m part (n, is, known) = (n, ap (λ (x : StreamMachine). after x part) is ∙ stays stream_within all n _ part, known)
+stopped_on read.MarksSpent m part h = h
+stopped_on read.Memory m part h = tt
 
 pub stopped_closed : (fault : ReadFault) (m : StreamMachine) → HasStopped fault m → HasStopped fault (closed stream_within all m)
 stopped_closed (read.BadStream n why) m is = ap (closed stream_within all) is

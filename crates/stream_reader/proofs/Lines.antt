@@ -20,7 +20,6 @@ use Rattle.stream_grammar.specs.Lines.{State, after_word, data_arrived, is_comme
 use Rattle.stream_builder.specs.declared.fault.LineFault.{LineFault}
 use Rattle.stream_builder.specs.declared.fault.LineFault.TheVariants as fault_of_line
 use Rattle.stream_builder.specs.Judging.{Judges}
-use Rattle.stream_reader.specs.declared.fault.ReadFault.TheVariants as read
 use Rattle.stream_reader.specs.declared.place.Place.TheVariants as place
 use Rattle.stream_reader.specs.Reading.{HasStopped, IsAt, IsIn, StreamMachine, after_compared, after_line, goes, in_line, state}
 use Rattle.stream_reader.proofs.Steps.{comment_step, block_refused, made, next_is_line}

@@ -3,18 +3,16 @@ use Rattle.std.proofs.Common.{◌≡◌, ℕ, zero, suc, ◌+◌, ◌-◌, ◌^�
 use Rattle.std.specs.Prelude.{count_by, get_or}
 use Rattle.plain_model.specs.Paths.{Bytes}
 use Rattle.plain_model.specs.Parts.{is_lf, has_no_lf}
-use Rattle.line_automaton.specs.Machine.{all, number_past, run}
+use Rattle.line_automaton.specs.Machine.{all, number_past}
 use Rattle.line_automaton.specs.Machine.Machine.{At}
 use Rattle.line_automaton.specs.Machine.Mode.{InLine, InBlock, After, InDelimited, Ended}
 use Rattle.line_automaton.proofs.DrivingLaws as driving
 use Rattle.line_automaton.proofs.FirstLines.{inside_after}
-use Rattle.line_automaton.proofs.Runs.{stays}
 use Rattle.stream_grammar.specs.declared.lines.Standing.{Standing}
 use Rattle.stream_grammar.specs.Known.{Known, with_data}
 use Rattle.stream_grammar.specs.Limits.{stream_within}
 use Rattle.stream_grammar.specs.Lines.{State, data_arrived, is_inline_expected}
 use Rattle.stream_reader.specs.declared.fault.ReadFault.{ReadFault}
-use Rattle.stream_reader.specs.declared.fault.ReadFault.TheVariants as read
 use Rattle.stream_reader.specs.declared.place.Place.{Place}
 use Rattle.stream_reader.specs.declared.place.Place.TheVariants as place
 use Rattle.stream_reader.specs.Reading.{begins_with_lf, HasStopped, IsAt, IsIn, Leads, Makes, StreamMachine, after, after_compared, after_line, state}
@@ -117,12 +115,6 @@ pub ended_on : (standing : Standing) (known : Known) (n n' come come' : ℕ) (pa
 ended_on standing known n n' come come' part m (i, here) =
     let run = ended_run part i (state standing here.0 known) in
     (run.0, (here.0, ap (λ (x : StreamMachine). after x part) here.1 ∙ run.1))
-
-pub stopped_on : (fault : ReadFault) (m : StreamMachine) (part : Bytes) → HasStopped fault m → HasStopped fault (after m part)
-stopped_on (read.BadStream n why) m part is = ap (λ (x : StreamMachine). after x part) is ∙ stays stream_within all n _ part
-stopped_on (read.Limit which number) m part (n, is, known) = (n, ap (λ (x : StreamMachine). after x part) is ∙ stays stream_within all n _ part, known)
-stopped_on read.MarksSpent m part h = h
-stopped_on read.Memory m part h = tt
 
 -- ---- the end of a block
 

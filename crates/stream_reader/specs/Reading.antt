@@ -1,7 +1,5 @@
 -- Where the reading of a stream has come to, as the machine of its grammar.
 use Rattle.std.specs.Prelude.{◌≡◌, ℕ, ◌+◌, ◌≤◌, ◌^◌, Bool, true, false, List, [], ◌∷◌, Result, Ok, Err}
-use Rattle.plain_model.specs.declared.fault.Fault.{Fault}
-use Rattle.plain_model.specs.declared.fault.Fault.TheVariants as plain
 use Rattle.plain_model.specs.declared.fault.Which.{Which}
 use Rattle.plain_model.specs.declared.fault.Why.{Why}
 use Rattle.plain_model.specs.Parts.{is_lf}

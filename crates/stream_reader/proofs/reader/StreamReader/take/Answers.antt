@@ -2,7 +2,8 @@ use Rattle.std.proofs.Common.{◌+◌, ◌<◌, ◌^◌, length, take, subst, sy
 use Rattle.stream_reader.specs.declared.place.Place.{Place}
 use Rattle.stream_reader.specs.declared.place.Place.TheVariants as place
 use Rattle.stream_reader.specs.Reading.{HasCome, IsIn, Reading, StreamMachine, after}
-use Rattle.stream_reader.proofs.Pieces.{ended_on, endless_on, stopped_on}
+use Rattle.stream_reader.proofs.Ends.{stopped_on}
+use Rattle.stream_reader.proofs.Pieces.{ended_on, endless_on}
 use Rattle.stream_reader.proofs.Taken.{passed}
 use Rattle.stream_reader.proofs.reader.StreamReader.take.Goals as goal
 
