@@ -14,13 +14,14 @@ use Rattle.plain_model.specs.Paths.{Bytes}
 use Rattle.plain_model.specs.Soundness.{IsSound}
 use Rattle.round_trip_laws.specs.AsRead.{IsAsRead}
 use Rattle.plain_model.specs.Lookups.{alias_count}
-use Rattle.stream_grammar.specs.Limits.{ops_in, stream_of}
+use Rattle.line_automaton.specs.Machine.{all, begun, run}
+use Rattle.stream_grammar.specs.Limits.{ops_in, stream_of, stream_within}
 use Rattle.renumbering.specs.Renumbered.{all_marked, renumbered}
 use Rattle.script_reader.specs.Commands.{command_of}
 use Rattle.script_reader.specs.declared.command.Command.{Command}
 use Rattle.script_reader.specs.declared.command.Command.TheVariants as command
 use Rattle.history_machine.specs.Lawful.{IsLawful, IsLawfulHistory}
-use Rattle.history_machine.specs.Loading.{◌>>=◌, is_truncated, loaded, over, read_of, whole_lines}
+use Rattle.history_machine.specs.Loading.{◌>>=◌, loaded, over, read_of}
 use Rattle.history_machine.specs.Machine.{Turn}
 use Rattle.history_machine.specs.Sessions.{Repo, Session, changes, after_choose, chosen, after_drop_chosen, after_drop, find_repo, line_step, after_read, after_renumber, room, step, reports, there, unless, unused, with_history, without_repo}
 use Rattle.history_machine.proofs.Steps.{found}
@@ -90,18 +91,6 @@ one_found name history (r ∷ repos) h e = go (bytes_eq name r.name) e (one_foun
 pub chosen_lawful : (s : Session) (repo : Repo) → chosen s ≡ Ok repo → IsLawful s → IsLawfulHistory repo.history
 chosen_lawful s repo is h = one_found repo.name repo.history s.repos h (found s repo is)
 
--- ---- files
-
-never_over : (name : Bytes) (given : Result (List PlainEvent) Fault) (events : List PlainEvent) → over name given ≡ Ok events → ⊥
-never_over name (Ok history) events h = absurd cc
-never_over name (Err (fault.BadStream line why)) events h = go (is_truncated why) h
-  where
-    go : (b : Bool) → (if b then Err (fault.TooLong name MAX_STREAM_BYTES) else Err (fault.BadStream line why)) ≡ Ok events → ⊥
-    go true h = absurd cc
-    go false h = absurd cc
-never_over name (Err (fault.Limit which number)) events h = absurd cc
-never_over name (Err other) events h = absurd cc
-
 -- ---- counts
 
 ops_marked : (m : ℕ) (events : List PlainEvent) → ops_in (map (all_marked m) events) ≡ ops_in events
@@ -133,8 +122,8 @@ module _
     read_lawful name None events h = absurd cc
     read_lawful name (Some bytes) events h = go (nat_lt MAX_STREAM_BYTES (length bytes)) h
       where
-        go : (b : Bool) → (if b then over name (stream_of (whole_lines (take MAX_STREAM_BYTES bytes))) else stream_of bytes) ≡ Ok events → IsLawfulHistory events
-        go true h = absurd (never_over name (stream_of (whole_lines (take MAX_STREAM_BYTES bytes))) events h)
+        go : (b : Bool) → (if b then Err (over name (run stream_within all (begun stream_within) (take MAX_STREAM_BYTES bytes))) else stream_of bytes) ≡ Ok events → IsLawfulHistory events
+        go true h = absurd cc
         go false h =
             let counts = few bytes events h in
             record { sound = (sound bytes events h).sound; few_events = counts.0; few_operations = counts.1; few_aliases = counts.2 }

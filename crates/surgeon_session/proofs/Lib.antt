@@ -1,9 +1,8 @@
 mod Ends
 mod Entries
-mod Fronts
+mod Pieces
 mod Halting
 mod Ids
-mod Lines
 pub mod Rounds
 pub mod SessionRounds
 mod Sessions

@@ -1,9 +1,12 @@
 -- How calls end: the ends of smaller calls as those of greater ones.
 use Rattle.std.specs.Prelude.{Result, Ok, Err}
+use Rattle.plain_model.specs.declared.fault.Fault.TheVariants as fault
 use Rattle.plain_model.specs.declared.fault.Halt.{Halt}
 use Rattle.plain_model.specs.declared.fault.Halt.TheVariants as halt
 use Rattle.plain_model.specs.declared.status.Status.{Status}
 use Rattle.plain_model.specs.declared.status.Status.TheVariants as status
+use Rattle.stream_reader.specs.declared.fault.ReadFault.{ReadFault}
+use Rattle.stream_reader.specs.declared.fault.ReadFault.TheVariants as stream
 use Rattle.surgeon_store.specs.declared.whole_files.ReadEnd.{ReadEnd}
 use Rattle.surgeon_store.specs.declared.whole_files.ReadEnd.TheVariants as read
 use Rattle.surgeon_store.specs.declared.writing.WriteEnd.{WriteEnd}
@@ -21,6 +24,13 @@ abbrev pub of_read_end : ReadEnd → Halted
 of_read_end (read.Refused fault) = halted.Refused fault
 of_read_end read.SourceFault = halted.SourceFault
 of_read_end read.Memory = halted.Memory
+
+-- why a stream isn't read, as the end of a call that reads
+abbrev pub of_read_fault : ReadFault → ReadEnd
+of_read_fault (stream.BadStream line why) = read.Refused (fault.BadStream line why)
+of_read_fault (stream.Limit which number) = read.Refused (fault.Limit which number)
+of_read_fault stream.MarksSpent = read.Refused fault.MarksSpent
+of_read_fault stream.Memory = read.Memory
 
 -- the end of a call that writes
 abbrev pub of_write_end : WriteEnd → Halted

@@ -5,6 +5,7 @@ ghost use Rattle.history_machine.specs.Sessions.{empty_session};
 ghost use Rattle.surgeon_session.specs.Commands.{CarriesOut};
 ghost use Rattle.plain_model.specs.Faults.{Returns};
 ghost use Rattle.surgeon_session.specs.Entries.{chosen_history, chosen_name};
+ghost use Rattle.surgeon_session.specs.Pieces.{StopsNear, bytes_read, refused};
 
 mod changing;
 mod choosing;
@@ -92,8 +93,12 @@ impl Session {
         store: &mut S,
         out: &mut T,
     ) -> Result<(), Halted>
-        ensures { CarriesOut (S.state store.old) (T.state out.old) self.old command.now result self.new
-            (S.state store.new) (T.state out.new) }
+        ensures carries { CarriesOut (S.state store.old) (T.state out.old) self.old command.now result
+            self.new (S.state store.new) (T.state out.new) }
+
+        // A refused `read` takes at most one piece of the file past the line that is refused.
+        ensures near { StopsNear (bytes_read (S.state store.old).files command.now) (refused result)
+            (S.state store.new).rest }
     {
         match command {
             Command::Read { file, name } => Ok(self.read(store, file, name)?),

@@ -3,7 +3,7 @@ use plain_model::{Fault, Items, Status, Text};
 use script_reader::{Command, Script};
 use std::alloc::Global;
 use std::test::Fail;
-use surgeon_store::{FileEntry, FileList, SureSink, SureStore};
+use surgeon_store::{FileEntry, FileList, Store, SureSink, SureStore};
 
 // A root that puts a file, and a reset to it; the marks aren't 1 and 2.
 const STREAM: &[u8] =
@@ -160,5 +160,54 @@ fn a_session_goes_on_from_command_to_command(rt: HostRuntime) -> Result<(), Fail
     for (line, want) in rows {
         assert_eq!(rt; answer(alloc, &mut session, line)?, want, "{line}");
     }
+    Ok(())
+}
+
+// A store with one file.
+fn one_file(alloc: Global, name: &[u8], bytes: Text) -> Result<SureStore, Fail> {
+    let mut files: FileList = Items::new(alloc)?;
+    files.push(FileEntry {
+        name: Items::of(alloc, name)?,
+        bytes,
+    })?;
+    Ok(SureStore::new(alloc, files)?)
+}
+
+#[test]
+fn a_file_of_several_pieces_is_read(rt: HostRuntime) -> Result<(), Fail> {
+    let alloc = rt.alloc();
+    let mut stream = Items::of(alloc, b"blob\nmark :1\ndata 200000\n")?;
+    for _ in 0..2000 {
+        stream.push_all(&[b'#'; 100])?;
+    }
+    stream.push(b'\n')?;
+    let mut store = one_file(alloc, b"large.fi", stream.copy()?)?;
+    let mut out = SureSink::new(alloc)?;
+    let script = Script::read(alloc, b"read <large.fi\nwrite")
+        .ok()
+        .ok_or("no script")?;
+    let mut session = Session::new(alloc)?;
+    let status = session.run(&script, false, &mut store, &mut out);
+    assert_eq!(rt; status, Status::Done);
+    assert!(rt; out.written().as_slice() == stream.as_slice());
+    Ok(())
+}
+
+#[test]
+fn no_more_is_read_once_a_line_is_refused(rt: HostRuntime) -> Result<(), Fail> {
+    let alloc = rt.alloc();
+    let mut stream = Items::of(alloc, b"x\n")?;
+    for _ in 0..2000 {
+        stream.push_all(&[b'#'; 100])?;
+    }
+    let mut store = one_file(alloc, b"u.fi", stream)?;
+    let mut out = SureSink::new(alloc)?;
+    let script = Script::read(alloc, b"read <u.fi").ok().ok_or("no script")?;
+    let mut session = Session::new(alloc)?;
+    let status = session.run(&script, false, &mut store, &mut out);
+    assert_eq!(rt; status, Status::Refused);
+    let refusal: &[u8] = b"surgeon: line 1: refused 10 BadStream line=1 why=UnknownLine\n";
+    assert!(rt; out.written().as_slice() == refusal);
+    assert_eq!(rt; store.read(&mut [0u8; 1]), Ok(1));
     Ok(())
 }

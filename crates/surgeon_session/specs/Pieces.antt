@@ -1,0 +1,45 @@
+-- How far a file is read of which a line is refused.
+use Rattle.std.specs.Prelude.{◌≡◌, ℕ, ◌+◌, ◌≤◌, ◌++◌, length, drop, Option, Some, None, Result, Err, option_and_then}
+use Rattle.std.specs.FinMap.{get}
+use Rattle.plain_model.specs.Files.{Files}
+use Rattle.plain_model.specs.Paths.{Bytes}
+use Rattle.plain_model.specs.declared.fault.Fault.{Fault}
+use Rattle.plain_model.specs.declared.fault.Fault.TheVariants as fault
+use Rattle.plain_model.specs.declared.fault.Why.TheVariants.{Truncated}
+use Rattle.line_automaton.specs.Machine.{first_lines}
+use Rattle.script_reader.specs.declared.command.Command.{Command}
+use Rattle.script_reader.specs.declared.command.Command.TheVariants as command
+use Rattle.surgeon_store.specs.declared.whole_files.ReadEnd.{ReadEnd}
+use Rattle.surgeon_store.specs.declared.whole_files.ReadEnd.TheVariants as ended
+use Rattle.surgeon_session.specs.declared.halted.Halted.{Halted}
+use Rattle.surgeon_session.specs.declared.halted.Halted.TheVariants as halted
+
+-- Where line n ends in an LF, the bytes that were taken reach at most 65,536 bytes past that LF.
+abbrev pub EndsNear : ℕ → Bytes → Option Bytes → Type 0
+EndsNear n bytes rest =
+    (others : Bytes) → bytes ≡ first_lines n bytes ++ others
+    → (k : ℕ) × (k ≤ length (first_lines n bytes) + 65536) × (rest ≡ Some (drop k bytes))
+
+-- Of a file's bytes this rest is left, where one of its lines is refused. That it ends too early isn't known before its end.
+abbrev pub StopsNear : Option Bytes → Option Fault → Option Bytes → Type 0
+StopsNear None refused rest = Unit {0}
+StopsNear (Some bytes) (Some (fault.BadStream n why)) rest = (why ≡ Truncated → ⊥) → EndsNear n bytes rest
+StopsNear (Some bytes) other rest = Unit {0}
+
+-- why a call is refused, if it is
+abbrev pub read_refused : {X : Type 0} → Result X ReadEnd → Option Fault
+read_refused (Err (ended.Refused fault)) = Some fault
+read_refused other = None
+
+abbrev pub refused : {X : Type 0} → Result X Halted → Option Fault
+refused (Err (halted.Refused fault)) = Some fault
+refused other = None
+
+-- the bytes of a file, where files are reported and it is there
+abbrev pub bytes_in : Option Files → Bytes → Option Bytes
+bytes_in files name = option_and_then (λ found. get found name) files
+
+-- the bytes of the file that a command reads
+abbrev pub bytes_read : Option Files → Command → Option Bytes
+bytes_read files (command.Read file name) = bytes_in files file
+bytes_read files other = None
