@@ -1,24 +1,24 @@
--- The command that is in a line. (reposurgeon manual, of each command word its section; what is at fault: own)
-use Rattle.std.specs.Prelude.{List, [], ◌∷◌, Option, Some, None, Result, Ok, Err, bytes_eq, codes, if◌then◌else◌}
+-- What a line orders: a command, or that a macro is run. (reposurgeon manual, of each command word its section; what is at fault: own)
+use Rattle.std.specs.Prelude.{List, [], ◌∷◌, length, nat_lt, Option, Some, None, Result, Ok, Err, bytes_eq, codes, if◌then◌else◌}
 use Rattle.plain_model.specs.Paths.{Bytes}
 use Rattle.plain_model.specs.declared.fault.Fault.{Fault}
 use Rattle.plain_model.specs.declared.fault.Fault.TheVariants as fault
+use Rattle.plain_model.specs.declared.fault.Which.TheVariants as limit
+use Rattle.plain_model.specs.declared.limit.TheConstants.{MAX_LINE_BYTES}
+use Rattle.script_reader.specs.Answering.{◌>>=◌}
 use Rattle.script_reader.specs.Names.{repo_name, is_repo_name}
 use Rattle.script_reader.specs.Redirections.{begins_with_sign, redirected}
 use Rattle.script_reader.specs.Words.{head_of, after_head, words_of, text_of}
 use Rattle.script_reader.specs.declared.command.Command.{Command}
 use Rattle.script_reader.specs.declared.command.Command.TheVariants as command
+use Rattle.script_reader.specs.declared.command.Call.{Call}
+use Rattle.script_reader.specs.declared.command.Order.{Order}
+use Rattle.script_reader.specs.declared.command.Order.TheVariants as order
 use Rattle.script_reader.specs.declared.keyword.Keyword.{Keyword}
 use Rattle.script_reader.specs.declared.keyword.Keyword.TheVariants as keyword
 use Rattle.script_reader.specs.declared.redirection.Direction.TheVariants.{Input, Output}
 use Rattle.script_reader.specs.declared.word.Word.{Word}
 use Rattle.script_reader.specs.declared.word.Word.TheVariants.{Plain, Quoted, Broken}
-
--- a step after one that may be refused
-infixl 10 ◌>>=◌
-abbrev pub ◌>>=◌ : {A B : Type 0} → Result A Fault → (A → Result B Fault) → Result B Fault
-Ok x >>= f = f x
-Err why >>= f = Err why
 
 -- ---- words at fault
 
@@ -38,6 +38,22 @@ abbrev pub name_in : Word → Option Bytes
 name_in (Plain text) = if begins_with_sign text then None else Some text
 name_in (Quoted text) = Some text
 name_in (Broken rest) = None
+
+-- a word as a name that isn't the last word, where `<` and `>` are no signs
+abbrev pub whole_in : Word → Option Bytes
+whole_in (Plain text) = Some text
+whole_in (Quoted text) = Some text
+whole_in (Broken rest) = None
+
+-- a word as a text, before such others
+abbrev pub text_before : List Word → Word → Option Bytes
+text_before [] word = name_in word
+text_before (next ∷ words) word = whole_in word
+
+-- all words as texts; the last one is no redirection
+abbrev pub texts_in : List Word → Result (List Bytes) Fault
+texts_in [] = Ok []
+texts_in (word ∷ words) = or_at_fault word (text_before words word) >>= λ text. texts_in words >>= λ texts. Ok (text ∷ texts)
 
 -- a value after which no word is
 abbrev pub alone : {A : Type 0} → A → List Word → Result A Fault
@@ -107,16 +123,27 @@ index_form words = output_in words >>= λ to. Ok (command.Index to)
 unfoldable pub names_form : List Word → Result Command Fault
 names_form words = output_in words >>= λ to. Ok (command.Names to)
 
--- the command of a command word and the words after it
-abbrev pub form_of : Keyword → List Word → Result Command Fault
-form_of keyword.Read words = read_form words
-form_of keyword.Write words = write_form words
-form_of keyword.Choose words = choose_form words
-form_of keyword.Drop words = drop_form words
-form_of keyword.Renumber words = renumber_form words
-form_of keyword.List words = list_form words
-form_of keyword.Index words = index_form words
-form_of keyword.Names words = names_form words
+-- `do NAME [WORD ..]`
+unfoldable pub do_form : List Word → Result Call Fault
+do_form [] = Err (fault.BadWords (codes "do"))
+do_form (word ∷ words) =
+    or_at_fault word (text_before words word) >>= λ name. texts_in words >>= λ texts. Ok (record { name = name; words = texts })
+
+abbrev pub steps : Result Command Fault → Result Order Fault
+steps command = command >>= λ what. Ok (order.Step what)
+
+-- the order of a command word and the words after it; a `define` that is run is no definition
+abbrev pub form_of : Keyword → List Word → Result Order Fault
+form_of keyword.Read words = steps (read_form words)
+form_of keyword.Write words = steps (write_form words)
+form_of keyword.Choose words = steps (choose_form words)
+form_of keyword.Drop words = steps (drop_form words)
+form_of keyword.Renumber words = steps (renumber_form words)
+form_of keyword.List words = steps (list_form words)
+form_of keyword.Index words = steps (index_form words)
+form_of keyword.Names words = steps (names_form words)
+form_of keyword.Do words = do_form words >>= λ call. Ok (order.Do call)
+form_of keyword.Define words = Err (fault.BadWords (codes "define"))
 
 -- ---- a line
 
@@ -130,14 +157,18 @@ keyword_of word =
     if bytes_eq word (codes "renumber") then Some keyword.Renumber else
     if bytes_eq word (codes "list") then Some keyword.List else
     if bytes_eq word (codes "index") then Some keyword.Index else
-    if bytes_eq word (codes "names") then Some keyword.Names else None
+    if bytes_eq word (codes "names") then Some keyword.Names else
+    if bytes_eq word (codes "do") then Some keyword.Do else
+    if bytes_eq word (codes "define") then Some keyword.Define else None
 
--- the command of such a word, if it is one
-abbrev pub command_in : Bytes → Option Keyword → List Word → Result Command Fault
-command_in head None words = Err (fault.UnknownCommand head)
-command_in head (Some word) words = form_of word words
+-- the order of such a word, if it is one
+abbrev pub order_in : Bytes → Option Keyword → List Word → Result Order Fault
+order_in head None words = Err (fault.UnknownCommand head)
+order_in head (Some word) words = form_of word words
 
--- The command of a line that was trimmed: its command word goes up to the first blank. A line that doesn't begin with
--- a letter has none of these words.
-unfoldable pub command_of : Bytes → Result Command Fault
-command_of line = command_in (head_of line) (keyword_of (head_of line)) (words_of (after_head line))
+-- The order of a line that was trimmed, if it isn't too long: its command word goes up to the first blank. A line that doesn't
+-- begin with a letter has none of these words.
+unfoldable pub order_of : Bytes → Result Order Fault
+order_of line =
+    if nat_lt MAX_LINE_BYTES (length line) then Err (fault.ExpansionLimit limit.LineBytes MAX_LINE_BYTES)
+    else order_in (head_of line) (keyword_of (head_of line)) (words_of (after_head line))

@@ -1,14 +1,15 @@
-//! Commands, as they are in a line.
+//! What a line orders: a command, or that a macro is run.
 ghost use Rattle.plain_model.specs.Faults.{Returns};
 ghost use Rattle.script_reader.specs.Answering.{Refuses};
-ghost use Rattle.script_reader.specs.Commands.{command_of};
+ghost use Rattle.script_reader.specs.Commands.{order_of};
 ghost use Rattle.plain_model.specs.declared.fault.Fault.TheVariants.{UnknownCommand};
 
 use crate::form::form;
 use crate::keyword::Keyword;
+use crate::script::LineList;
 use crate::script_text::ScriptText;
 use crate::words::{cut_head, words_in};
-use plain_model::{Fault, Halt, Items, NoMemory, Text};
+use plain_model::{Fault, Halt, Items, MAX_LINE_BYTES, NoMemory, Text, Which};
 use std::alloc::Global;
 
 /// A command as it was read: its words fit, and nothing was looked up yet. (reposurgeon manual, the
@@ -37,6 +38,22 @@ pub enum Command {
     Names { to: Option<ScriptText> },
 }
 
+/// A macro that is to be run, and the words for its places.
+#[derive(Drop)]
+pub struct Call {
+    pub name: ScriptText,
+    pub words: LineList,
+}
+
+/// What a line of a script orders.
+#[derive(Drop)]
+pub enum Order {
+    /// A command of a session.
+    Step(Command),
+    /// The lines of a macro are run.
+    Do(Call),
+}
+
 // The refusal of a command word.
 fn unknown(alloc: Global, word: &str) -> Halt
     ensures { Refuses result (UnknownCommand word.now) }
@@ -47,13 +64,19 @@ fn unknown(alloc: Global, word: &str) -> Halt
     }
 }
 
-impl Command {
-    /// Reads a line without blanks and CR at its ends. Refused with its command word where there is no
+impl Order {
+    /// Reads a line without blanks and CR at its ends. Refused where it is too long, with its command word where there is no
     /// such command, else with its first word that doesn't fit.
-    #[tactic(auto, unfolding(crate::specs::Commands::command_of))]
-    pub fn read(alloc: Global, line: &str) -> Result<Command, Halt>
-        ensures { Returns (λ command. command) result (command_of line.now) }
+    #[tactic(auto, unfolding(crate::specs::Commands::order_of))]
+    pub fn read(alloc: Global, line: &str) -> Result<Order, Halt>
+        ensures { Returns (λ order. order) result (order_of line.now) }
     {
+        if line.len() as u64 > MAX_LINE_BYTES {
+            return Err(Halt::Refused(Fault::ExpansionLimit {
+                which: Which::LineBytes,
+                number: MAX_LINE_BYTES,
+            }));
+        }
         let (head, after) = cut_head(line);
         match Keyword::of(head.as_bytes()) {
             Some(keyword) => {

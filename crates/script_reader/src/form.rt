@@ -5,6 +5,7 @@ ghost use Rattle.plain_model.specs.Faults.{Returns};
 ghost use Rattle.script_reader.specs.Answering.{Refuses};
 ghost use Rattle.script_reader.specs.Commands.{
   choose_form,
+  do_form,
   drop_form,
   form_of,
   index_form,
@@ -17,15 +18,18 @@ ghost use Rattle.script_reader.specs.Commands.{
   read_form,
   read_of,
   renumber_form,
+  text_before,
+  texts_in,
   write_form,
 };
 ghost use Rattle.script_reader.specs.Redirections.{redirected};
 ghost use Rattle.script_reader.specs.Words.{text_of};
 
-use crate::command::Command;
+use crate::command::{Call, Command, Order};
 use crate::keyword::Keyword;
 use crate::redirection::{Direction, begins_with_sign, redirected};
 use crate::repo_name::{is_repo_name, repo_name};
+use crate::script::LineList;
 use crate::script_text::ScriptText;
 use crate::word::Word;
 use plain_model::{Fault, Halt, Items, NoMemory, Text};
@@ -194,18 +198,60 @@ fn names(alloc: Global, words: &[Word]) -> Result<Command, Halt>
     Ok(Command::Names { to })
 }
 
-/// The command of a command word and the words after it.
-pub fn form(alloc: Global, keyword: Keyword, words: &[Word]) -> Result<Command, Halt>
-    ensures { Returns (λ command. command) result (form_of keyword words.now) }
+// A word as a text, before such others. Only the last word can be a redirection.
+fn text_before(alloc: Global, others: &[Word], word: &Word) -> Result<ScriptText, Halt>
+    ensures { Returns (λ text. text) result
+        (or_at_fault word.now (text_before others.now word.now)) }
 {
-    match keyword {
-        Keyword::Read => read(alloc, words),
-        Keyword::Write => write(alloc, words),
-        Keyword::Choose => choose(alloc, words),
-        Keyword::Drop => forget(alloc, words),
-        Keyword::Renumber => renumber(alloc, words),
-        Keyword::List => list(alloc, words),
-        Keyword::Index => index(alloc, words),
-        Keyword::Names => names(alloc, words),
+    match word {
+        Word::Plain(text) if !others.is_empty() || !begins_with_sign(text.as_bytes()) => {
+            Ok(ScriptText::of(alloc, text.as_str())?)
+        }
+        Word::Quoted(text) => Ok(ScriptText::of(alloc, text.as_str())?),
+        _ => Err(at_fault(alloc, word)),
     }
+}
+
+// All words as texts.
+fn texts_in(alloc: Global, words: &[Word]) -> Result<LineList, Halt>
+    ensures { Returns (λ texts. texts) result (texts_in words.now) }
+{
+    let mut texts = Items::new(alloc)?;
+    for (i, word) in words.iter().enumerate() {
+        texts.push(text_before(alloc, &words[i + 1..], word)?)?;
+    }
+    Ok(texts)
+}
+
+// `do NAME [WORD ..]`
+#[tactic(auto, unfolding(crate::specs::Commands::do_form))]
+fn call(alloc: Global, words: &[Word]) -> Result<Call, Halt>
+    ensures { Returns (λ call. call) result (do_form words.now) }
+{
+    match words {
+        [] => Err(bad_words(alloc, b"do")),
+        [word, others @ ..] => Ok(Call {
+            name: text_before(alloc, others, word)?,
+            words: texts_in(alloc, others)?,
+        }),
+    }
+}
+
+/// The order of a command word and the words after it.
+pub fn form(alloc: Global, keyword: Keyword, words: &[Word]) -> Result<Order, Halt>
+    ensures { Returns (λ order. order) result (form_of keyword words.now) }
+{
+    let command = match keyword {
+        Keyword::Read => read(alloc, words)?,
+        Keyword::Write => write(alloc, words)?,
+        Keyword::Choose => choose(alloc, words)?,
+        Keyword::Drop => forget(alloc, words)?,
+        Keyword::Renumber => renumber(alloc, words)?,
+        Keyword::List => list(alloc, words)?,
+        Keyword::Index => index(alloc, words)?,
+        Keyword::Names => names(alloc, words)?,
+        Keyword::Do => return Ok(Order::Do(call(alloc, words)?)),
+        Keyword::Define => return Err(bad_words(alloc, b"define")),
+    };
+    Ok(Order::Step(command))
 }

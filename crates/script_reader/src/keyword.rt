@@ -13,6 +13,8 @@ pub enum Keyword {
     List,
     Index,
     Names,
+    Do,
+    Define,
 }
 
 impl Keyword {
@@ -37,6 +39,10 @@ impl Keyword {
             Some(Keyword::Index)
         } else if word == b"names".as_slice() {
             Some(Keyword::Names)
+        } else if word == b"do".as_slice() {
+            Some(Keyword::Do)
+        } else if word == b"define".as_slice() {
+            Some(Keyword::Define)
         } else {
             None
         }
