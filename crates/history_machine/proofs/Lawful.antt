@@ -17,13 +17,19 @@ use Rattle.plain_model.specs.Lookups.{alias_count}
 use Rattle.line_automaton.specs.Machine.{all, begun, run}
 use Rattle.stream_grammar.specs.Limits.{ops_in, stream_of, stream_within}
 use Rattle.renumbering.specs.Renumbered.{all_marked, renumbered}
-use Rattle.script_reader.specs.Commands.{command_of}
+use Rattle.script_reader.specs.Commands.{order_of}
+use Rattle.script_reader.specs.Macros.{called}
 use Rattle.script_reader.specs.declared.command.Command.{Command}
 use Rattle.script_reader.specs.declared.command.Command.TheVariants as command
+use Rattle.script_reader.specs.declared.command.Order.{Order}
+use Rattle.script_reader.specs.declared.command.Order.TheVariants as order
+use Rattle.script_reader.specs.declared.script.ScriptLine.{ScriptLine}
+use Rattle.script_reader.specs.declared.script.ScriptLine.TheVariants.{Define, Plain}
 use Rattle.history_machine.specs.Lawful.{IsLawful, IsLawfulHistory}
-use Rattle.history_machine.specs.Loading.{◌>>=◌, loaded, over, read_of}
+use Rattle.script_reader.specs.Answering.{◌>>=◌}
+use Rattle.history_machine.specs.Loading.{loaded, over, read_of}
 use Rattle.history_machine.specs.Machine.{Turn}
-use Rattle.history_machine.specs.Sessions.{Repo, Session, changes, after_choose, chosen, after_drop_chosen, after_drop, find_repo, line_step, after_read, after_renumber, room, step, reports, there, unless, unused, with_history, without_repo}
+use Rattle.history_machine.specs.Sessions.{Repo, Session, calling, changes, after_choose, chosen, after_drop_chosen, after_drop, find_repo, line_step, ordered, after_read, after_renumber, room, step, reports, there, unless, unused, with_history, without_repo}
 use Rattle.history_machine.proofs.Steps.{found}
 
 abbrev AreLawful : List Repo → Type 0
@@ -56,8 +62,8 @@ well_after (Err why) f h = tt
 -- ---- the load list
 
 -- with one more, which is chosen
-abbrev with_repo : List Repo → Bytes → List PlainEvent → Session
-with_repo repos name history = record { repos = repos ++ record { name = name; history = history } ∷ []; choice = Some name }
+abbrev with_repo : Session → List Repo → Bytes → List PlainEvent → Session
+with_repo s repos name history = record s { repos = repos ++ record { name = name; history = history } ∷ []; choice = Some name }
 
 more : (repos : List Repo) (r : Repo) → AreLawful repos → IsLawfulHistory r.history → AreLawful (repos ++ r ∷ [])
 more [] r h k = (k, tt)
@@ -152,19 +158,19 @@ module _
     read_well : (s : Session) (files : Files) (file name : Bytes) → IsLawful s → ChangesWell (after_read s files file name)
     unfolding after_read
     read_well s files file name h =
-        well_after (room s.repos) (λ repos. unused name (find_repo name repos) >>= λ free. loaded files file >>= λ history. Ok (with_repo repos free history)) (λ repos is.
-        well_after (unused name (find_repo name repos)) (λ free. loaded files file >>= λ history. Ok (with_repo repos free history)) (λ free is_free.
-        well_after (loaded files file) (λ history. Ok (with_repo repos free history)) (λ history is_read.
+        well_after (room s.repos) (λ repos. unused name (find_repo name repos) >>= λ free. loaded files file >>= λ history. Ok (with_repo s repos free history)) (λ repos is.
+        well_after (unused name (find_repo name repos)) (λ free. loaded files file >>= λ history. Ok (with_repo s repos free history)) (λ free is_free.
+        well_after (loaded files file) (λ history. Ok (with_repo s repos free history)) (λ history is_read.
         more repos (record { name = free; history = history }) (subst AreLawful (room_same s.repos repos is) h) (loaded_lawful files file history is_read))))
 
     choose_well : (s : Session) (name : Bytes) → IsLawful s → ChangesWell (after_choose s name)
     unfolding after_choose
-    choose_well s name h = well_after (there name (find_repo name s.repos)) (λ history. Ok (record { repos = s.repos; choice = Some name })) (λ history is. h)
+    choose_well s name h = well_after (there name (find_repo name s.repos)) (λ history. Ok (record s { choice = Some name })) (λ history is. h)
 
     drop_well : (s : Session) (name : Bytes) → IsLawful s → ChangesWell (after_drop s name)
     unfolding after_drop
     drop_well s name h =
-        well_after (there name (find_repo name s.repos)) (λ history. Ok (record { repos = without_repo name s.repos; choice = unless name s.choice })) (λ history is. without name s.repos h)
+        well_after (there name (find_repo name s.repos)) (λ history. Ok (record s { repos = without_repo name s.repos; choice = unless name s.choice })) (λ history is. without name s.repos h)
 
     drop_chosen_well : (s : Session) → IsLawful s → ChangesWell (after_drop_chosen s)
     unfolding after_drop_chosen
@@ -173,7 +179,7 @@ module _
     renumber_well : (s : Session) → IsLawful s → ChangesWell (after_renumber s)
     unfolding after_renumber
     renumber_well s h =
-        well_after (chosen s) (λ repo. Ok (record { repos = with_history repo.name (renumbered repo.history) s.repos; choice = s.choice }))
+        well_after (chosen s) (λ repo. Ok (record s { repos = with_history repo.name (renumbered repo.history) s.repos }))
         (λ repo is. with_new repo.name (renumbered repo.history) s.repos h (renumbered_lawful repo.history (chosen_lawful s repo is h)))
 
     step_well : (s : Session) (files : Files) (what : Command) → IsLawful s → GoesWell (step s files what)
@@ -189,16 +195,26 @@ module _
     step_well s files (command.Index to) h = reports_well s to _ h
     step_well s files (command.Names to) h = reports_well s to _ h
 
-    line_well : (s : Session) (files : Files) (words : Bytes) → IsLawful s → GoesWell (line_step s files words)
-    unfolding line_step
-    line_well s files words h = go (command_of words)
+    ordered_well : (s : Session) (files : Files) (depth : ℕ) (what : Order) → IsLawful s → GoesWell (ordered s files depth what)
+    ordered_well s files depth (order.Step what) h = step_well s files what h
+    ordered_well s files depth (order.Do call) h = go (called s.macros call.name call.words (depth + 1))
       where
-        go : (r : Result Command Fault) → GoesWell (r >>= λ what. step s files what)
-        go (Ok what) = step_well s files what h
+        go : (r : Result (List Bytes) Fault) → GoesWell (r >>= λ lines. Ok (calling s lines))
+        go (Ok lines) = h
+        go (Err why) = tt
+
+    line_well : (s : Session) (files : Files) (depth : ℕ) (what : ScriptLine) → IsLawful s → GoesWell (line_step s files depth what)
+    unfolding line_step
+    line_well s files depth (Define name body) h = h
+    line_well s files depth (Plain text) h = go (order_of text)
+      where
+        go : (r : Result Order Fault) → GoesWell (r >>= ordered s files depth)
+        go (Ok what) = ordered_well s files depth what h
         go (Err why) = tt
 
     pub step_keeps : (s : Session) (files : Files) (what : Command) (t : Turn Session) → step s files what ≡ Ok t → IsLawful s → IsLawful t.session
     step_keeps s files what t is h = subst GoesWell is (step_well s files what h)
 
-    pub line_keeps : (s : Session) (files : Files) (words : Bytes) (t : Turn Session) → line_step s files words ≡ Ok t → IsLawful s → IsLawful t.session
-    line_keeps s files words t is h = subst GoesWell is (line_well s files words h)
+    pub line_keeps : (s : Session) (files : Files) (depth : ℕ) (what : ScriptLine) (t : Turn Session) → line_step s files depth what ≡ Ok t
+        → IsLawful s → IsLawful t.session
+    line_keeps s files depth what t is h = subst GoesWell is (line_well s files depth what h)

@@ -11,7 +11,7 @@ use Rattle.plain_model.specs.declared.fault.Fault.{Fault}
 use Rattle.script_reader.specs.declared.command.Command.TheVariants as command
 use Rattle.renumbering.specs.Renumbered.{renumbered}
 use Rattle.history_machine.specs.Kept.{KeepsTrees, KeepTrees}
-use Rattle.history_machine.specs.Loading.{◌>>=◌}
+use Rattle.script_reader.specs.Answering.{◌>>=◌}
 use Rattle.history_machine.specs.Machine.{Turn}
 use Rattle.history_machine.specs.Sessions.{Repo, Session, changes, chosen, chosen_by, find_repo, or_no_repo, quiet, after_renumber, sends, step, reports, with_history}
 
@@ -85,9 +85,9 @@ module _
     renumber_keeps s files t h = go (chosen s) refl h
       where
         go : (r : Result Repo Fault) → chosen s ≡ r
-            → changes (r >>= λ repo. Ok (record { repos = with_history repo.name (renumbered repo.history) s.repos; choice = s.choice })) ≡ Ok t
+            → changes (r >>= λ repo. Ok (record s { repos = with_history repo.name (renumbered repo.history) s.repos })) ≡ Ok t
             → KeepTrees s.repos t.session.repos
         go (Err why) e h = absurd cc
         go (Ok repo) e h =
-            let is : quiet (record { repos = with_history repo.name (renumbered repo.history) s.repos; choice = s.choice }) ≡ t = cc in
+            let is : quiet (record s { repos = with_history repo.name (renumbered repo.history) s.repos }) ≡ t = cc in
             subst (λ (u : Turn Session). KeepTrees s.repos u.session.repos) is (kept_with repo.name repo.history s.repos (found s repo e))

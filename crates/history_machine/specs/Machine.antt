@@ -1,14 +1,19 @@
 -- The plain machine: what a run of commands writes and prints, one command after another. It knows no command: what
 -- one line does is a parameter.
-use Rattle.std.specs.Prelude.{◌≡◌, ◌⊎◌, ℕ, zero, suc, Bool, true, false, not, List, [], ◌∷◌, ◌++◌, take, Option, Some, None, Result, Ok, Err, if◌then◌else◌}
+use Rattle.std.specs.Prelude.{◌≡◌, ◌⊎◌, ℕ, zero, suc, ◌+◌, ◌&&◌, Bool, true, false, not, List, [], ◌∷◌, ◌++◌, map, take, Option, Some, None, Result, Ok, Err, if◌then◌else◌}
 use Rattle.std.specs.FinMap.{insert}
 use Rattle.plain_model.specs.Files.{Files}
 use Rattle.plain_model.specs.Faults.{refusal}
 use Rattle.plain_model.specs.Paths.{Bytes}
 use Rattle.plain_model.specs.declared.fault.Fault.{Fault}
+use Rattle.plain_model.specs.declared.fault.Fault.TheVariants as fault
+use Rattle.plain_model.specs.declared.fault.Which.TheVariants.{Commands, LineBytes}
+use Rattle.plain_model.specs.declared.limit.TheConstants.{MAX_COMMANDS, MAX_LINE_BYTES}
 use Rattle.plain_model.specs.declared.status.Status.{Status}
 use Rattle.plain_model.specs.declared.status.Status.TheVariants as status
-use Rattle.script_reader.specs.declared.script.ScriptItem.{ScriptItem}
+use Rattle.script_reader.specs.Commands.{is_long}
+use Rattle.script_reader.specs.declared.script.ScriptLine.{ScriptLine}
+use Rattle.script_reader.specs.declared.script.ScriptLine.TheVariants.{Define, Plain}
 
 -- ---- what a run is made of
 
@@ -17,15 +22,23 @@ pub record World : Type 0 where
   pub files : Files
   pub printed : Bytes
 
--- what a command leaves: a session, and bytes that are the whole of a file or are printed
+-- what a command leaves: a session, bytes that are the whole of a file or are printed, and lines that are run next
 pub record Turn (X : Type 0) : Type 0 where
   pub session : X
   -- the file's name; none where the bytes are printed
   pub to : Option Bytes
   pub bytes : Bytes
+  pub calls : List Bytes
 
--- the commands that a run carries out, done or refused, and how it ends
+-- a line that waits to be run: for which line of the script, and inside how many macros
+pub record Waiting : Type 0 where
+  pub line : ℕ
+  pub depth : ℕ
+  pub what : ScriptLine
+
+-- the lines that a run carries out, done or refused, what each leaves, and how the run ends
 pub record Run (X : Type 0) : Type 0 where
+  pub ran : List ScriptLine
   pub turns : List (Turn X)
   pub status : Status
 
@@ -108,44 +121,53 @@ SessionEndsAs run answer s w s' now = SessionCompletes run answer s w s' now
 -- a command that is refused leaves the session as it was, and a line is printed
 abbrev pub turn_of : {X : Type 0} → X → ℕ → Result (Turn X) Fault → Turn X
 turn_of s line (Ok t) = t
-turn_of s line (Err fault) = record { session = s; to = None; bytes = refusal line fault }
+turn_of s line (Err fault) = record { session = s; to = None; bytes = refusal line fault; calls = [] }
 
--- a refusal ends the run, unless it is to keep going
+-- a limit of runs is passed
+abbrev pub passes_limit : Fault → Bool
+passes_limit (fault.ExpansionLimit which number) = true
+passes_limit other = false
+
+-- a refusal ends the run, unless it is to keep going; one by a limit of runs always does
 abbrev pub goes_on : {X : Type 0} → Bool → Result (Turn X) Fault → Bool
 goes_on keep (Ok t) = true
-goes_on keep (Err fault) = keep
+goes_on keep (Err fault) = keep && not (passes_limit fault)
 
 -- how a run ends that has such a status so far, if nothing else is refused after this command
 abbrev pub status_after : {X : Type 0} → Status → Result (Turn X) Fault → Status
 status_after so_far (Ok t) = so_far
 status_after so_far (Err fault) = status.Refused
 
--- whether a run stops after a command that ends so
-abbrev pub stops : Bool → Status → Bool
-stops keep status.Done = false
-stops keep status.Refused = not keep
-stops keep other = true
-
--- the same as `status_after`, by how the command ended
-abbrev pub so_far_after : Status → Status → Status
-so_far_after so_far status.Refused = status.Refused
-so_far_after so_far other = so_far
-
 -- ---- a run of lines
 
--- a run with a command put before it
-abbrev pub with_first : {X : Type 0} → Turn X → Run X → Run X
-with_first t run = record { turns = t ∷ run.turns; status = run.status }
+-- the lines that a macro puts in the place of one that waited
+abbrev pub called_by : Waiting → List Bytes → List Waiting
+called_by w lines = map (λ text. record { line = w.line; depth = w.depth + 1; what = Plain text }) lines
 
--- what one line does to a session among files is `step`
-module _ {X : Type 0} (step : X → Files → Bytes → Result (Turn X) Fault) (keep_going : Bool) where
-  -- the run of lines from a session among files, where the lines before give such a status
-  abbrev pub run_on : Status → X → Files → List ScriptItem → Run X
-  run_on so_far s files [] = record { turns = []; status = so_far }
-  run_on so_far s files (item ∷ items) =
-      let done = step s files item.text in
-      let t = turn_of s item.line done in
-      with_first t (
+-- what is reported of the line after the last one that may be run: its own length comes first
+abbrev pub past : ScriptLine → Fault
+past (Define name body) = fault.ExpansionLimit Commands MAX_COMMANDS
+past (Plain text) = if is_long text then fault.ExpansionLimit LineBytes MAX_LINE_BYTES else fault.ExpansionLimit Commands MAX_COMMANDS
+
+-- a run with a line put before it
+abbrev pub with_first : {X : Type 0} → ScriptLine → Turn X → Run X → Run X
+with_first what t run = record { ran = what ∷ run.ran; turns = t ∷ run.turns; status = run.status }
+
+-- nothing more is run
+abbrev pub ended : {X : Type 0} → Status → Run X
+ended status = record { ran = []; turns = []; status = status }
+
+-- what one line does to a session among files, inside so many macros, is `step`
+module _ {X : Type 0} (step : X → Files → ℕ → ScriptLine → Result (Turn X) Fault) (keep_going : Bool) where
+  -- The run of the lines that wait, from a session among files, where the lines before give such a status and so many more may be
+  -- run. What a line calls is run before what waited after it.
+  abbrev pub run_on : ℕ → Status → X → Files → List Waiting → Run X
+  run_on left so_far s files [] = ended so_far
+  run_on zero so_far s files (w ∷ ws) = with_first w.what (turn_of s w.line (Err (past w.what))) (ended status.Refused)
+  run_on (suc left) so_far s files (w ∷ ws) =
+      let done = step s files w.depth w.what in
+      let t = turn_of s w.line done in
+      with_first w.what t (
       if goes_on keep_going done
-      then run_on (status_after so_far done) t.session (files_after t.to t.bytes files) items
-      else record { turns = []; status = status.Refused })
+      then run_on left (status_after so_far done) t.session (files_after t.to t.bytes files) (called_by w t.calls ++ ws)
+      else ended status.Refused)

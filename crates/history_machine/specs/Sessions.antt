@@ -1,6 +1,6 @@
 -- A session, and its commands, each a definition of its own (reposurgeon manual, the commands of the same names; where it is
 -- vague: own).
-use Rattle.std.specs.Prelude.{List, [], ◌∷◌, ◌++◌, length, map, flat_map, codes, bytes_eq, nat_lt, Option, Some, None, Result, Ok, Err, if◌then◌else◌}
+use Rattle.std.specs.Prelude.{ℕ, ◌+◌, List, [], ◌∷◌, ◌++◌, length, map, flat_map, codes, bytes_eq, nat_lt, Option, Some, None, Result, Ok, Err, if◌then◌else◌}
 use Rattle.plain_model.specs.Files.{Files}
 use Rattle.plain_model.specs.Lookups.{id_of}
 use Rattle.plain_model.specs.Paths.{Bytes}
@@ -11,10 +11,16 @@ use Rattle.plain_model.specs.declared.fault.Fault.{Fault}
 use Rattle.plain_model.specs.declared.fault.Fault.TheVariants as fault
 use Rattle.listing.specs.Listings.{list_text, index_text, names_text}
 use Rattle.renumbering.specs.Renumbered.{renumbered}
-use Rattle.script_reader.specs.Commands.{command_of}
+use Rattle.script_reader.specs.Answering.{◌>>=◌}
+use Rattle.script_reader.specs.Commands.{order_of}
+use Rattle.script_reader.specs.Macros.{Macro, called, with_macro}
 use Rattle.script_reader.specs.declared.command.Command.{Command}
 use Rattle.script_reader.specs.declared.command.Command.TheVariants as command
-use Rattle.history_machine.specs.Loading.{loaded, ◌>>=◌}
+use Rattle.script_reader.specs.declared.command.Order.{Order}
+use Rattle.script_reader.specs.declared.command.Order.TheVariants as order
+use Rattle.script_reader.specs.declared.script.ScriptLine.{ScriptLine}
+use Rattle.script_reader.specs.declared.script.ScriptLine.TheVariants.{Define, Plain}
+use Rattle.history_machine.specs.Loading.{loaded}
 use Rattle.history_machine.specs.Machine.{Turn}
 
 -- ---- what a session holds
@@ -24,14 +30,15 @@ pub record Repo : Type 0 where
   pub name : Bytes
   pub history : List PlainEvent
 
--- the load list in its order, and the name of the repository that is chosen, if one is
+-- the load list in its order, the name of the repository that is chosen, if one is, and the macros
 pub record Session : Type 0 where
   pub repos : List Repo
   pub choice : Option Bytes
+  pub macros : List Macro
 
--- nothing is loaded
+-- nothing is loaded, and nothing defined
 abbrev pub empty_session : Session
-empty_session = record { repos = []; choice = None }
+empty_session = record { repos = []; choice = None; macros = [] }
 
 -- ---- the load list
 
@@ -86,11 +93,11 @@ chosen s = chosen_by s.repos s.choice
 unfoldable pub after_read : Session → Files → Bytes → Bytes → Result Session Fault
 after_read s files file name =
     room s.repos >>= λ repos. unused name (find_repo name repos) >>= λ free. loaded files file >>= λ history.
-    Ok (record { repos = repos ++ record { name = free; history = history } ∷ []; choice = Some free })
+    Ok (record s { repos = repos ++ record { name = free; history = history } ∷ []; choice = Some free })
 
 -- `choose NAME`
 unfoldable pub after_choose : Session → Bytes → Result Session Fault
-after_choose s name = there name (find_repo name s.repos) >>= λ history. Ok (record { repos = s.repos; choice = Some name })
+after_choose s name = there name (find_repo name s.repos) >>= λ history. Ok (record s { choice = Some name })
 
 -- the choice, unless it is of this name
 abbrev pub unless : Bytes → Option Bytes → Option Bytes
@@ -100,7 +107,7 @@ unless name (Some choice) = if bytes_eq name choice then None else Some choice
 -- `drop NAME`: the repository is forgotten; if it was chosen, none is from then on
 unfoldable pub after_drop : Session → Bytes → Result Session Fault
 after_drop s name =
-    there name (find_repo name s.repos) >>= λ history. Ok (record { repos = without_repo name s.repos; choice = unless name s.choice })
+    there name (find_repo name s.repos) >>= λ history. Ok (record s { repos = without_repo name s.repos; choice = unless name s.choice })
 
 -- `drop`: the same of the chosen repository
 unfoldable pub after_drop_chosen : Session → Result Session Fault
@@ -109,7 +116,7 @@ after_drop_chosen s = chosen s >>= λ repo. after_drop s repo.name
 -- `renumber`: blobs and commits have the marks 1, 2, 3 and so on
 unfoldable pub after_renumber : Session → Result Session Fault
 after_renumber s =
-    chosen s >>= λ repo. Ok (record { repos = with_history repo.name (renumbered repo.history) s.repos; choice = s.choice })
+    chosen s >>= λ repo. Ok (record s { repos = with_history repo.name (renumbered repo.history) s.repos })
 
 -- the line of a repository, by the name that is chosen
 abbrev pub repo_line : Option Bytes → Repo → Bytes
@@ -135,11 +142,11 @@ index_all events = index_text events (map id_of events)
 
 -- the session is another, and nothing is sent
 abbrev pub quiet : Session → Turn Session
-quiet s = record { session = s; to = None; bytes = [] }
+quiet s = record { session = s; to = None; bytes = []; calls = [] }
 
 -- a text is printed, or is the whole of a file, and the session is the same
 abbrev pub sends : Session → Option Bytes → Bytes → Turn Session
-sends s to bytes = record { session = s; to = to; bytes = bytes }
+sends s to bytes = record { session = s; to = to; bytes = bytes; calls = [] }
 
 -- a change of the session
 abbrev pub changes : Result Session Fault → Result (Turn Session) Fault
@@ -161,6 +168,22 @@ step s files (command.List to) = reports s to (of_chosen s list_all)
 step s files (command.Index to) = reports s to (of_chosen s index_all)
 step s files (command.Names to) = reports s to (of_chosen s names_text)
 
--- one line of a script: its command, or why it is none, and then what that does
-unfoldable pub line_step : Session → Files → Bytes → Result (Turn Session) Fault
-line_step s files words = command_of words >>= λ command. step s files command
+-- ---- one line
+
+-- the session is the same, and these lines are run next
+abbrev pub calling : Session → List Bytes → Turn Session
+calling s lines = record { session = s; to = None; bytes = []; calls = lines }
+
+-- `define NAME BODY`
+abbrev pub defining : Session → Bytes → List Bytes → Session
+defining s name body = record s { macros = with_macro name body s.macros }
+
+-- an order, inside so many macros: the body of one more is one deeper
+abbrev pub ordered : Session → Files → ℕ → Order → Result (Turn Session) Fault
+ordered s files depth (order.Step what) = step s files what
+ordered s files depth (order.Do call) = called s.macros call.name call.words (depth + 1) >>= λ lines. Ok (calling s lines)
+
+-- one line that is run, inside so many macros: a definition, or its order, or why it is none
+unfoldable pub line_step : Session → Files → ℕ → ScriptLine → Result (Turn Session) Fault
+line_step s files depth (Define name body) = Ok (quiet (defining s name body))
+line_step s files depth (Plain text) = order_of text >>= ordered s files depth

@@ -1,18 +1,18 @@
 -- The run of a command line: its words, its script, and the commands of the script. (own)
-use Rattle.std.specs.Prelude.{List, [], ◌∷◌, ◌++◌, Bool, codes, Option, Some, None, Result, Ok, Err}
+use Rattle.std.specs.Prelude.{List, [], ◌∷◌, ◌++◌, map, Bool, codes, Option, Some, None, Result, Ok, Err}
 use Rattle.plain_model.specs.Faults.{fault_text}
 use Rattle.plain_model.specs.Files.{Files}
 use Rattle.plain_model.specs.Paths.{Bytes}
-use Rattle.plain_model.specs.declared.limit.TheConstants.{MAX_SCRIPT_BYTES}
+use Rattle.plain_model.specs.declared.limit.TheConstants.{MAX_COMMANDS, MAX_SCRIPT_BYTES}
 use Rattle.plain_model.specs.declared.fault.Fault.{Fault}
 use Rattle.plain_model.specs.declared.fault.Fault.TheVariants as fault
 use Rattle.plain_model.specs.declared.status.Status.{Status}
 use Rattle.plain_model.specs.declared.status.Status.TheVariants as status
+use Rattle.script_reader.specs.Answering.{◌>>=◌}
 use Rattle.script_reader.specs.Scripts.{script_of}
 use Rattle.script_reader.specs.declared.script.ScriptItem.{ScriptItem}
 use Rattle.surgeon_store.specs.WholeFiles.{file_within}
-use Rattle.history_machine.specs.Loading.{◌>>=◌}
-use Rattle.history_machine.specs.Machine.{Run, run_on}
+use Rattle.history_machine.specs.Machine.{Run, Waiting, run_on}
 use Rattle.history_machine.specs.Sessions.{Session, empty_session, line_step}
 use Rattle.history_machine.specs.Words.{Asked, asked}
 
@@ -21,7 +21,8 @@ use Rattle.history_machine.specs.Words.{Asked, asked}
 -- a run that prints a line and ends so
 abbrev pub only_prints : Status → Bytes → Run Session
 only_prints ends line = record {
-  turns = record { session = empty_session; to = None; bytes = line ++ 10 ∷ [] } ∷ [];
+  ran = [];
+  turns = record { session = empty_session; to = None; bytes = line ++ 10 ∷ []; calls = [] } ∷ [];
   status = ends;
 }
 
@@ -45,9 +46,13 @@ unread name why = only_prints (unread_status why) (unread_line name (unread_stat
 
 -- ---- the run
 
+-- an item of a script, which is in no macro
+abbrev pub waiting_of : ScriptItem → Waiting
+waiting_of item = record { line = item.line; depth = 0; what = item.what }
+
 -- the run of a script from a session on: the first refusal ends it, unless it is to keep going
 abbrev pub run_from : Session → Files → List ScriptItem → Bool → Run Session
-run_from s files items keep_going = run_on line_step keep_going status.Done s files items
+run_from s files items keep_going = run_on line_step keep_going MAX_COMMANDS status.Done s files (map waiting_of items)
 
 -- the run of a script, if it was read
 abbrev pub run_read : Asked → Files → Result (List ScriptItem) Fault → Run Session

@@ -1,5 +1,5 @@
 //! Laws of the machine. Each function's contract is one; its body is empty, or calls the laws that it rests on.
-ghost use Rattle.std.specs.Prelude.{◌≡◌, ℕ, List, None, Ok, Err, Option};
+ghost use Rattle.std.specs.Prelude.{◌≡◌, ℕ, List, [], None, Ok, Err, Option};
 ghost use Rattle.plain_model.specs.declared.event.PlainEvent.{PlainEvent};
 ghost use Rattle.plain_model.specs.declared.fault.Fault.{Fault};
 ghost use Rattle.plain_model.specs.Faults.{refusal};
@@ -7,6 +7,7 @@ ghost use Rattle.plain_model.specs.Files.{Files};
 ghost use Rattle.plain_model.specs.Text.{text};
 ghost use Rattle.script_reader.specs.declared.command.Command.TheVariants as command;
 ghost use Rattle.script_reader.specs.declared.command.Command.{Command};
+ghost use Rattle.script_reader.specs.declared.script.ScriptLine.{ScriptLine};
 ghost use Rattle.history_machine.specs.Kept.{KeepTrees};
 ghost use Rattle.history_machine.specs.Lawful.{IsLawful, IsLawfulHistory};
 ghost use Rattle.history_machine.specs.Machine.{Turn, turn_of};
@@ -17,7 +18,7 @@ use renumbering::{
 };
 use soundness_laws::{what_is_read_is_sound, what_is_read_passes_no_limit};
 
-/// A line that is refused leaves the session and the files as they were, and one line is printed.
+/// A line that is refused leaves the session and the files as they were, one line is printed, and nothing is run in its place.
 pub fn a_refused_line_changes_nothing()
     ensures session { (s : Session) (line : ℕ) (fault : Fault) →
         (turn_of s line (Err fault)).session ≡ s }
@@ -25,6 +26,8 @@ pub fn a_refused_line_changes_nothing()
         (turn_of s line (Err fault)).to ≡ None }
     ensures printed { (s : Session) (line : ℕ) (fault : Fault) →
         (turn_of s line (Err fault)).bytes ≡ refusal line fault }
+    ensures calls { (s : Session) (line : ℕ) (fault : Fault) →
+        (turn_of s line (Err fault)).calls ≡ [] }
 {}
 
 /// A `write` is done where a repository is chosen. It sends the text of that history, and changes nothing else.
@@ -51,8 +54,8 @@ pub fn a_renumber_keeps_trees()
 pub fn a_step_keeps_it()
     ensures command { (s : Session) (files : Files) (what : Command) (t : Turn Session) →
         step s files what ≡ Ok t → IsLawful s → IsLawful t.session }
-    ensures line { (s : Session) (files : Files) (words : List ℕ) (t : Turn Session) →
-        line_step s files words ≡ Ok t → IsLawful s → IsLawful t.session }
+    ensures line { (s : Session) (files : Files) (depth : ℕ) (what : ScriptLine) (t : Turn Session) →
+        line_step s files depth what ≡ Ok t → IsLawful s → IsLawful t.session }
 {
     what_is_read_is_sound();
     what_is_read_passes_no_limit();

@@ -1,5 +1,5 @@
 -- What a line orders: a command, or that a macro is run. (reposurgeon manual, of each command word its section; what is at fault: own)
-use Rattle.std.specs.Prelude.{List, [], ◌∷◌, length, nat_lt, Option, Some, None, Result, Ok, Err, bytes_eq, codes, if◌then◌else◌}
+use Rattle.std.specs.Prelude.{Bool, List, [], ◌∷◌, length, nat_lt, Option, Some, None, Result, Ok, Err, bytes_eq, codes, if◌then◌else◌}
 use Rattle.plain_model.specs.Paths.{Bytes}
 use Rattle.plain_model.specs.declared.fault.Fault.{Fault}
 use Rattle.plain_model.specs.declared.fault.Fault.TheVariants as fault
@@ -166,9 +166,13 @@ abbrev pub order_in : Bytes → Option Keyword → List Word → Result Order Fa
 order_in head None words = Err (fault.UnknownCommand head)
 order_in head (Some word) words = form_of word words
 
+-- more bytes than a line may have
+abbrev pub is_long : Bytes → Bool
+is_long line = nat_lt MAX_LINE_BYTES (length line)
+
 -- The order of a line that was trimmed, if it isn't too long: its command word goes up to the first blank. A line that doesn't
 -- begin with a letter has none of these words.
 unfoldable pub order_of : Bytes → Result Order Fault
 order_of line =
-    if nat_lt MAX_LINE_BYTES (length line) then Err (fault.ExpansionLimit limit.LineBytes MAX_LINE_BYTES)
+    if is_long line then Err (fault.ExpansionLimit limit.LineBytes MAX_LINE_BYTES)
     else order_in (head_of line) (keyword_of (head_of line)) (words_of (after_head line))

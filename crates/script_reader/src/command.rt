@@ -1,7 +1,8 @@
 //! What a line orders: a command, or that a macro is run.
+ghost use Rattle.std.specs.Prelude.{◌≡◌};
 ghost use Rattle.plain_model.specs.Faults.{Returns};
 ghost use Rattle.script_reader.specs.Answering.{Refuses};
-ghost use Rattle.script_reader.specs.Commands.{order_of};
+ghost use Rattle.script_reader.specs.Commands.{is_long, order_of};
 ghost use Rattle.plain_model.specs.declared.fault.Fault.TheVariants.{UnknownCommand};
 
 use crate::form::form;
@@ -64,6 +65,13 @@ fn unknown(alloc: Global, word: &str) -> Halt
     }
 }
 
+/// Whether a line has more bytes than one may have.
+pub fn is_long(line: &str) -> bool
+    ensures { result ≡ is_long line.now }
+{
+    line.len() as u64 > MAX_LINE_BYTES
+}
+
 impl Order {
     /// Reads a line without blanks and CR at its ends. Refused where it is too long, with its command word where there is no
     /// such command, else with its first word that doesn't fit.
@@ -71,7 +79,7 @@ impl Order {
     pub fn read(alloc: Global, line: &str) -> Result<Order, Halt>
         ensures { Returns (λ order. order) result (order_of line.now) }
     {
-        if line.len() as u64 > MAX_LINE_BYTES {
+        if is_long(line) {
             return Err(Halt::Refused(Fault::ExpansionLimit {
                 which: Which::LineBytes,
                 number: MAX_LINE_BYTES,

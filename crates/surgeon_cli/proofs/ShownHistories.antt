@@ -16,7 +16,7 @@ use Rattle.script_reader.specs.declared.command.Command.{Command}
 use Rattle.script_reader.specs.declared.command.Command.TheVariants as command
 use Rattle.script_reader.specs.declared.script.ScriptItem.{ScriptItem}
 use Rattle.history_machine.specs.Lawful.{IsLawful, IsLawfulHistory}
-use Rattle.history_machine.specs.Loading.{◌>>=◌}
+use Rattle.script_reader.specs.Answering.{◌>>=◌}
 use Rattle.history_machine.specs.Machine.{Run, Turn, goes_on, run_on, status_after, turn_of, files_after}
 use Rattle.history_machine.specs.Sessions.{Repo, Session, chosen, line_step, sends, step}
 use Rattle.history_machine.specs.Whole.{run, run_asked, run_read, script_in}

@@ -14,7 +14,7 @@ use Rattle.surgeon_store.specs.Outside.{StoreState, SinkState, Reads}
 use Rattle.surgeon_store.specs.WholeFiles.{ReturnsOrBreaks}
 use Rattle.surgeon_store.specs.declared.whole_files.ReadEnd.{ReadEnd}
 use Rattle.surgeon_store.specs.declared.whole_files.ReadEnd.TheVariants as read
-use Rattle.history_machine.specs.Loading.{◌>>=◌}
+use Rattle.script_reader.specs.Answering.{◌>>=◌}
 use Rattle.history_machine.specs.Machine.{World, Turn}
 use Rattle.history_machine.specs.Sessions.{Session, after_read, changes, step}
 use Rattle.surgeon_session.specs.Calls.{Outcome, world, world_of}
