@@ -14,6 +14,7 @@ use Rattle.plain_model.specs.declared.status.Status.TheVariants as status
 use Rattle.script_reader.specs.Commands.{is_long}
 use Rattle.script_reader.specs.declared.script.ScriptLine.{ScriptLine}
 use Rattle.script_reader.specs.declared.script.ScriptLine.TheVariants.{Define, Plain}
+use Rattle.history_machine.specs.declared.waiting.Waiting.{Waiting}
 
 -- ---- what a run is made of
 
@@ -30,13 +31,7 @@ pub record Turn (X : Type 0) : Type 0 where
   pub bytes : Bytes
   pub calls : List Bytes
 
--- a line that waits to be run: for which line of the script, and inside how many macros
-pub record Waiting : Type 0 where
-  pub line : ℕ
-  pub depth : ℕ
-  pub what : ScriptLine
-
--- the lines that a run carries out, done or refused, what each leaves, and how the run ends
+-- the lines that a run carries out, done or refused, what they leave, and how the run ends
 pub record Run (X : Type 0) : Type 0 where
   pub ran : List ScriptLine
   pub turns : List (Turn X)
@@ -140,9 +135,9 @@ status_after so_far (Err fault) = status.Refused
 
 -- ---- a run of lines
 
--- the lines that a macro puts in the place of one that waited
-abbrev pub called_by : Waiting → List Bytes → List Waiting
-called_by w lines = map (λ text. record { line = w.line; depth = w.depth + 1; what = Plain text }) lines
+-- the lines that a macro puts in the place of one for such a line of the script, with their depth
+abbrev pub called_by : ℕ → ℕ → List Bytes → List Waiting
+called_by line depth texts = map (λ text. record { line = line; depth = depth; what = Plain text }) texts
 
 -- what is reported of the line after the last one that may be run: its own length comes first
 abbrev pub past : ScriptLine → Fault
@@ -157,17 +152,21 @@ with_first what t run = record { ran = what ∷ run.ran; turns = t ∷ run.turns
 abbrev pub ended : {X : Type 0} → Status → Run X
 ended status = record { ran = []; turns = []; status = status }
 
+-- the line after the last one that may be run is refused, and isn't run
+abbrev pub refused_past : {X : Type 0} → X → Waiting → Run X
+refused_past s w = record { ran = []; turns = turn_of s w.line (Err (past w.what)) ∷ []; status = status.Refused }
+
 -- what one line does to a session among files, inside so many macros, is `step`
 module _ {X : Type 0} (step : X → Files → ℕ → ScriptLine → Result (Turn X) Fault) (keep_going : Bool) where
   -- The run of the lines that wait, from a session among files, where the lines before give such a status and so many more may be
   -- run. What a line calls is run before what waited after it.
   abbrev pub run_on : ℕ → Status → X → Files → List Waiting → Run X
   run_on left so_far s files [] = ended so_far
-  run_on zero so_far s files (w ∷ ws) = with_first w.what (turn_of s w.line (Err (past w.what))) (ended status.Refused)
+  run_on zero so_far s files (w ∷ ws) = refused_past s w
   run_on (suc left) so_far s files (w ∷ ws) =
       let done = step s files w.depth w.what in
       let t = turn_of s w.line done in
       with_first w.what t (
       if goes_on keep_going done
-      then run_on left (status_after so_far done) t.session (files_after t.to t.bytes files) (called_by w t.calls ++ ws)
+      then run_on left (status_after so_far done) t.session (files_after t.to t.bytes files) (called_by w.line (w.depth + 1) t.calls ++ ws)
       else ended status.Refused)

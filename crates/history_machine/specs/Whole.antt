@@ -12,9 +12,10 @@ use Rattle.script_reader.specs.Answering.{◌>>=◌}
 use Rattle.script_reader.specs.Scripts.{script_of}
 use Rattle.script_reader.specs.declared.script.ScriptItem.{ScriptItem}
 use Rattle.surgeon_store.specs.WholeFiles.{file_within}
-use Rattle.history_machine.specs.Machine.{Run, Waiting, run_on}
+use Rattle.history_machine.specs.Machine.{Run, run_on}
 use Rattle.history_machine.specs.Sessions.{Session, empty_session, line_step}
 use Rattle.history_machine.specs.Words.{Asked, asked}
+use Rattle.history_machine.specs.declared.waiting.Waiting.{Waiting}
 
 -- ---- runs that only print
 

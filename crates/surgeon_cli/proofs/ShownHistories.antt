@@ -1,8 +1,9 @@
 -- Each history that a run holds is sound, and so it is shown by what is written of it.
-use Rattle.std.proofs.Common.{◌≡◌, ℕ, Bool, true, false, List, [], ◌∷◌, Option, Some, None, Result, Ok, Err, refl, sym, subst}
-use Rattle.std.specs.Prelude.{if◌then◌else◌}
+use Rattle.std.proofs.Common.{◌≡◌, ℕ, zero, suc, ◌+◌, ◌++◌, Bool, true, false, List, [], ◌∷◌, Option, Some, None, Result, Ok, Err, refl, sym, subst}
+use Rattle.std.specs.Prelude.{if◌then◌else◌, map}
 use Rattle.std.specs.List.{AllByRecursion}
 use Rattle.plain_model.specs.declared.event.PlainEvent.{PlainEvent}
+use Rattle.plain_model.specs.declared.limit.TheConstants.{MAX_COMMANDS}
 use Rattle.plain_model.specs.declared.fault.Fault.{Fault}
 use Rattle.plain_model.specs.declared.status.Status.{Status}
 use Rattle.plain_model.specs.declared.status.Status.TheVariants as status
@@ -11,20 +12,24 @@ use Rattle.plain_model.specs.Paths.{Bytes}
 use Rattle.plain_model.specs.Soundness.{IsSound}
 use Rattle.plain_model.specs.Text.{text}
 use Rattle.shown_laws.specs.Showing.{IsShownBy}
-use Rattle.script_reader.specs.Commands.{command_of}
-use Rattle.script_reader.specs.declared.command.Command.{Command}
+use Rattle.script_reader.specs.Commands.{order_of}
+use Rattle.script_reader.specs.declared.command.Order.{Order}
+use Rattle.script_reader.specs.declared.command.Order.TheVariants as order
 use Rattle.script_reader.specs.declared.command.Command.TheVariants as command
 use Rattle.script_reader.specs.declared.script.ScriptItem.{ScriptItem}
+use Rattle.script_reader.specs.declared.script.ScriptLine.{ScriptLine}
+use Rattle.script_reader.specs.declared.script.ScriptLine.TheVariants.{Define, Plain}
+use Rattle.history_machine.specs.declared.waiting.Waiting.{Waiting}
 use Rattle.history_machine.specs.Lawful.{IsLawful, IsLawfulHistory}
 use Rattle.script_reader.specs.Answering.{◌>>=◌}
-use Rattle.history_machine.specs.Machine.{Run, Turn, goes_on, run_on, status_after, turn_of, files_after}
-use Rattle.history_machine.specs.Sessions.{Repo, Session, chosen, line_step, sends, step}
-use Rattle.history_machine.specs.Whole.{run, run_asked, run_read, script_in}
+use Rattle.history_machine.specs.Machine.{Run, Turn, called_by, ended, files_after, goes_on, run_on, status_after, turn_of}
+use Rattle.history_machine.specs.Sessions.{Repo, Session, chosen, empty_session, line_step, ordered, sends, step}
+use Rattle.history_machine.specs.Whole.{run, run_asked, run_read, script_in, waiting_of}
 use Rattle.history_machine.specs.Words.{Asked, asked}
-use Rattle.surgeon_cli.specs.Headline.{AreShown, AreShownWrites, IsShownWrite, ShowsHistories, ShowsWrites}
+use Rattle.surgeon_cli.specs.Headline.{AreShown, AreShownWrites, IsShownLine, IsShownWrite, ShowsHistories, ShowsWrites}
 
 module _
-    (keeps : (s : Session) (files : Files) (line : Bytes) (t : Turn Session) → line_step s files line ≡ Ok t → IsLawful s → IsLawful t.session)
+    (keeps : (s : Session) (files : Files) (depth : ℕ) (what : ScriptLine) (t : Turn Session) → line_step s files depth what ≡ Ok t → IsLawful s → IsLawful t.session)
     (shows : (events : List PlainEvent) → IsSound events → IsShownBy (text events) events)
   where
     shown : (repos : List Repo) → AllByRecursion (λ r. IsLawfulHistory r.history) repos → AreShown repos
@@ -32,11 +37,11 @@ module _
     shown (r ∷ repos) h = (shows r.history h.0.sound, shown repos h.1)
 
     -- the session after a line, done or refused
-    turn_lawful : (s : Session) (files : Files) (item : ScriptItem) → IsLawful s → IsLawful (turn_of s item.line (line_step s files item.text)).session
-    turn_lawful s files item h = go (line_step s files item.text) refl
+    turn_lawful : (s : Session) (files : Files) (w : Waiting) → IsLawful s → IsLawful (turn_of s w.line (line_step s files w.depth w.what)).session
+    turn_lawful s files w h = go (line_step s files w.depth w.what) refl
       where
-        go : (r : Result (Turn Session) Fault) → line_step s files item.text ≡ r → IsLawful (turn_of s item.line r).session
-        go (Ok t) is = keeps s files item.text t is h
+        go : (r : Result (Turn Session) Fault) → line_step s files w.depth w.what ≡ r → IsLawful (turn_of s w.line r).session
+        go (Ok t) is = keeps s files w.depth w.what t is h
         go (Err why) is = h
 
     -- ---- the histories that a run holds
@@ -48,19 +53,21 @@ module _
     cut_or_not true more less m l = m
     cut_or_not false more less m l = l
 
-    lines_show : (keep : Bool) (so_far : Status) (s : Session) (files : Files) (items : List ScriptItem) → IsLawful s → Show (run_on line_step keep so_far s files items).turns
-    lines_show keep so_far s files [] h = tt
-    lines_show keep so_far s files (item ∷ items) h =
-        let done = line_step s files item.text in
-        let t = turn_of s item.line done in
-        let lawful = turn_lawful s files item h in (
+    lines_show : (keep : Bool) (left : ℕ) (so_far : Status) (s : Session) (files : Files) (lines : List Waiting) → IsLawful s → Show (run_on line_step keep left so_far s files lines).turns
+    lines_show keep left so_far s files [] h = tt
+    lines_show keep zero so_far s files (w ∷ lines) h = (shown s.repos h, tt)
+    lines_show keep (suc left) so_far s files (w ∷ lines) h =
+        let done = line_step s files w.depth w.what in
+        let t = turn_of s w.line done in
+        let lawful = turn_lawful s files w h in
+        let rest : List Waiting = called_by w.line (w.depth + 1) t.calls ++ lines in (
           shown t.session.repos lawful,
-          cut_or_not (goes_on keep done) (run_on line_step keep (status_after so_far done) t.session (files_after t.to t.bytes files) items) (record { turns = []; status = status.Refused })
-              (lines_show keep (status_after so_far done) t.session (files_after t.to t.bytes files) items lawful) tt,
+          cut_or_not (goes_on keep done) (run_on line_step keep left (status_after so_far done) t.session (files_after t.to t.bytes files) rest) (ended status.Refused)
+              (lines_show keep left (status_after so_far done) t.session (files_after t.to t.bytes files) rest lawful) tt,
         )
 
     read_show : (what : Asked) (files : Files) (script : Result (List ScriptItem) Fault) → Show (run_read what files script).turns
-    read_show what files (Ok items) = lines_show what.keep_going status.Done (record { repos = []; choice = None }) files items tt
+    read_show what files (Ok items) = lines_show what.keep_going MAX_COMMANDS status.Done empty_session files (map waiting_of items) tt
     read_show what files (Err why) = (tt, tt)
 
     asked_show : (files : Files) (what : Option Asked) → Show (run_asked files what).turns
@@ -80,7 +87,7 @@ module _
         (done : (s : Session) (files : Files) (to : Option Bytes) (repo : Repo) → chosen s ≡ Ok repo → step s files (command.Write to) ≡ Ok (sends s to (text repo.history)))
       where
         write_shown : (s : Session) (files : Files) (line : ℕ) (to : Option Bytes) → IsLawful s
-            → (r : Result (Turn Session) Fault) → step s files (command.Write to) ≡ r → IsShownWrite (Ok (command.Write to)) (turn_of s line r)
+            → (r : Result (Turn Session) Fault) → step s files (command.Write to) ≡ r → IsShownWrite (Ok (order.Step (command.Write to))) (turn_of s line r)
         write_shown s files line to h (Ok t) is = λ repo chose.
             let by = sent s files to t is in
             let same : t.session ≡ s = cc in
@@ -91,39 +98,49 @@ module _
             (refl, refl, shows repo.history (chosen_lawful s repo one h).sound)
         write_shown s files line to h (Err why) is = λ repo chose. absurd (let it = done s files to repo chose in cc)
 
-        line_shown : (s : Session) (files : Files) (item : ScriptItem) → IsLawful s → IsShownWrite (command_of item.text) (turn_of s item.line (line_step s files item.text))
+        order_shown : (s : Session) (files : Files) (w : Waiting) → IsLawful s → (r : Result Order Fault)
+            → IsShownWrite r (turn_of s w.line (r >>= ordered s files w.depth))
+        order_shown s files w h (Ok (order.Step (command.Write to))) = write_shown s files w.line to h (step s files (command.Write to)) refl
+        order_shown s files w h (Ok (order.Step (command.Read file name))) = tt
+        order_shown s files w h (Ok (order.Step (command.Choose name))) = tt
+        order_shown s files w h (Ok (order.Step command.ShowRepos)) = tt
+        order_shown s files w h (Ok (order.Step (command.Drop name))) = tt
+        order_shown s files w h (Ok (order.Step command.DropChosen)) = tt
+        order_shown s files w h (Ok (order.Step command.Renumber)) = tt
+        order_shown s files w h (Ok (order.Step (command.List to))) = tt
+        order_shown s files w h (Ok (order.Step (command.Index to))) = tt
+        order_shown s files w h (Ok (order.Step (command.Names to))) = tt
+        order_shown s files w h (Ok (order.Do call)) = tt
+        order_shown s files w h (Err why) = tt
+
+        line_shown : (s : Session) (files : Files) (line depth : ℕ) (what : ScriptLine) → IsLawful s → IsShownLine what (turn_of s line (line_step s files depth what))
         unfolding line_step
-        line_shown s files item h = go (command_of item.text)
-          where
-            go : (r : Result Command Fault) → IsShownWrite r (turn_of s item.line (r >>= λ what. step s files what))
-            go (Ok (command.Write to)) = write_shown s files item.line to h (step s files (command.Write to)) refl
-            go (Ok (command.Read file name)) = tt
-            go (Ok (command.Choose name)) = tt
-            go (Ok command.ShowRepos) = tt
-            go (Ok (command.Drop name)) = tt
-            go (Ok command.DropChosen) = tt
-            go (Ok command.Renumber) = tt
-            go (Ok (command.List to)) = tt
-            go (Ok (command.Index to)) = tt
-            go (Ok (command.Names to)) = tt
-            go (Err why) = tt
+        line_shown s files line depth (Plain text) h = order_shown s files (record { line = line; depth = depth; what = Plain text }) h (order_of text)
+        line_shown s files line depth (Define name body) h = tt
 
-        no_turns : (items : List ScriptItem) → AreShownWrites items []
-        no_turns [] = tt
-        no_turns (item ∷ items) = tt
-
-        lines_shown : (keep : Bool) (so_far : Status) (s : Session) (files : Files) (items : List ScriptItem) → IsLawful s → AreShownWrites items (run_on line_step keep so_far s files items).turns
-        lines_shown keep so_far s files [] h = tt
-        lines_shown keep so_far s files (item ∷ items) h =
-            let r = line_step s files item.text in
-            let t = turn_of s item.line r in
-            (line_shown s files item h, go (goes_on keep r) _ (lines_shown keep (status_after so_far r) t.session (files_after t.to t.bytes files) items (turn_lawful s files item h)))
+        lines_shown : (keep : Bool) (left : ℕ) (so_far : Status) (s : Session) (files : Files) (lines : List Waiting) → IsLawful s
+            → AreShownWrites (run_on line_step keep left so_far s files lines).ran (run_on line_step keep left so_far s files lines).turns
+        lines_shown keep left so_far s files [] h = tt
+        lines_shown keep zero so_far s files (w ∷ lines) h = tt
+        lines_shown keep (suc left) so_far s files (w ∷ lines) h =
+            let r = line_step s files w.depth w.what in
+            let t = turn_of s w.line r in
+            let rest : List Waiting = called_by w.line (w.depth + 1) t.calls ++ lines in
+            (line_shown s files w.line w.depth w.what h, go (goes_on keep r) (run_on line_step keep left (status_after so_far r) t.session (files_after t.to t.bytes files) rest)
+            (lines_shown keep left (status_after so_far r) t.session (files_after t.to t.bytes files) rest (turn_lawful s files w h)))
           where
-            go : (b : Bool) (more : Run Session) → AreShownWrites items more.turns → AreShownWrites items (if b then more else record { turns = []; status = status.Refused }).turns
+            go : (b : Bool) (more : Run Session) → AreShownWrites more.ran more.turns → AreShownWrites (if b then more else ended status.Refused).ran (if b then more else ended status.Refused).turns
             go true more h = h
-            go false more h = no_turns items
+            go false more h = tt
+
+        asked_shown : (files : Files) (what : Option Asked) → AreShownWrites (run_asked files what).ran (run_asked files what).turns
+        asked_shown files None = tt
+        asked_shown files (Some what) = go (script_in files what.script)
+          where
+            go : (r : Result (List ScriptItem) Fault) → AreShownWrites (run_read what files r).ran (run_read what files r).turns
+            go (Ok items) = lines_shown what.keep_going MAX_COMMANDS status.Done empty_session files (map waiting_of items) tt
+            go (Err why) = tt
 
         pub writes_shown : (words : List Bytes) (files : Files) → ShowsWrites words files
         unfolding run
-        writes_shown words files = λ what items words_are script_is.
-            rw (words_are, script_is) (lines_shown what.keep_going status.Done (record { repos = []; choice = None }) files items tt)
+        writes_shown words files = asked_shown files (asked words)

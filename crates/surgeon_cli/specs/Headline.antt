@@ -9,14 +9,16 @@ use Rattle.plain_model.specs.Text.{text}
 use Rattle.shown_laws.specs.Showing.{IsShownBy}
 use Rattle.surgeon_store.specs.Outside.{StoreState, SinkState}
 use Rattle.plain_model.specs.declared.fault.Fault.{Fault}
-use Rattle.script_reader.specs.Commands.{command_of}
-use Rattle.script_reader.specs.declared.command.Command.{Command}
+use Rattle.script_reader.specs.Commands.{order_of}
+use Rattle.script_reader.specs.declared.command.Order.{Order}
+use Rattle.script_reader.specs.declared.command.Order.TheVariants as order
 use Rattle.script_reader.specs.declared.command.Command.TheVariants as command
-use Rattle.script_reader.specs.declared.script.ScriptItem.{ScriptItem}
+use Rattle.script_reader.specs.declared.script.ScriptLine.{ScriptLine}
+use Rattle.script_reader.specs.declared.script.ScriptLine.TheVariants.{Define, Plain}
 use Rattle.history_machine.specs.Sessions.{Repo, Session, chosen}
 use Rattle.history_machine.specs.Machine.{Completes, EndsAs, Turn}
-use Rattle.history_machine.specs.Whole.{run, script_in}
-use Rattle.history_machine.specs.Words.{Asked, asked}
+use Rattle.history_machine.specs.Whole.{run}
+use Rattle.history_machine.specs.Words.{asked}
 use Rattle.surgeon_session.specs.Calls.{NoFaults, world}
 
 -- Files and output are those of the machine's run of these words: at its end, with its status, or where a fault of
@@ -40,19 +42,24 @@ ShowsHistories words files = AllByRecursion (λ t. AreShown t.session.repos) (ru
 
 -- Where a repository is chosen, a `write` line sends the text of its history to the file that it names, or prints it; and
 -- by that text the history is shown.
-abbrev pub IsShownWrite : Result Command Fault → Turn Session → Type 0
-IsShownWrite (Ok (command.Write to)) t =
+abbrev pub IsShownWrite : Result Order Fault → Turn Session → Type 0
+IsShownWrite (Ok (order.Step (command.Write to))) t =
     (repo : Repo) → chosen t.session ≡ Ok repo → (t.to ≡ to) × (t.bytes ≡ text repo.history) × IsShownBy t.bytes repo.history
 IsShownWrite other t = Unit {0}
 
--- that is so of each line that was carried out
-abbrev pub AreShownWrites : List ScriptItem → List (Turn Session) → Type 0
-AreShownWrites (item ∷ items) (t ∷ turns) = IsShownWrite (command_of item.text) t × AreShownWrites items turns
-AreShownWrites items turns = Unit {0}
+-- a definition writes nothing
+abbrev pub IsShownLine : ScriptLine → Turn Session → Type 0
+IsShownLine (Plain line) t = IsShownWrite (order_of line) t
+IsShownLine (Define name body) t = Unit {0}
 
--- and so of each line of the script that the words name
+-- that is so of each line that was carried out
+abbrev pub AreShownWrites : List ScriptLine → List (Turn Session) → Type 0
+AreShownWrites (what ∷ ran) (t ∷ turns) = IsShownLine what t × AreShownWrites ran turns
+AreShownWrites ran turns = Unit {0}
+
+-- and so of each line that the run carries out, those of macros included
 abbrev pub ShowsWrites : List Bytes → Files → Type 0
-ShowsWrites words files = (what : Asked) (items : List ScriptItem) → asked words ≡ Some what → script_in files what.script ≡ Ok items → AreShownWrites items (run words files).turns
+ShowsWrites words files = AreShownWrites (run words files).ran (run words files).turns
 
 -- how a run ends that tells how the program is called: so, or a fault of printing or out of memory broke it off
 abbrev pub IsUsageEnd : Status → Type 0

@@ -1,5 +1,5 @@
 -- Commands that aren't done: refused, or broken off by a fault in reading or out of memory.
-use Rattle.std.proofs.Common.{◌≡◌, Option, Some, None, Result, Ok, Err, refl, sym, ap, subst}
+use Rattle.std.proofs.Common.{◌≡◌, List, Option, Some, None, Result, Ok, Err, refl, sym, ap, subst}
 use Rattle.std.specs.Prelude.{IfSome, IsErrOf, OnErr}
 use Rattle.std.specs.Result.{IsErrAnd}
 use Rattle.plain_model.specs.Counts.{Rose}
@@ -18,7 +18,7 @@ use Rattle.script_reader.specs.Answering.{◌>>=◌}
 use Rattle.history_machine.specs.Machine.{World, Turn}
 use Rattle.history_machine.specs.Sessions.{Session, after_read, changes, step}
 use Rattle.surgeon_session.specs.Calls.{Outcome, world, world_of}
-use Rattle.surgeon_session.specs.Commands.{Agrees, CarriesOut, PartOf, Steps}
+use Rattle.surgeon_session.specs.Commands.{Agrees, CarriesOut, PartOf, Steps, no_calls}
 use Rattle.plain_model.specs.Faults.{Returns}
 use Rattle.surgeon_session.specs.Ends.{of_halt, of_read_end, status_of}
 use Rattle.surgeon_session.specs.declared.halted.Halted.{Halted}
@@ -47,36 +47,36 @@ part_none : {X : Type 0} (w : World) (specified : Result (Turn X) Fault) → Par
 part_none w (Ok t) = no_part t.to t.bytes w
 part_none w (Err fault) = refl
 
-module _ {X : Type 0} (s : StoreState) (k : SinkState) (old new : X) (specified : Files → Result (Turn X) Fault) (same : new ≡ old) where
+module _ {X Y : Type 0} (calls : Y → List Bytes) (s : StoreState) (k : SinkState) (old new : X) (specified : Files → Result (Turn X) Fault) (same : new ≡ old) where
   by_halt : (h : Halt) → ((files : Files) → Halts h (specified files))
-      → Outcome (λ w now. Steps {Y = Unit {0}} (Err (of_halt h)) old w (specified w.files) new now) s k (status_of {X = Unit {0}} (Err (of_halt h))) s k
+      → Outcome (λ w now. Steps calls (Err (of_halt h)) old w (specified w.files) new now) s k (status_of {X = Y} (Err (of_halt h))) s k
   by_halt (halt.Refused fault) halts = record {
-    prescribed = same_world (λ w now. Steps {Y = Unit {0}} (Err (halted.Refused fault)) old w (specified w.files) new now) (world s k) (λ w. (halts w.files, same, refl));
+    prescribed = same_world (λ w now. Steps calls (Err (halted.Refused fault)) old w (specified w.files) new now) (world s k) (λ w. (halts w.files, same, refl));
     caused = tt;
     later = same_later s k;
   }
   by_halt halt.Memory halts = record {
-    prescribed = same_world (λ w now. Steps {Y = Unit {0}} (Err halted.Memory) old w (specified w.files) new now) (world s k) (λ w. (same, part_none w (specified w.files)));
+    prescribed = same_world (λ w now. Steps calls (Err halted.Memory) old w (specified w.files) new now) (world s k) (λ w. (same, part_none w (specified w.files)));
     caused = tt;
     later = same_later s k;
   }
 
   -- nothing outside is touched
-  pub halted_outcome : (h : Halt) (r : Result (Unit {0}) Halted) → IsErrAnd r (λ e. e ≡ of_halt h) → ((files : Files) → Halts h (specified files))
-      → Outcome (λ w now. Steps r old w (specified w.files) new now) s k (status_of r) s k
+  pub halted_outcome : (h : Halt) (r : Result Y Halted) → IsErrAnd r (λ e. e ≡ of_halt h) → ((files : Files) → Halts h (specified files))
+      → Outcome (λ w now. Steps calls r old w (specified w.files) new now) s k (status_of r) s k
   halted_outcome h (Ok y) is halts = absurd is
   halted_outcome h (Err e) is halts = rw is (by_halt h halts)
 
-  agrees_halt : (h : Halt) (files : Files) → Halts h (specified files) → Agrees {Y = Unit {0}} (Err (of_halt h)) (specified files) new
+  agrees_halt : (h : Halt) (files : Files) → Halts h (specified files) → Agrees {Y = Y} (Err (of_halt h)) (specified files) new
   agrees_halt (halt.Refused fault) files halts = halts
   agrees_halt halt.Memory files halts = tt
 
   -- whatever is reported
-  pub halted_agrees : (h : Halt) (r : Result (Unit {0}) Halted) → IsErrAnd r (λ e. e ≡ of_halt h) → (files : Files) → Halts h (specified files) → Agrees r (specified files) new
+  pub halted_agrees : (h : Halt) (r : Result Y Halted) → IsErrAnd r (λ e. e ≡ of_halt h) → (files : Files) → Halts h (specified files) → Agrees r (specified files) new
   halted_agrees h (Ok y) is files halts = absurd is
   halted_agrees h (Err e) is files halts = rw is (agrees_halt h files halts)
 
-  pub halted_keeps : (r : Result (Unit {0}) Halted) → OnErr r (new ≡ old)
+  pub halted_keeps : (r : Result Y Halted) → OnErr r (new ≡ old)
   halted_keeps (Ok y) = tt
   halted_keeps (Err e) = same
 
@@ -84,9 +84,9 @@ module _ {X : Type 0} (s : StoreState) (k : SinkState) (old new : X) (specified 
 pub halted_alone : (s : StoreState) (k : SinkState) (old new : Session) (what : Command) (h : Halt) (r : Result (Unit {0}) Halted) → IsErrAnd r (λ e. e ≡ of_halt h)
     → ((files : Files) → Halts h (step old files what)) → new ≡ old → CarriesOut s k old what r new s k
 halted_alone s k old new what h r is halts same = record {
-  outcome = halted_outcome s k old new (λ files. step old files what) same h r is halts;
-  exact = λ _ files. halted_agrees s k old new (λ files. step old files what) same h r is files (halts files);
-  kept = halted_keeps s k old new (λ files. step old files what) same r;
+  outcome = halted_outcome no_calls s k old new (λ files. step old files what) same h r is halts;
+  exact = λ _ files. halted_agrees no_calls s k old new (λ files. step old files what) same h r is files (halts files);
+  kept = halted_keeps no_calls s k old new (λ files. step old files what) same r;
 }
 
 -- ---- `read`
@@ -107,7 +107,7 @@ module _ (s s' : StoreState) (k : SinkState) (old new : Session) (file name : By
   unfolding step
   by_end (read.Refused fault) returns failed = record {
     outcome = record {
-      prescribed = read_worlds (λ w now. Steps {Y = Unit {0}} (Err (halted.Refused fault)) old w (step old w.files (command.Read file name)) new now)
+      prescribed = read_worlds (λ w now. Steps {Y = Unit {0}} no_calls (Err (halted.Refused fault)) old w (step old w.files (command.Read file name)) new now)
           (λ f is w its. (ap changes (subst (λ (g : Files). after_read old g file name ≡ Err fault) (sym its) (rw is at returns)), same, refl));
       caused = tt;
       later = read_later s s' k frame;
@@ -117,7 +117,7 @@ module _ (s s' : StoreState) (k : SinkState) (old new : Session) (file name : By
   }
   by_end read.SourceFault returns failed = record {
     outcome = record {
-      prescribed = read_worlds (λ w now. Steps {Y = Unit {0}} (Err halted.SourceFault) old w (step old w.files (command.Read file name)) new now)
+      prescribed = read_worlds (λ w now. Steps {Y = Unit {0}} no_calls (Err halted.SourceFault) old w (step old w.files (command.Read file name)) new now)
           (λ f is w its. (same, part_none w (step old w.files (command.Read file name))));
       caused = failed refl;
       later = read_later s s' k frame;
@@ -127,7 +127,7 @@ module _ (s s' : StoreState) (k : SinkState) (old new : Session) (file name : By
   }
   by_end read.Memory returns failed = record {
     outcome = record {
-      prescribed = read_worlds (λ w now. Steps {Y = Unit {0}} (Err halted.Memory) old w (step old w.files (command.Read file name)) new now)
+      prescribed = read_worlds (λ w now. Steps {Y = Unit {0}} no_calls (Err halted.Memory) old w (step old w.files (command.Read file name)) new now)
           (λ f is w its. (same, part_none w (step old w.files (command.Read file name))));
       caused = tt;
       later = read_later s s' k frame;

@@ -1,27 +1,37 @@
--- One command of a run over a session, and what is after it.
-use Rattle.std.proofs.Common.{◌≡◌, ℕ, zero, suc, List, [], ◌∷◌, Bool, true, false, not, Result, Ok, Err, refl, sym, subst}
-use Rattle.std.proofs.lemmas.Bool.{not-true}
-use Rattle.std.specs.Prelude.{if◌then◌else◌}
+-- One line of a run over a session, and what is after it.
+use Rattle.std.proofs.Common.{◌≡◌, ℕ, zero, suc, ◌+◌, ◌≤◌, List, [], ◌∷◌, ◌++◌, Bool, true, false, inl, inr, Result, Ok, Err, refl, sym, subst, arith}
+use Rattle.std.proofs.lemmas.Bool.{cases_Bool}
+use Rattle.std.specs.Prelude.{◌&&◌, ◌||◌, not, map, if◌then◌else◌}
 use Rattle.plain_model.specs.Files.{Files}
-use Rattle.history_machine.specs.Machine.{World, Turn, Run, after, PartSent, SessionBreaks, SessionEndsAs, turn_of, goes_on, status_after, stops, so_far_after, with_first, run_on, files_after}
+use Rattle.plain_model.specs.Paths.{Bytes}
+use Rattle.history_machine.specs.Machine.{World, Turn, Run, after, BreaksAfter, PartSent, SessionBreaks, SessionEndsAs, called_by, ended, passes_limit, turn_of, goes_on, status_after, with_first, run_on, files_after}
+use Rattle.history_machine.specs.declared.waiting.Waiting.{Waiting}
 use Rattle.plain_model.specs.declared.fault.Fault.{Fault}
 use Rattle.plain_model.specs.declared.status.Status.{Status}
 use Rattle.plain_model.specs.declared.status.Status.TheVariants as status
 use Rattle.script_reader.specs.declared.script.ScriptItem.{ScriptItem}
+use Rattle.script_reader.specs.declared.script.ScriptLine.{ScriptLine}
+use Rattle.history_machine.specs.Whole.{waiting_of}
 use Rattle.history_machine.proofs.Runs.{IsBreak}
 use Rattle.surgeon_session.specs.Calls.{Caused}
-use Rattle.surgeon_session.specs.Commands.{Carries, Refuses, Turns}
+use Rattle.surgeon_session.specs.Commands.{Carries, Refuses, status_of_turn}
+use Rattle.surgeon_session.specs.declared.turned.Broken.{Broken}
+use Rattle.surgeon_session.specs.declared.turned.Broken.TheVariants as broken
+use Rattle.surgeon_session.specs.declared.turned.Turned.TheVariants as turned
+use Rattle.surgeon_session.specs.Waits.{AreWithin, EndsPast}
+use Rattle.surgeon_session.proofs.Rounds.{no_part}
 use Rattle.surgeon_store.specs.Outside.{StoreState, SinkState}
 
-session_first : {X : Type 0} (t : Turn X) (run : Run X) (r : Status) (s s' : X) (w now : World) → SessionEndsAs run r t.session (after w t) s' now → SessionEndsAs (with_first t run) r s w s' now
-session_first t run status.SourceFault s s' w now h = (suc h.0, h.1, h.2)
-session_first t run status.SinkFault s s' w now h = (suc h.0, h.1, h.2)
-session_first t run status.Memory s s' w now h = (suc h.0, h.1, h.2)
-session_first t run status.Done s s' w now h = h
-session_first t run status.Refused s s' w now h = h
-session_first t run status.Usage s s' w now h = h
-session_first t run status.NoScript s s' w now h = h
-session_first t run status.BadScript s s' w now h = h
+session_first : {X : Type 0} (what : ScriptLine) (t : Turn X) (run : Run X) (r : Status) (s s' : X) (w now : World)
+    → SessionEndsAs run r t.session (after w t) s' now → SessionEndsAs (with_first what t run) r s w s' now
+session_first what t run status.SourceFault s s' w now h = (suc h.0, h.1, h.2)
+session_first what t run status.SinkFault s s' w now h = (suc h.0, h.1, h.2)
+session_first what t run status.Memory s s' w now h = (suc h.0, h.1, h.2)
+session_first what t run status.Done s s' w now h = h
+session_first what t run status.Refused s s' w now h = h
+session_first what t run status.Usage s s' w now h = h
+session_first what t run status.NoScript s s' w now h = h
+session_first what t run status.BadScript s s' w now h = h
 
 session_broken : {X : Type 0} (run : Run X) (r : Status) (s s' : X) (w now : World) → IsBreak r → SessionBreaks run s w s' now → SessionEndsAs run r s w s' now
 session_broken run status.SourceFault s s' w now b h = h
@@ -33,12 +43,8 @@ session_broken run status.Usage s s' w now b h = absurd b
 session_broken run status.NoScript s s' w now b h = absurd b
 session_broken run status.BadScript s s' w now b h = absurd b
 
-kept : (k : Bool) → not k ≡ false → k ≡ true
-kept true e = refl
-kept false e = absurd cc
-
 -- a run without further lines
-pub no_lines : {X : Type 0} (r : Status) (s : X) (w : World) → SessionEndsAs {X = X} (record { turns = []; status = r }) r s w s w
+pub no_lines : {X : Type 0} (r : Status) (s : X) (w : World) → SessionEndsAs {X = X} (ended r) r s w s w
 no_lines status.SourceFault s w = (zero, refl, refl)
 no_lines status.SinkFault s w = (zero, refl, refl)
 no_lines status.Memory s w = (zero, refl, refl)
@@ -59,16 +65,6 @@ IsQuiet status.Usage = ⊥
 IsQuiet status.NoScript = ⊥
 IsQuiet status.BadScript = ⊥
 
-pub quiet_after : (so_far e : Status) → IsQuiet so_far → IsQuiet (so_far_after so_far e)
-quiet_after so_far status.Refused q = tt
-quiet_after so_far status.Done q = q
-quiet_after so_far status.SourceFault q = q
-quiet_after so_far status.SinkFault q = q
-quiet_after so_far status.Memory q = q
-quiet_after so_far status.Usage q = q
-quiet_after so_far status.NoScript q = q
-quiet_after so_far status.BadScript q = q
-
 pub caused_quiet : (s s' : StoreState) (k k' : SinkState) (r : Status) → IsQuiet r → Caused s k r s' k'
 caused_quiet s s' k k' status.Done q = tt
 caused_quiet s s' k k' status.Refused q = tt
@@ -79,64 +75,146 @@ caused_quiet s s' k k' status.Usage q = absurd q
 caused_quiet s s' k k' status.NoScript q = absurd q
 caused_quiet s s' k k' status.BadScript q = absurd q
 
-module _ {X : Type 0} (step : X → Files → List ℕ → Result (Turn X) Fault) (keep : Bool) (so_far : Status) (s s' : X) (w now : World) (item : ScriptItem) (items : List ScriptItem) where
-  -- the run from here, by what the first line does
+-- nothing of what comes next is sent
+breaks_here : {X : Type 0} (ts : List (Turn X)) (w : World) → BreaksAfter zero ts w w
+breaks_here [] w = refl
+breaks_here (t ∷ ts) w = no_part t.to t.bytes w
+
+-- a refusal at which the run ends
+off_refused : (keep limit is_last : Bool) → is_last ≡ limit → (is_last || not keep) ≡ true → (keep && not limit) ≡ false
+off_refused false limit is_last same stop = refl
+off_refused true true is_last same stop = refl
+off_refused true false true same stop = absurd cc
+off_refused true false false same stop = absurd cc
+
+-- A run from here on, of which a first line is taken out, where so many more may be run.
+module _ {X : Type 0} (step : X → Files → ℕ → ScriptLine → Result (Turn X) Fault) (keep : Bool) (left : ℕ) (so_far : Status) (s s' : X) (w now : World) (next : Waiting) (lines : List Waiting) where
+  abbrev does : Result (Turn X) Fault
+  does = step s w.files next.depth next.what
+
+  -- the run, by what the first line does
   abbrev from : Result (Turn X) Fault → Run X
-  from expected =
-      let t = turn_of s item.line expected in
-      with_first t (if goes_on keep expected then run_on step keep (status_after so_far expected) t.session (files_after t.to t.bytes w.files) items else record { turns = []; status = status.Refused })
+  from specified =
+      let t = turn_of s next.line specified in
+      with_first next.what t (
+      if goes_on keep specified
+      then run_on step keep left (status_after so_far specified) t.session (files_after t.to t.bytes w.files) (called_by next.line (next.depth + 1) t.calls ++ lines)
+      else ended status.Refused)
 
-  -- the run goes on after a command
-  pub session_goes_on : (e : Status) → stops keep e ≡ false → Turns e s w item.line (step s w.files item.text) s' now
+  abbrev whole : Run X
+  whole = run_on step keep (suc left) so_far s w.files (next ∷ lines)
+
+  -- it goes on after a line that is done
+  pub done_goes_on : (calls : List Bytes) → Carries calls w does s' now
       → (r : Status) (s'' : X) (last : World)
-      → SessionEndsAs (run_on step keep (so_far_after so_far e) s' now.files items) r s' now s'' last
-      → SessionEndsAs (run_on step keep so_far s w.files (item ∷ items)) r s w s'' last
-  session_goes_on status.Done stop turned r s'' last h = at (step s w.files item.text) refl turned
+      → SessionEndsAs (run_on step keep left so_far s' now.files (called_by next.line (next.depth + 1) calls ++ lines)) r s' now s'' last
+      → SessionEndsAs whole r s w s'' last
+  done_goes_on calls carried r s'' last h = at does refl carried
     where
-      at : (expected : Result (Turn X) Fault) → step s w.files item.text ≡ expected → Carries w expected s' now → SessionEndsAs (run_on step keep so_far s w.files (item ∷ items)) r s w s'' last
-      at (Ok t) e c = subst (λ expected. SessionEndsAs (from expected) r s w s'' last) (sym e)
-          (session_first t (run_on step keep so_far t.session (after w t).files items) r s s'' w last
-          (subst (λ (x : X). SessionEndsAs (run_on step keep so_far x (after w t).files items) r x (after w t) s'' last) c.0 (subst (λ (v : World). SessionEndsAs (run_on step keep so_far s' v.files items) r s' v s'' last) c.1 h)))
+      at : (specified : Result (Turn X) Fault) → does ≡ specified → Carries calls w specified s' now → SessionEndsAs whole r s w s'' last
+      at (Ok t) e c =
+          let rest : List Bytes → List Waiting = λ texts. called_by next.line (next.depth + 1) texts ++ lines in
+          subst (λ specified. SessionEndsAs (from specified) r s w s'' last) (sym e)
+          (session_first next.what t (run_on step keep left so_far t.session (after w t).files (rest t.calls)) r s s'' w last
+          (subst (λ (x : X). SessionEndsAs (run_on step keep left so_far x (after w t).files (rest t.calls)) r x (after w t) s'' last) c.0
+          (subst (λ (v : World). SessionEndsAs (run_on step keep left so_far s' v.files (rest t.calls)) r s' v s'' last) c.1
+          (subst (λ (texts : List Bytes). SessionEndsAs (run_on step keep left so_far s' now.files (rest texts)) r s' now s'' last) (sym c.2) h))))
       at (Err fault) e c = absurd c
-  session_goes_on status.Refused stop turned r s'' last h = at (step s w.files item.text) refl turned.1
+
+  -- it goes on after a refusal
+  pub refused_goes_on : (is_last : Bool) → (is_last || not keep) ≡ false → (s' ≡ s) × Refuses w next.line is_last does now
+      → (r : Status) (s'' : X) (last : World) → SessionEndsAs (run_on step keep left status.Refused s' now.files lines) r s' now s'' last
+      → SessionEndsAs whole r s w s'' last
+  refused_goes_on is_last goes refused r s'' last h = at does refl refused.1
     where
-      at : (expected : Result (Turn X) Fault) → step s w.files item.text ≡ expected → Refuses w item.line expected now → SessionEndsAs (run_on step keep so_far s w.files (item ∷ items)) r s w s'' last
+      on : (k l limit : Bool) → (l || not k) ≡ false → l ≡ limit → (k && not limit) ≡ true
+      on true false false g e = refl
+      on true false true g e = absurd cc
+      on true true limit g e = absurd cc
+      on false true limit g e = absurd cc
+      on false false limit g e = absurd cc
+
+      at : (specified : Result (Turn X) Fault) → does ≡ specified → Refuses w next.line is_last specified now → SessionEndsAs whole r s w s'' last
       at (Ok t) e c = absurd c
       at (Err fault) e c =
-          let on : keep ≡ true = kept keep stop in
-          let t = turn_of s item.line (Err fault) in
-          subst (λ expected. SessionEndsAs (from expected) r s w s'' last) (sym e)
-          (subst (λ k. SessionEndsAs (with_first t (if k then run_on step keep status.Refused s w.files items else record { turns = []; status = status.Refused })) r s w s'' last) (sym on)
-          (session_first t (run_on step keep status.Refused s w.files items) r s s'' w last
-          (subst (λ (x : X). SessionEndsAs (run_on step keep status.Refused x w.files items) r x (after w t) s'' last) turned.0 (subst (λ (v : World). SessionEndsAs (run_on step keep status.Refused s' v.files items) r s' v s'' last) c h))))
-  session_goes_on status.SourceFault stop turned r s'' last h = absurd cc
-  session_goes_on status.SinkFault stop turned r s'' last h = absurd cc
-  session_goes_on status.Memory stop turned r s'' last h = absurd cc
-  session_goes_on status.Usage stop turned r s'' last h = absurd turned
-  session_goes_on status.NoScript stop turned r s'' last h = absurd turned
-  session_goes_on status.BadScript stop turned r s'' last h = absurd turned
+          let t = turn_of s next.line (Err fault) in
+          subst (λ specified. SessionEndsAs (from specified) r s w s'' last) (sym e)
+          (subst (λ b. SessionEndsAs (with_first next.what t (if b then run_on step keep left status.Refused s w.files lines else ended status.Refused)) r s w s'' last) (sym (on keep is_last (passes_limit fault) goes c.0))
+          (session_first next.what t (run_on step keep left status.Refused s w.files lines) r s s'' w last
+          (subst (λ (x : X). SessionEndsAs (run_on step keep left status.Refused x w.files lines) r x (after w t) s'' last) refused.0
+          (subst (λ (v : World). SessionEndsAs (run_on step keep left status.Refused s' v.files lines) r s' v s'' last) c.1 h))))
 
-  session_breaks : (r : Status) → IsBreak r → (s' ≡ s) × PartSent (turn_of s item.line (step s w.files item.text)).to (turn_of s item.line (step s w.files item.text)).bytes w now
-      → SessionEndsAs (run_on step keep so_far s w.files (item ∷ items)) r s w s' now
-  session_breaks r b h = session_broken (run_on step keep so_far s w.files (item ∷ items)) r s s' w now b (zero, h.0, h.1)
-
-  -- a command at which the run ends
-  pub session_stops : (e : Status) → stops keep e ≡ true → Turns e s w item.line (step s w.files item.text) s' now
-      → SessionEndsAs (run_on step keep so_far s w.files (item ∷ items)) e s w s' now
-  session_stops status.Done stop turned = absurd cc
-  session_stops status.Refused stop turned = at (step s w.files item.text) refl turned.1
+  -- it ends with a refusal
+  pub refused_stops : (is_last : Bool) → (is_last || not keep) ≡ true → (s' ≡ s) × Refuses w next.line is_last does now
+      → SessionEndsAs whole status.Refused s w s' now
+  refused_stops is_last stop refused = at does refl refused.1
     where
-      at : (expected : Result (Turn X) Fault) → step s w.files item.text ≡ expected → Refuses w item.line expected now → SessionEndsAs (run_on step keep so_far s w.files (item ∷ items)) status.Refused s w s' now
+      at : (specified : Result (Turn X) Fault) → does ≡ specified → Refuses w next.line is_last specified now → SessionEndsAs whole status.Refused s w s' now
       at (Ok t) e c = absurd c
       at (Err fault) e c =
-          let off : keep ≡ false = not-true keep stop in
-          let t = turn_of s item.line (Err fault) in
-          subst (λ expected. SessionEndsAs (from expected) status.Refused s w s' now) (sym e)
-          (subst (λ k. SessionEndsAs (with_first t (if k then run_on step keep status.Refused s w.files items else record { turns = []; status = status.Refused })) status.Refused s w s' now) (sym off)
-          (turned.0, (refl, c)))
-  session_stops status.SourceFault stop turned = session_breaks status.SourceFault tt turned
-  session_stops status.SinkFault stop turned = session_breaks status.SinkFault tt turned
-  session_stops status.Memory stop turned = session_breaks status.Memory tt turned
-  session_stops status.Usage stop turned = absurd turned
-  session_stops status.NoScript stop turned = absurd turned
-  session_stops status.BadScript stop turned = absurd turned
+          let t = turn_of s next.line (Err fault) in
+          subst (λ specified. SessionEndsAs (from specified) status.Refused s w s' now) (sym e)
+          (subst (λ b. SessionEndsAs (with_first next.what t (if b then run_on step keep left status.Refused s w.files lines else ended status.Refused)) status.Refused s w s' now) (sym (off_refused keep (passes_limit fault) is_last c.0 stop))
+          (refused.0, (refl, c.1)))
+
+  -- it breaks off in the line
+  pub line_breaks : (r : Status) → IsBreak r → (s' ≡ s) × PartSent (turn_of s next.line does).to (turn_of s next.line does).bytes w now
+      → SessionEndsAs whole r s w s' now
+  line_breaks r b h = session_broken whole r s s' w now b (zero, h.0, h.1)
+
+  -- it breaks off after the line, since memory is out for what is run next
+  pub memory_after : (calls : List Bytes) → Carries calls w does s' now → SessionEndsAs whole status.Memory s w s' now
+  memory_after calls carried = at does refl carried
+    where
+      at : (specified : Result (Turn X) Fault) → does ≡ specified → Carries calls w specified s' now → SessionEndsAs whole status.Memory s w s' now
+      at (Ok t) e c =
+          subst (λ specified. SessionEndsAs (from specified) status.Memory s w s' now) (sym e) (
+            suc zero,
+            c.0,
+            subst (BreaksAfter zero (run_on step keep left so_far t.session (after w t).files (called_by next.line (next.depth + 1) t.calls ++ lines)).turns (after w t)) (sym c.1)
+                (breaks_here (run_on step keep left so_far t.session (after w t).files (called_by next.line (next.depth + 1) t.calls ++ lines)).turns (after w t)),
+          )
+      at (Err fault) e c = absurd c
+
+  -- no more lines may be run
+  pub past_ends : (r : Status) → EndsPast next.line next.what r w now → SessionEndsAs (run_on step keep zero so_far s w.files (next ∷ lines)) r s w s now
+  past_ends status.Refused h = (refl, (refl, h))
+  past_ends status.SinkFault h = (zero, refl, h)
+  past_ends status.Memory h = (zero, refl, h)
+  past_ends status.SourceFault h = absurd h
+  past_ends status.Done h = absurd h
+  past_ends status.Usage h = absurd h
+  past_ends status.NoScript h = absurd h
+  past_ends status.BadScript h = absurd h
+
+-- what breaks a line off breaks the run off
+pub breaks_run : (how : Broken) → IsBreak (status_of_turn (turned.Broken how))
+breaks_run broken.SourceFault = tt
+breaks_run broken.SinkFault = tt
+breaks_run broken.Memory = tt
+
+-- ---- how deep lines are
+
+-- one less is left
+fewer_left : (all left fewer : ℕ) (lines : List Waiting) → fewer ≤ left → AreWithin all left lines → AreWithin all fewer lines
+fewer_left all left fewer [] le h = tt
+fewer_left all left fewer (w ∷ lines) le h = (omega (arith, le, h.0), fewer_left all left fewer lines le h.1)
+
+called_within : (all left line depth : ℕ) (texts : List Bytes) (lines : List Waiting) → depth + left ≤ all → AreWithin all left lines
+    → AreWithin all left (called_by line depth texts ++ lines)
+called_within all left line depth [] lines le h = h
+called_within all left line depth (text ∷ texts) lines le h = (le, called_within all left line depth texts lines le h)
+
+-- after one of them is taken out, and those that it calls are put before the others
+pub within_after : (all left : ℕ) (next : Waiting) (texts : List Bytes) (lines : List Waiting) → AreWithin all (suc left) (next ∷ lines)
+    → AreWithin all left (called_by next.line (next.depth + 1) texts ++ lines)
+within_after all left next texts lines h =
+    called_within all left next.line (next.depth + 1) texts lines (omega (arith, h.0)) (fewer_left all (suc left) left lines (omega arith) h.1)
+
+pub within_rest : (all left : ℕ) (next : Waiting) (lines : List Waiting) → AreWithin all (suc left) (next ∷ lines) → AreWithin all left lines
+within_rest all left next lines h = fewer_left all (suc left) left lines (omega arith) h.1
+
+-- lines of a script are in no macro
+pub items_within : (all : ℕ) (items : List ScriptItem) → AreWithin all all (map waiting_of items)
+items_within all [] = tt
+items_within all (item ∷ items) = (omega arith, items_within all items)

@@ -1,5 +1,5 @@
 -- What one command does to a session and to the outside.
-use Rattle.std.specs.Prelude.{◌≡◌, ℕ, Option, None, Result, Ok, Err, OnErr}
+use Rattle.std.specs.Prelude.{◌≡◌, ℕ, Bool, List, [], Option, None, Result, Ok, Err, OnErr}
 use Rattle.plain_model.specs.Faults.{refusal}
 use Rattle.plain_model.specs.Files.{Files}
 use Rattle.plain_model.specs.Paths.{Bytes}
@@ -8,13 +8,21 @@ use Rattle.plain_model.specs.declared.status.Status.{Status}
 use Rattle.plain_model.specs.declared.status.Status.TheVariants as status
 use Rattle.script_reader.specs.declared.command.Command.{Command}
 use Rattle.script_reader.specs.declared.command.Command.TheVariants as command
+use Rattle.script_reader.specs.declared.command.Order.{Order}
+use Rattle.script_reader.specs.declared.command.Order.TheVariants as order
+use Rattle.script_reader.specs.declared.script.ScriptLine.{ScriptLine}
+use Rattle.script_reader.specs.declared.script.ScriptLine.TheVariants.{Define, Plain}
+use Rattle.script_reader.specs.Commands.{order_of}
 use Rattle.surgeon_store.specs.Outside.{StoreState, SinkState}
-use Rattle.history_machine.specs.Machine.{World, Turn, PartSent, after, sent, turn_of}
+use Rattle.history_machine.specs.Machine.{World, Turn, PartSent, after, passes_limit, sent, turn_of}
 use Rattle.history_machine.specs.Sessions.{Session, step}
 use Rattle.surgeon_session.specs.Calls.{Outcome}
 use Rattle.surgeon_session.specs.Ends.{status_of}
 use Rattle.surgeon_session.specs.declared.halted.Halted.{Halted}
 use Rattle.surgeon_session.specs.declared.halted.Halted.TheVariants as halted
+use Rattle.surgeon_session.specs.declared.turned.Broken.TheVariants as broken
+use Rattle.surgeon_session.specs.declared.turned.Turned.{Turned}
+use Rattle.surgeon_session.specs.declared.turned.Turned.TheVariants as turned
 
 -- ---- bytes that are sent
 
@@ -31,17 +39,21 @@ abbrev pub PartOf : {X : Type 0} → World → Result (Turn X) Fault → World �
 PartOf w (Ok t) now = PartSent t.to t.bytes w now
 PartOf w (Err fault) now = now ≡ w
 
--- what is specified is done, in the session and in the world
-abbrev pub Carries : {X : Type 0} → World → Result (Turn X) Fault → X → World → Type 0
-Carries w (Ok t) s' now = (s' ≡ t.session) × (now ≡ after w t)
-Carries w (Err fault) s' now = ⊥
+-- what is specified is done, in the session and in the world, and these lines are run next
+abbrev pub Carries : {X : Type 0} → List Bytes → World → Result (Turn X) Fault → X → World → Type 0
+Carries calls w (Ok t) s' now = (s' ≡ t.session) × (now ≡ after w t) × (t.calls ≡ calls)
+Carries calls w (Err fault) s' now = ⊥
 
--- a command is carried out, or refused as is specified and nothing changed, or a first part of its bytes is sent and the
--- session is as it was
-abbrev pub Steps : {X Y : Type 0} → Result Y Halted → X → World → Result (Turn X) Fault → X → World → Type 0
-Steps (Ok y) s w specified s' now = Carries w specified s' now
-Steps (Err (halted.Refused fault)) s w specified s' now = (specified ≡ Err fault) × (s' ≡ s) × (now ≡ w)
-Steps (Err other) s w specified s' now = (s' ≡ s) × PartOf w specified now
+-- a line is carried out, or refused as is specified and nothing changed, or a first part of its bytes is sent and the session
+-- is as it was; what is answered says which lines are run next
+abbrev pub Steps : {X Y : Type 0} → (Y → List Bytes) → Result Y Halted → X → World → Result (Turn X) Fault → X → World → Type 0
+Steps calls (Ok y) s w specified s' now = Carries (calls y) w specified s' now
+Steps calls (Err (halted.Refused fault)) s w specified s' now = (specified ≡ Err fault) × (s' ≡ s) × (now ≡ w)
+Steps calls (Err other) s w specified s' now = (s' ≡ s) × PartOf w specified now
+
+-- a command of a session has no lines run next
+abbrev pub no_calls : {Y : Type 0} → Y → List Bytes
+no_calls y = []
 
 -- ---- one command, over every store
 
@@ -64,31 +76,41 @@ Agrees (Err other) specified s' = Unit {0}
 -- What a command does that ends so. Where the world is reported: what the machine specifies. Of every store and sink: it
 -- is done or refused as the machine says, unless it reads a file; and if it isn't done, the session is as it was.
 pub record CarriesOut (s : StoreState) (k : SinkState) (old : Session) (what : Command) (result : Result (Unit {0}) Halted) (new : Session) (s' : StoreState) (k' : SinkState) : Type 0 where
-  pub outcome : Outcome (λ w now. Steps result old w (step old w.files what) new now) s k (status_of result) s' k'
+  pub outcome : Outcome (λ w now. Steps no_calls result old w (step old w.files what) new now) s k (status_of result) s' k'
   pub exact : ReadsNoFile what → (files : Files) → Agrees result (step old files what) new
   pub kept : OnErr result (new ≡ old)
 
 -- ---- one line of a run
 
--- a refusal is specified, and its line is printed
-abbrev pub Refuses : {X : Type 0} → World → ℕ → Result (Turn X) Fault → World → Type 0
-Refuses w line (Ok t) now = ⊥
-Refuses w line (Err fault) now = now ≡ sent None (refusal line fault) w
+-- a refusal is specified, it ends the run whatever was asked for or not, and its line is printed
+abbrev pub Refuses : {X : Type 0} → World → ℕ → Bool → Result (Turn X) Fault → World → Type 0
+Refuses w line is_last (Ok t) now = ⊥
+Refuses w line is_last (Err fault) now = (is_last ≡ passes_limit fault) × (now ≡ sent None (refusal line fault) w)
 
--- a first part of what the command sends, or of the line of its refusal, is sent, and the session is as it was
+-- a first part of what the line sends, or of the line of its refusal, is sent, and the session is as it was
 abbrev pub PartTurned : {X : Type 0} → X → World → ℕ → Result (Turn X) Fault → X → World → Type 0
 PartTurned s w line specified s' now = (s' ≡ s) × PartSent (turn_of s line specified).to (turn_of s line specified).bytes w now
 
--- a command of a run is carried out, or refused with its line, or a first part of what it sends is sent
-abbrev pub Turns : {X : Type 0} → Status → X → World → ℕ → Result (Turn X) Fault → X → World → Type 0
-Turns status.Done s w line specified s' now = Carries w specified s' now
-Turns status.Refused s w line specified s' now = (s' ≡ s) × Refuses w line specified now
-Turns status.SourceFault s w line specified s' now = PartTurned s w line specified s' now
-Turns status.SinkFault s w line specified s' now = PartTurned s w line specified s' now
-Turns status.Memory s w line specified s' now = PartTurned s w line specified s' now
-Turns other s w line specified s' now = ⊥
+-- a line of a run is carried out, or refused with its printed line, or a first part of what it sends is sent
+abbrev pub Turns : {X : Type 0} → Turned → X → World → ℕ → Result (Turn X) Fault → X → World → Type 0
+Turns (turned.Done calls) s w line specified s' now = Carries calls w specified s' now
+Turns (turned.Refused is_last) s w line specified s' now = (s' ≡ s) × Refuses w line is_last specified now
+Turns (turned.Broken how) s w line specified s' now = PartTurned s w line specified s' now
+
+-- the status of a run that ends with a line that ended so
+abbrev pub status_of_turn : Turned → Status
+status_of_turn (turned.Done calls) = status.Done
+status_of_turn (turned.Refused is_last) = status.Refused
+status_of_turn (turned.Broken broken.SourceFault) = status.SourceFault
+status_of_turn (turned.Broken broken.SinkFault) = status.SinkFault
+status_of_turn (turned.Broken broken.Memory) = status.Memory
 
 -- the command of a line, if it has one, is not `read`
-abbrev pub LineReadsNoFile : Result Command Fault → Type 0
-LineReadsNoFile (Ok what) = ReadsNoFile what
-LineReadsNoFile (Err fault) = Unit {0}
+abbrev pub OrderReadsNoFile : Result Order Fault → Type 0
+OrderReadsNoFile (Ok (order.Step what)) = ReadsNoFile what
+OrderReadsNoFile (Ok (order.Do call)) = Unit {0}
+OrderReadsNoFile (Err fault) = Unit {0}
+
+abbrev pub LineReadsNoFile : ScriptLine → Type 0
+LineReadsNoFile (Plain text) = OrderReadsNoFile (order_of text)
+LineReadsNoFile (Define name body) = Unit {0}

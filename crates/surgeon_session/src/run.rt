@@ -1,43 +1,93 @@
 //! The lines of a script, one after another.
-ghost use Rattle.std.specs.Prelude.{◌≡◌, ◌≢◌, ◌≤◌, IsErrOf, OnErr, OnOk};
-ghost use Rattle.plain_model.specs.Faults.{refusal};
+ghost use Rattle.std.specs.Prelude.{◌≡◌, ◌||◌, not, ◌≤◌, IfSome, IsErrOf, OnErr, OnOk, Ok};
 ghost use Rattle.plain_model.specs.Counts.{Rose};
-ghost use Rattle.surgeon_store.specs.Outside.{Puts, PutsSome};
-ghost use Rattle.history_machine.specs.Machine.{SessionEndsAs, so_far_after, stops};
-ghost use Rattle.history_machine.specs.Sessions.{line_step};
-ghost use Rattle.history_machine.specs.Whole.{run_from};
+ghost use Rattle.plain_model.specs.Faults.{refusal};
 ghost use Rattle.plain_model.specs.Files.{Files};
-ghost use Rattle.script_reader.specs.Commands.{command_of};
-ghost use Rattle.surgeon_session.specs.Calls.{Outcome};
-ghost use Rattle.surgeon_session.specs.Commands.{Agrees, LineReadsNoFile, Steps, Turns};
+ghost use Rattle.history_machine.specs.Machine.{SessionEndsAs, passes_limit, past, run_on};
+ghost use Rattle.history_machine.specs.Sessions.{line_step, ordered};
+ghost use Rattle.history_machine.specs.Whole.{run_from};
+ghost use Rattle.surgeon_session.specs.Calls.{Caused, Later, Outcome, world};
+ghost use Rattle.surgeon_session.specs.Commands.{
+  Agrees,
+  LineReadsNoFile,
+  OrderReadsNoFile,
+  Steps,
+  Turns,
+  status_of_turn,
+};
 ghost use Rattle.surgeon_session.specs.Ends.{IsEnd, status_of};
+ghost use Rattle.surgeon_session.specs.Waits.{AreWithin, EndsPast};
+ghost use Rattle.surgeon_session.specs.declared.turned.Turned.TheVariants as turned;
+ghost use Rattle.surgeon_store.specs.Outside.{Puts, PutsSome, StoreState};
 
 use crate::halted::Halted;
 use crate::session::Session;
-use plain_model::{Fault, NoMemory, Status};
-use script_reader::{Command, Script, ScriptItem};
+use crate::turned::{Broken, Turned};
+use crate::worklist::Worklist;
+use history_machine::Waiting;
+use plain_model::{Fault, Items, MAX_COMMANDS, MAX_LINE_BYTES, NoMemory, Status, Which};
+use script_reader::{LineList, Order, Script, ScriptLine, is_long};
 use std::alloc::Global;
 use surgeon_store::{Sink, Store, WriteEnd, write_all};
 
-// Carries out the command of a line.
+// Carries out an order inside so many macros, and gives the lines that are run next.
+fn carry_out_order<S: Store, T: Sink>(
+    alloc: Global,
+    session: &mut Session,
+    depth: u64,
+    order: &Order,
+    store: &mut S,
+    out: &mut T,
+) -> Result<LineList, Halted>
+    requires { depth ≤ MAX_COMMANDS }
+    ensures outcome { Outcome
+        (λ w now. Steps (λ calls. calls) result session.old w
+        (ordered session.old w.files depth order.now) session.new now)
+        (S.state store.old) (T.state out.old) (status_of result)
+        (S.state store.new) (T.state out.new) }
+    ensures exact { OrderReadsNoFile (Ok order.now) → (files : Files) →
+        Agrees result (ordered session.old files depth order.now) session.new }
+    ensures kept { OnErr result (session.new ≡ session.old) }
+{
+    match order {
+        Order::Step(command) => {
+            session.step(command, store, out)?;
+            Ok(Items::empty(alloc))
+        }
+        Order::Do(call) => Ok(session.expand(call, depth + 1)?),
+    }
+}
+
+// Carries out a line inside so many macros, and gives the lines that are run next.
 #[tactic(auto, unfolding(history_machine::specs::Sessions::line_step))]
 fn carry_out<S: Store, T: Sink>(
     alloc: Global,
     session: &mut Session,
-    line: &str,
+    depth: u64,
+    what: ScriptLine,
     store: &mut S,
     out: &mut T,
-) -> Result<(), Halted>
+) -> Result<LineList, Halted>
+    requires { depth ≤ MAX_COMMANDS }
     ensures outcome { Outcome
-        (λ w now. Steps result session.old w (line_step session.old w.files line.now)
-        session.new now) (S.state store.old) (T.state out.old) (status_of result)
+        (λ w now. Steps (λ calls. calls) result session.old w
+        (line_step session.old w.files depth what) session.new now)
+        (S.state store.old) (T.state out.old) (status_of result)
         (S.state store.new) (T.state out.new) }
-    ensures exact { LineReadsNoFile (command_of line.now) → (files : Files) →
-        Agrees result (line_step session.old files line.now) session.new }
+    ensures exact { LineReadsNoFile what → (files : Files) →
+        Agrees result (line_step session.old files depth what) session.new }
     ensures kept { OnErr result (session.new ≡ session.old) }
 {
-    let command = Command::read(alloc, line)?;
-    session.step(&command, store, out)
+    match what {
+        ScriptLine::Define { name, body } => {
+            session.define(name, body)?;
+            Ok(Items::empty(alloc))
+        }
+        ScriptLine::Plain(text) => {
+            let order = Order::read(alloc, text.as_str())?;
+            carry_out_order(alloc, session, depth, &order, store, out)
+        }
+    }
 }
 
 // Prints that a line is refused.
@@ -59,84 +109,143 @@ fn print_refusal<T: Sink>(
     }
 }
 
+// Whether a refusal is by a limit of runs, which ends each run.
+fn passes_limit(fault: &Fault) -> bool
+    ensures { result ≡ passes_limit fault.now }
+{
+    match fault {
+        Fault::ExpansionLimit { .. } => true,
+        _ => false,
+    }
+}
+
 // Carries out a line, or prints its refusal.
 fn turn<S: Store, T: Sink>(
     alloc: Global,
     session: &mut Session,
-    item: &ScriptItem,
+    next: Waiting,
     store: &mut S,
     out: &mut T,
-) -> Status
-    ensures outcome { Outcome
-        (λ w now. Turns result session.old w item.now.line
-        (line_step session.old w.files item.now.text) session.new now)
-        (S.state store.old) (T.state out.old) result (S.state store.new) (T.state out.new) }
-    ensures kept { result ≢ Status.Done → session.new ≡ session.old }
+) -> Turned
+    requires { next.depth ≤ MAX_COMMANDS }
+    ensures { Outcome
+        (λ w now. Turns result session.old w next.line
+        (line_step session.old w.files next.depth next.what) session.new now)
+        (S.state store.old) (T.state out.old) (status_of_turn result)
+        (S.state store.new) (T.state out.new) }
+{
+    let line = next.line;
+    match carry_out(alloc, session, next.depth, next.what, store, out) {
+        Ok(calls) => Turned::Done(calls),
+        Err(Halted::Refused(fault)) => match print_refusal(alloc, out, line, &fault) {
+            Ok(()) => Turned::Refused {
+                is_last: passes_limit(&fault),
+            },
+            Err(WriteEnd::SinkFault) => Turned::Broken(Broken::SinkFault),
+            Err(WriteEnd::Memory) => Turned::Broken(Broken::Memory),
+        },
+        Err(Halted::SourceFault) => Turned::Broken(Broken::SourceFault),
+        Err(Halted::SinkFault) => Turned::Broken(Broken::SinkFault),
+        Err(Halted::Memory) => Turned::Broken(Broken::Memory),
+    }
+}
+
+// What is reported of the line after the last one that may be run.
+fn past(what: &ScriptLine) -> Fault
+    ensures { result ≡ past what.now }
+{
+    match what {
+        ScriptLine::Plain(text) if is_long(text.as_str()) => Fault::ExpansionLimit {
+            which: Which::LineBytes,
+            number: MAX_LINE_BYTES,
+        },
+        _ => Fault::ExpansionLimit {
+            which: Which::Commands,
+            number: MAX_COMMANDS,
+        },
+    }
+}
+
+// Refuses a line, since no more may be run.
+fn refuse_past<T: Sink>(alloc: Global, out: &mut T, next: &Waiting) -> Status
+    ensures prescribed { (s : StoreState) → IfSome (world s (T.state out.old))
+        (λ w. IfSome (world s (T.state out.new))
+        (λ now. EndsPast next.now.line next.now.what result w now)) }
+    ensures caused { (s : StoreState) → Caused s (T.state out.old) result s (T.state out.new) }
+    ensures later { (s : StoreState) → Later s (T.state out.old) s (T.state out.new) }
     ensures ends { IsEnd result }
 {
-    match carry_out(alloc, session, item.text.as_str(), store, out) {
-        Ok(()) => Status::Done,
-        Err(Halted::Refused(fault)) => match print_refusal(alloc, out, item.line, &fault) {
-            Ok(()) => Status::Refused,
-            Err(WriteEnd::SinkFault) => Status::SinkFault,
-            Err(WriteEnd::Memory) => Status::Memory,
-        },
-        Err(Halted::SourceFault) => Status::SourceFault,
-        Err(Halted::SinkFault) => Status::SinkFault,
-        Err(Halted::Memory) => Status::Memory,
+    match print_refusal(alloc, out, next.line, &past(&next.what)) {
+        Ok(()) => Status::Refused,
+        Err(WriteEnd::SinkFault) => Status::SinkFault,
+        Err(WriteEnd::Memory) => Status::Memory,
     }
 }
 
-// Whether a run ends after a line with this end.
-fn is_stop(keep_going: bool, ended: Status) -> bool
-    ensures { result ≡ stops keep_going ended }
+// The status of a run that breaks off so.
+fn broken_status(how: Broken) -> Status
+    ensures { result ≡ status_of_turn (turned.Broken how) }
 {
-    match ended {
-        Status::Done => false,
-        Status::Refused => !keep_going,
-        _ => true,
+    match how {
+        Broken::SourceFault => Status::SourceFault,
+        Broken::SinkFault => Status::SinkFault,
+        Broken::Memory => Status::Memory,
     }
 }
 
-// The status of a run so far, after a line with this end.
-fn status_by(so_far: Status, ended: Status) -> Status
-    ensures { result ≡ so_far_after so_far ended }
+// Whether a run ends with a refusal.
+fn is_stop(keep_going: bool, is_last: bool) -> bool
+    ensures { result ≡ (is_last || not keep_going) }
 {
-    match ended {
-        Status::Refused => Status::Refused,
-        _ => so_far,
-    }
+    is_last || !keep_going
 }
 
-// Runs lines.
-fn run_items<S: Store, T: Sink>(
+// Runs the lines that wait.
+fn run_lines<S: Store, T: Sink>(
     alloc: Global,
     session: &mut Session,
-    items: &[ScriptItem],
+    mut lines: Worklist,
     keep_going: bool,
     store: &mut S,
     out: &mut T,
 ) -> Status
+    requires { AreWithin MAX_COMMANDS MAX_COMMANDS lines }
     ensures outcome { Outcome
-        (λ w now. SessionEndsAs (run_from session.old w.files items.now keep_going) result
+        (λ w now. SessionEndsAs
+        (run_on line_step keep_going MAX_COMMANDS Status.Done session.old w.files lines) result
         session.old w session.new now)
         (S.state store.old) (T.state out.old) result (S.state store.new) (T.state out.new) }
     ensures ends { IsEnd result }
 {
     let mut so_far = Status::Done;
-    for item in items {
-        let ended = turn(alloc, session, item, store, out);
-        if is_stop(keep_going, ended) {
-            return ended;
+    let mut left = MAX_COMMANDS;
+    while let Some(next) = lines.take() {
+        if left == 0 {
+            return refuse_past(alloc, out, &next);
         }
-        so_far = status_by(so_far, ended);
+        left -= 1;
+        let line = next.line;
+        let depth = next.depth + 1;
+        match turn(alloc, session, next, store, out) {
+            Turned::Done(calls) => match lines.call(line, depth, calls) {
+                Ok(()) => {}
+                Err(NoMemory) => return Status::Memory,
+            },
+            Turned::Refused { is_last } => {
+                if is_stop(keep_going, is_last) {
+                    return Status::Refused;
+                }
+                so_far = Status::Refused;
+            }
+            Turned::Broken(how) => return broken_status(how),
+        }
     }
     so_far
 }
 
 impl Session {
-    /// Runs a script: each line's command is carried out, or refused with a printed line. The first refusal ends the run,
-    /// unless it is to keep going.
+    /// Runs a script: each line's command is carried out, or refused with a printed line. A `do` is followed by the lines that it
+    /// calls. The first refusal ends the run, unless it is to keep going; one by a limit of runs (24) always does.
     pub fn run<S: Store, T: Sink>(
         &mut self,
         script: &Script,
@@ -153,6 +262,9 @@ impl Session {
         ensures ends { IsEnd result }
     {
         let alloc = self.allocator();
-        run_items(alloc, self, script.items(), keep_going, store, out)
+        match Worklist::of(alloc, script) {
+            Ok(lines) => run_lines(alloc, self, lines, keep_going, store, out),
+            Err(NoMemory) => Status::Memory,
+        }
     }
 }

@@ -1,7 +1,8 @@
 //! What a session holds, and one command. The parts: `loading` reads histories, `choosing` chooses and forgets them,
 //! `changing` edits them, `showing` makes the texts that are written and listed.
-ghost use Rattle.std.specs.Prelude.{◌≡◌, IfOk};
-ghost use Rattle.history_machine.specs.Sessions.{empty_session};
+ghost use Rattle.std.specs.Prelude.{◌≡◌, IfOk, OnErr, OnOk};
+ghost use Rattle.history_machine.specs.Sessions.{defining, empty_session};
+ghost use Rattle.script_reader.specs.Macros.{called};
 ghost use Rattle.surgeon_session.specs.Commands.{CarriesOut};
 ghost use Rattle.plain_model.specs.Faults.{Returns};
 ghost use Rattle.surgeon_session.specs.Entries.{chosen_history, chosen_name};
@@ -16,17 +17,18 @@ use crate::halted::Halted;
 use crate::repositories::Repositories;
 use event_arena::Events;
 use plain_model::{Fault, Halt, NoMemory, Text};
-use script_reader::Command;
+use script_reader::{Call, Command, LineList, Macros};
 use std::alloc::Global;
 use std::marker::Model;
 use surgeon_store::{Sink, Store};
 
-/// The loaded histories under their names, and which of them is chosen. (own)
+/// The loaded histories under their names, which of them is chosen, and the macros. (own)
 #[derive(Drop)]
 pub struct Session {
     alloc: Global,
     repositories: Repositories,
     choice: Option<Text>,
+    macros: Macros,
 }
 
 impl Model for Session {
@@ -34,11 +36,11 @@ impl Model for Session {
 
     ghost Value = { Session };
 
-    ghost view = { λ s. record { repos = s.repositories; choice = s.choice } };
+    ghost view = { λ s. record { repos = s.repositories; choice = s.choice; macros = s.macros } };
 }
 
 impl Session {
-    /// Nothing is loaded.
+    /// Nothing is loaded, and nothing defined.
     pub fn new(alloc: Global) -> Result<Session, NoMemory>
         ensures { IfOk result (λ session. session ≡ empty_session) }
     {
@@ -46,11 +48,28 @@ impl Session {
             alloc,
             repositories: Repositories::new(alloc),
             choice: None,
+            macros: Macros::new(alloc),
         })
     }
 
     pub(crate) fn allocator(&self) -> Global {
         self.alloc
+    }
+
+    /// Defines a macro, in the place of an older one of the name.
+    pub(crate) fn define(&mut self, name: Text, body: LineList) -> Result<(), NoMemory>
+        ensures ok { OnOk result (self.new ≡ defining self.old name body) }
+        ensures err { OnErr result (self.new ≡ self.old) }
+    {
+        self.macros.define(name, body)
+    }
+
+    /// The lines that a `do` puts in its place, where its body is run at this depth.
+    pub(crate) fn expand(&self, call: &Call, depth: u64) -> Result<LineList, Halt>
+        ensures { Returns (λ lines. lines) result
+            (called self.now.macros call.now.name call.now.words depth) }
+    {
+        self.macros.expand(call, depth)
     }
 
     // The chosen history.

@@ -1,6 +1,6 @@
 use crate::{Halted, Session};
 use plain_model::{Fault, Items, Status, Text};
-use script_reader::{Command, Script};
+use script_reader::{Order, Script};
 use std::alloc::Global;
 use std::test::Fail;
 use surgeon_store::{FileEntry, FileList, Store, SureSink, SureStore};
@@ -134,7 +134,9 @@ fn a_refusal_ends_the_run(rt: HostRuntime) -> Result<(), Fail> {
 fn answer(alloc: Global, session: &mut Session, line: &str) -> Result<&'static str, Fail> {
     let mut store = SureStore::new(alloc, files(alloc)?)?;
     let mut out = SureSink::new(alloc)?;
-    let command = Command::read(alloc, line).ok().ok_or("no command")?;
+    let Ok(Order::Step(command)) = Order::read(alloc, line) else {
+        return Ok("no command");
+    };
     match session.step(&command, &mut store, &mut out) {
         Ok(()) => Ok("done"),
         Err(Halted::Refused(Fault::NoRepo)) => Ok("nothing chosen"),

@@ -1,12 +1,14 @@
-use Rattle.std.proofs.Common.{refl}
-use Rattle.script_reader.specs.declared.command.Command.{Command}
+use Rattle.std.proofs.Common.{List, refl}
+use Rattle.plain_model.specs.Paths.{Bytes}
+use Rattle.script_reader.specs.declared.command.Order.{Order}
 use Rattle.history_machine.specs.Sessions.{line_step}
 use Rattle.surgeon_session.proofs.Halting.{halted_outcome, halts_after, returned}
 use Rattle.surgeon_session.proofs.run.carry_out.Goals as goal
 
-pub returns-in_err-command-clause-outcome : goal.returns-in_err-command-clause-outcome
+pub returns-in_err-order-in-Plain-clause-outcome : goal.returns-in_err-order-in-Plain-clause-outcome
 unfolding line_step
-returns-in_err-command-clause-outcome g c =
-    let halt = c.in_err-command.field-0.0 in
-    halted_outcome _ _ c.args.session.now c.args.session.now (λ files. line_step c.args.session.now files c.args.line.now) refl halt c.from_residual.result c.from_residual.ensures.1
-    (λ files. halts_after halt _ _ (returned (λ (b : Command). b) halt _ c.in_err-command.ensures))
+returns-in_err-order-in-Plain-clause-outcome g c =
+    let failed = c.in_err-order-in-Plain in
+    rw c.in-Plain.is
+    (halted_outcome (λ (calls : List Bytes). calls) _ _ c.args.session.now c.args.session.now _ refl failed.field-0.0 _ c.from_residual-in_err-order-in-Plain.ensures.1
+    (λ files. halts_after failed.field-0.0 _ _ (returned (λ (order : Order). order) failed.field-0.0 _ (rw c.as_str.ensures at failed.ensures))))

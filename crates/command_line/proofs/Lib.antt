@@ -1,0 +1,4 @@
+mod Outcome
+mod Seen
+mod Walked
+mod WordsAgree

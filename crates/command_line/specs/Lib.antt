@@ -1,0 +1,3 @@
+pub mod AskedFor
+pub mod Rows
+pub mod WordByWord
