@@ -16,12 +16,9 @@ use Rattle.std.proofs.Math.Bool.{or_assoc, or-false}
 use Rattle.event_arena.specs.Indices.{HasChildren, IsLinked, IsLinkedEvent}
 use Rattle.event_arena.specs.Once.{AreParentsOnce}
 use Rattle.event_arena.proofs.ListLemmas.{drop-item, length-flat-item}
+use Rattle.event_arena.proofs.PlaceLemmas.{some_suc}
 
 -- ---- places
-
-some_suc : (o : Option ℕ) (k : ℕ) → option_map suc o ≡ Some k → (j : ℕ) × (o ≡ Some j) × (suc j ≡ k)
-some_suc None k h = absurd (none-some k h)
-some_suc (Some j) k h = (j, refl, same_Some (suc j) k h)
 
 -- two ids at one place are one
 one_place : (a b : AnyId) (es : List PlainEvent) (k : ℕ) → place_of a es ≡ Some k → place_of b es ≡ Some k → a ≡ b

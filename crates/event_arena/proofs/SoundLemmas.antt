@@ -179,18 +179,6 @@ sound-once events h = record {
   childless = childless [] events h.formed;
 }
 
--- what has no place isn't there
-pub placeless : (es : List PlainEvent) (id : AnyId) → place_of id es ≡ None → find_event id es ≡ None
-placeless [] id h = refl
-placeless (e ∷ es) id h = elim (cases_Bool (same_id id (id_of e))) [
-  | inl it ↦ absurd (none-some 0 (sym h ∙ rw it refl))
-  | inr no_it ↦ cons-absent id e es no_it (placeless es id (no_suc (place_of id es) (rw no_it at h)))
-]
-  where
-    no_suc : (o : Option ℕ) → option_map suc o ≡ None → o ≡ None
-    no_suc None h = refl
-    no_suc (Some k) h = absurd (none-some (suc k) (sym h))
-
 -- a commit that isn't there is nobody's child
 no_child : (c n : ℕ) (es : List PlainEvent) → find_event (any.Commit n) es ≡ None → list_any (λ m. eqb m n) (children_of c es) ≡ false
 no_child c n [] h = refl

@@ -251,8 +251,7 @@ impl Plan {
             (self.new ≡ record self.old { after = without id self.old.after }) }
         ensures err { OnErr result (self.new ≡ self.old) }
     {
-        self.after.remove(id);
-        Ok(())
+        self.after.remove(id)
     }
 
     /// Takes away the events with these ids, in one pass over the list. Ids that aren't there are passed by.
