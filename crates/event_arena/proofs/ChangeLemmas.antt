@@ -1,8 +1,8 @@
 -- Changes of a list of events.
-use Rattle.std.proofs.Common.{◌≡◌, ◌∙◌, ℕ, zero, suc, ◌-◌, ◌<◌, Bool, true, false, ◌||◌, not, ◌⊎◌, inl, inr, List, [], ◌∷◌, ◌++◌, Option, Some, None, refl, ap, sym, subst, length, take, get_or, append_assoc, arith, filter}
+use Rattle.std.proofs.Common.{◌≡◌, ◌∙◌, ℕ, zero, suc, ◌-◌, ◌<◌, Bool, true, false, ◌||◌, inl, inr, List, [], ◌∷◌, ◌++◌, Option, Some, None, refl, ap, sym, length, take, get_or, append_assoc, arith}
 use Rattle.std.proofs.lemmas.Bool.{cases_Bool, true≢false}
 use Rattle.std.proofs.lemmas.Option.{none-some, same_Some}
-use Rattle.std.specs.List.{AllByRecursion, IsDistinct, list_any}
+use Rattle.std.specs.List.{AllByRecursion, IsDistinct}
 use Rattle.std.specs.Prelude.{map, option_to_list, replicate, slice_get}
 use Rattle.plain_model.specs.declared.id.AnyId.{AnyId}
 use Rattle.plain_model.specs.declared.id.AnyId.TheVariants as any
@@ -11,14 +11,14 @@ use Rattle.plain_model.specs.declared.person.Signed.{Signed}
 use Rattle.plain_model.specs.declared.event.PlainEvent.{PlainEvent}
 use Rattle.plain_model.specs.declared.event.PlainEvent.TheVariants as plain
 use Rattle.plain_model.specs.Lookups.{find_event, id_of, is_listed, place_of, same_id}
-use Rattle.history_laws.proofs.Ids.{same_id-refl, same_id-true, same_id-comm}
+use Rattle.history_laws.proofs.Ids.{same_id-true, same_id-comm}
 use Rattle.std.proofs.Math.Bool.{or-false, or-true}
 use Rattle.std.proofs.Math.ListN.{set}
 use Rattle.event_arena.specs.declared.field.Field.{Field}
 use Rattle.event_arena.specs.declared.field.Field.TheVariants as field
 use Rattle.event_arena.specs.declared.field.Role.{Role}
 use Rattle.event_arena.specs.declared.field.Role.TheVariants.{Author, Committer, Tagger}
-use Rattle.event_arena.specs.Changes.{IsOrderOf, changed, in_order, put_event, with_aliases, with_comment, with_field, with_label, with_mark, with_ops, with_parents, with_signed, with_target, without_all}
+use Rattle.event_arena.specs.Changes.{in_order, with_aliases, with_comment, with_field, with_label, with_mark, with_ops, with_parents, with_signed, with_target, without_all}
 use Rattle.event_arena.specs.Once.{AreDistinct}
 use Rattle.event_arena.proofs.PlaceLemmas.{some_suc}
 use Rattle.event_arena.proofs.SpentLemmas.{absent-cons, cons-absent, find-id}

@@ -1,14 +1,14 @@
 -- The places of events in a list, and the places that are noted for them.
-use Rattle.std.proofs.Common.{◌≡◌, ◌∙◌, ℕ, zero, suc, ◌<◌, Bool, true, false, cond, ◌⊎◌, inl, inr, List, [], ◌∷◌, ◌++◌, Option, Some, None, refl, ap, sym, subst, length, arith}
+use Rattle.std.proofs.Common.{◌≡◌, ◌∙◌, ℕ, zero, suc, ◌<◌, true, cond, ◌⊎◌, inl, inr, List, [], ◌∷◌, ◌++◌, Option, Some, None, refl, ap, sym, subst, length, arith}
 use Rattle.std.proofs.Math.ListN.{set}
-use Rattle.std.proofs.lemmas.Bool.{cases_Bool, true≢false}
+use Rattle.std.proofs.lemmas.Bool.{cases_Bool}
 use Rattle.std.proofs.lemmas.Option.{none-some, same_Some}
 use Rattle.std.specs.List.{insert, remove}
 use Rattle.std.specs.Prelude.{IsSome, option_map, slice_get}
 use Rattle.plain_model.specs.declared.id.AnyId.{AnyId}
 use Rattle.plain_model.specs.declared.event.PlainEvent.{PlainEvent}
 use Rattle.plain_model.specs.Lookups.{find_event, id_of, place_of, same_id}
-use Rattle.history_laws.proofs.Ids.{same_id-comm, same_id-refl, same_id-true}
+use Rattle.history_laws.proofs.Ids.{same_id-refl, same_id-true}
 use Rattle.event_arena.specs.Changes.{changed, put_after, without}
 use Rattle.event_arena.specs.Rows.{IsNoted, IsPlaced, noted}
 use Rattle.event_arena.specs.declared.places.Places.{Places}

@@ -1,16 +1,16 @@
 -- In a sound history ids, marks and parents occur once, and what isn't there has no children.
-use Rattle.std.proofs.Common.{◌≡◌, ◌∙◌, ℕ, suc, Bool, true, false, cond, not, ◌||◌, ◌&&◌, inl, inr, List, [], ◌∷◌, ◌++◌, Option, Some, None, refl, sym, ap, eqb, arith, append_assoc}
+use Rattle.std.proofs.Common.{◌≡◌, ◌∙◌, ℕ, Bool, true, false, cond, not, ◌||◌, ◌&&◌, inl, inr, List, [], ◌∷◌, ◌++◌, Option, Some, None, refl, sym, ap, eqb, arith, append_assoc}
 use Rattle.std.proofs.lemmas.Bool.{cases_Bool, eqb-true, true≢false}
 use Rattle.std.proofs.lemmas.Bool.Decides.{nat_tests}
 use Rattle.std.proofs.lemmas.Option.{none-some}
 use Rattle.std.specs.List.{AllByRecursion, list_any}
 use Rattle.std.specs.Map.{lookup}
-use Rattle.std.specs.Prelude.{is_some, map, option_map, option_to_list}
+use Rattle.std.specs.Prelude.{is_some, map, option_to_list}
 use Rattle.plain_model.specs.declared.id.AnyId.{AnyId}
 use Rattle.plain_model.specs.declared.id.AnyId.TheVariants as any
 use Rattle.plain_model.specs.declared.event.PlainEvent.{PlainEvent}
 use Rattle.plain_model.specs.declared.event.PlainEvent.TheVariants as plain
-use Rattle.plain_model.specs.Lookups.{children_of, event_marks, event_parents, find_event, id_of, marks_of, own_child, own_marks, place_of, same_id}
+use Rattle.plain_model.specs.Lookups.{children_of, event_marks, event_parents, find_event, id_of, marks_of, own_child, own_marks, same_id}
 use Rattle.plain_model.specs.Soundness.{AreSoundAfter, IsCommitOf, IsSound, IsSoundEvent, are_distinct, has_id}
 use Rattle.plain_model.specs.Streams.{is_among, is_marked}
 use Rattle.history_laws.proofs.Ids.{has_id-cons, has_id-append, event_new, same_id-refl, same_id-true, is_marked-append}

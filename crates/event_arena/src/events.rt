@@ -8,6 +8,7 @@ ghost use Rattle.std.specs.Prelude.{
   None,
   Some,
   length,
+  max,
   option_map,
   slice_get,
   IfOk,
@@ -43,8 +44,8 @@ use plain_model::{AnyId, CommitId, EventList, MAX_MARK, Mark, NoMemory, PlainEve
 use std::alloc::Global;
 use std::marker::Model;
 
-/// A sound history. Contracts see its list of events, `next_id`, the number below which all ids are spent, and
-/// `room`, up to which a plan can be carried out without memory.
+/// A sound history. Contracts see its list of events, `next_id`, the number below which all ids are spent, `slots`,
+/// how many places for events it keeps, and `room`, up to which a plan can be carried out without memory.
 #[derive(Drop)]
 pub struct Events {
     alloc: Global,
@@ -75,6 +76,7 @@ impl Events {
         ensures list { IfOk result (λ events. events.list ≡ list) }
         ensures next_id { IfOk result (λ events. events.next_id ≡ next_number list) }
         ensures low { IfOk result (λ events. events.next_id ≤ 2 ^ 62) }
+        ensures slots { IfOk result (λ events. events.slots ≡ length list) }
         ensures room { IfOk result (λ events. need list ≤ events.room) }
     {
         let table = EventTable::from_list(alloc, list)?;
@@ -209,9 +211,17 @@ impl Events {
         self.next_id
     }
 
+    /// How many places for events the history keeps. The place of an event that is gone stays, and serves a later one.
+    pub fn slots(&self) -> usize
+        ensures { result ≡ self.now.slots }
+    {
+        self.links.places()
+    }
+
     /// An equal table over the same events.
     pub(crate) fn share(&self, alloc: Global) -> Result<EventTable, NoMemory>
-        ensures { IfOk result (λ table. table ≡ self.now.list) }
+        ensures table { IfOk result (λ table. table ≡ self.now.list) }
+        ensures sound { IsSound self.now.list }
     {
         self.table.share(alloc)
     }
@@ -220,6 +230,7 @@ impl Events {
     pub fn reserve_for(&mut self, plan: &Plan) -> Result<(), NoMemory>
         ensures list { self.new.list ≡ self.old.list }
         ensures next_id { self.new.next_id ≡ self.old.next_id }
+        ensures slots { self.new.slots ≡ self.old.slots }
         ensures room { self.old.room ≤ self.new.room }
         ensures ok { OnOk result (need plan.now.after ≤ self.new.room) }
     {
@@ -243,9 +254,11 @@ impl Events {
         requires room { need plan.after ≤ self.old.room }
         ensures list { self.new.list ≡ plan.after }
         ensures next_id { self.new.next_id ≡ plan.next }
+        ensures slots { self.new.slots ≡ max self.old.slots (length plan.after) }
         ensures room { self.new.room ≡ self.old.room }
 
-        // What is spent stays spent, and a spent id that isn't there never comes back.
+        // What is spent stays spent, and a spent id that isn't there never comes back: no look-up finds it in a later
+        // state, though another event may have its place.
         ensures spent { self.old.next_id ≤ self.new.next_id }
         ensures none_back { BringsNoneBack self.old.next_id self.old.list self.new.list }
     {

@@ -12,6 +12,7 @@ ghost use Rattle.std.specs.Prelude.{
   None,
   flat_map,
   length,
+  max,
   nat_eq,
   slice_index_or,
   IsTrue,
@@ -30,9 +31,9 @@ use plain_model::{AnyId, CommitId, Mark, PlainEvent};
 // Links a child to those of its parents that are in the table.
 fn link_to(table: &EventTable, links: &mut Links, child: CommitId, parents: &[CommitId])
     requires once { IsTrue (are_distinct parents.now) }
-    requires places { length links.old.lists ≡ length table.now }
+    requires places { length table.now ≤ length links.old.lists }
     requires room { links.old.used + length parents.now ≤ links.old.link_room }
-    ensures places { length links.new.lists ≡ length table.now }
+    ensures places { length links.new.lists ≡ length links.old.lists }
     ensures used { links.new.used ≤ links.old.used + length parents.now }
     ensures place_room { links.new.place_room ≡ links.old.place_room }
     ensures link_room { links.new.link_room ≡ links.old.link_room }
@@ -48,9 +49,9 @@ fn link_to(table: &EventTable, links: &mut Links, child: CommitId, parents: &[Co
 // Links an event to its parents, if it is a commit.
 fn link(table: &EventTable, links: &mut Links, event: &PlainEvent)
     requires once { IsTrue (are_distinct (event_parents event.now)) }
-    requires places { length links.old.lists ≡ length table.now }
+    requires places { length table.now ≤ length links.old.lists }
     requires room { links.old.used + length (event_parents event.now) ≤ links.old.link_room }
-    ensures places { length links.new.lists ≡ length table.now }
+    ensures places { length links.new.lists ≡ length links.old.lists }
     ensures used { links.new.used ≤ links.old.used + length (event_parents event.now) }
     ensures place_room { links.new.place_room ≡ links.old.place_room }
     ensures link_room { links.new.link_room ≡ links.old.link_room }
@@ -61,28 +62,31 @@ fn link(table: &EventTable, links: &mut Links, event: &PlainEvent)
     }
 }
 
-// Makes so many places without children, and forgets all others.
+// Forgets all children, and makes places up to so many. Places that are there stay.
 fn clear_places(count: usize, links: &mut Links)
-    requires { count ≤ links.old.place_room }
-    ensures places { length links.new.lists ≡ count }
+    requires room { count ≤ links.old.place_room }
+    requires places { length links.old.lists ≤ links.old.place_room }
+    ensures places { length links.new.lists ≡ max (length links.old.lists) count }
     ensures empty { (k : _) → slice_index_or links.new.lists k [] ≡ [] }
     ensures used { links.new.used ≡ 0 }
     ensures place_room { links.new.place_room ≡ links.old.place_room }
     ensures link_room { links.new.link_room ≡ links.old.link_room }
 {
+    let places = links.places().max(count);
     links.clear();
-    for _place in 0..count {
+    for _place in 0..places {
         links.add_place();
     }
 }
 
 /// Links each commit of the table to its parents. It goes from the last one back, and each child is put before
-/// the others, so that children are in the order of the table.
+/// the others, so that children are in the order of the table. Places that are there stay, and may be used again.
 pub fn fill_links(table: &EventTable, links: &mut Links)
     requires once { AreParentsOnce table.now }
     requires place_room { length table.now ≤ links.old.place_room }
+    requires places { length links.old.lists ≤ links.old.place_room }
     requires link_room { length (flat_map event_parents table.now) ≤ links.old.link_room }
-    ensures places { length links.new.lists ≡ length table.now }
+    ensures places { length links.new.lists ≡ max (length links.old.lists) (length table.now) }
     ensures children { HasChildren links.new.lists table.now table.now }
     ensures place_room { links.new.place_room ≡ links.old.place_room }
     ensures link_room { links.new.link_room ≡ links.old.link_room }

@@ -1,6 +1,6 @@
-use Rattle.std.proofs.Common.{◌≡◌, ◌∙◌, Some, take, sym, ap, subst, add-one, arith, length, ◌∷◌, ◌++◌, []}
+use Rattle.std.proofs.Common.{◌∙◌, take, sym, ap, subst, add-one, arith}
 use Rattle.std.proofs.lemmas.List.{length-take-le}
-use Rattle.plain_model.specs.Lookups.{find_event, id_of}
+use Rattle.plain_model.specs.Lookups.{id_of}
 use Rattle.event_arena.specs.Rows.{IsNoted, IsPlaced, events_of}
 use Rattle.event_arena.proofs.DistinctLemmas.{distinct-before}
 use Rattle.event_arena.proofs.ListLemmas.{take-all, take-item}

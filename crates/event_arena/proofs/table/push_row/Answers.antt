@@ -1,6 +1,5 @@
 use Rattle.std.proofs.Common.{◌∙◌, ◌∷◌, ◌++◌, [], ap, refl}
 use Rattle.std.proofs.lemmas.Result.{MatchResult-from_err}
-use Rattle.event_arena.specs.Rows.{events_of}
 use Rattle.event_arena.proofs.RowLemmas.{rows-push, rows-same}
 use Rattle.event_arena.proofs.table.push_row.Goals as goal
 

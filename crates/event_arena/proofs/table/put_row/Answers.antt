@@ -2,7 +2,6 @@ use Rattle.std.proofs.Common.{◌∙◌, ap, refl}
 use Rattle.std.proofs.Math.ListN.{set}
 use Rattle.std.proofs.lemmas.Result.{MatchResult-from_err}
 use Rattle.std.specs.Vec.{with_item}
-use Rattle.event_arena.specs.Rows.{events_of}
 use Rattle.event_arena.proofs.RowLemmas.{rows-same, rows-set}
 use Rattle.event_arena.proofs.table.put_row.Goals as goal
 

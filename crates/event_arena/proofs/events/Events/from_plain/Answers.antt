@@ -1,4 +1,4 @@
-use Rattle.std.proofs.Common.{sym, subst, arith}
+use Rattle.std.proofs.Common.{◌∙◌, ap, length, sym, subst, arith}
 use Rattle.plain_model.specs.Soundness.{IsSound}
 use Rattle.event_arena.proofs.MeasureLemmas.{below-next, parents-need}
 use Rattle.event_arena.proofs.SoundLemmas.{sound-once}
@@ -26,11 +26,15 @@ invariant_of-result c =
     let marks = c.fill_marks.ensures in
     let room = c.in_ok-reserve.ensures.ok in
     let spare = c.in_ok-marks.ensures.spare in
+    let need = c.in-Some.ensures in
+    let empty = ap length (c.reserve.ensures.lists ∙ c.new-links.ensures) in
+    let slots = links.places in
     record {
       sound = subst IsSound (sym c.in_ok-table.ensures) c.requires.sound;
       spent = rw c.next_number-next_id.ensures.value (below-next c.in_ok-table.table);
       marks = marks.entries;
-      places = links.places;
+      places = omega arith;
+      slot_room = omega arith;
       children = links.children;
       place_room = omega arith;
       link_room = omega arith;

@@ -1,4 +1,4 @@
-use Rattle.std.proofs.Common.{◌≡◌, ◌∙◌, ap, subst, sym}
+use Rattle.std.proofs.Common.{◌∙◌, ap, subst, sym}
 use Rattle.plain_model.specs.Lookups.{id_of}
 use Rattle.event_arena.specs.Changes.{put_after}
 use Rattle.event_arena.specs.Spent.{AddsOnly}

@@ -1,4 +1,4 @@
-use Rattle.std.proofs.Common.{◌≡◌, ◌∙◌, suc, take, ap, sym, true, add-one}
+use Rattle.std.proofs.Common.{◌≡◌, ◌∙◌, take, ap, sym, true, add-one}
 use Rattle.std.proofs.Math.ListN.{set}
 use Rattle.std.specs.Prelude.{map}
 use Rattle.plain_model.specs.Lookups.{id_of, is_listed}

@@ -1,6 +1,5 @@
-use Rattle.std.proofs.Common.{◌≡◌, ◌∙◌, ◌∷◌, ◌++◌, [], Some, suc, take, ap, sym, add-one}
+use Rattle.std.proofs.Common.{◌≡◌, ◌∙◌, ◌∷◌, ◌++◌, [], take, ap, sym, add-one}
 use Rattle.std.specs.Prelude.{option_to_list}
-use Rattle.plain_model.specs.Lookups.{find_event}
 use Rattle.event_arena.specs.Changes.{in_order}
 use Rattle.event_arena.specs.Rows.{events_of}
 use Rattle.event_arena.proofs.ChangeLemmas.{order-more}

@@ -1,4 +1,4 @@
-use Rattle.std.proofs.Common.{◌∙◌, ap, refl, sym, arith}
+use Rattle.std.proofs.Common.{◌∙◌, ap, refl, sym}
 use Rattle.event_arena.specs.Rows.{events_of}
 use Rattle.event_arena.proofs.PlaceLemmas.{found-place}
 use Rattle.event_arena.proofs.RowLemmas.{rows-put_after}

@@ -1,4 +1,4 @@
-use Rattle.std.proofs.Common.{◌≡◌, ◌∙◌, ◌∷◌, ◌++◌, ◌<◌, [], suc, take, ap, sym, length, get_or, add-one, arith}
+use Rattle.std.proofs.Common.{◌≡◌, ◌∙◌, ◌∷◌, ◌++◌, ◌<◌, [], take, ap, sym, length, get_or, add-one, arith}
 use Rattle.std.specs.Prelude.{map}
 use Rattle.plain_model.specs.Lookups.{id_of, is_listed}
 use Rattle.event_arena.specs.Changes.{without_all}
