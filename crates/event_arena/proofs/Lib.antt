@@ -4,6 +4,7 @@ pub mod DistinctLemmas
 pub mod Examples
 pub mod LinkLemmas
 pub mod ListLemmas
+pub mod MarkLemmas
 pub mod MeasureLemmas
 pub mod OnceLemmas
 pub mod PlaceLemmas

@@ -154,12 +154,6 @@ remove-none id (e ∷ es) h = elim (cases_Bool (same_id id (id_of e))) [
 
 -- ---- noted places
 
-pub placed-nothing : (places : Places) → IsPlaced places []
-placed-nothing places id k h = absurd (none-some k h)
-
-pub placed-alike : (old new : Places) (es : List PlainEvent) → ((id : AnyId) → noted new id ≡ noted old id) → IsPlaced old es → IsPlaced new es
-placed-alike old new es same placed id k h = same id ∙ placed id k h
-
 -- the place of an id that isn't there is noted
 pub placed-beside : (old new : Places) (own : AnyId) (place : ℕ) (es : List PlainEvent) → find_event own es ≡ None → IsNoted own place old new → IsPlaced old es → IsPlaced new es
 placed-beside old new own place es absent note placed id k h = elim (cases_Bool (same_id id own)) [

@@ -39,7 +39,6 @@ use crate::links::{Children, Links};
 use crate::measure::{greatest_mark, need_of, next_number};
 use crate::plan::Plan;
 use crate::table::EventTable;
-use indexmap::IndexMap;
 use plain_model::{AnyId, CommitId, EventList, MAX_MARK, Mark, NoMemory, PlainEvent};
 use std::alloc::Global;
 use std::marker::Model;
@@ -50,7 +49,8 @@ use std::marker::Model;
 pub struct Events {
     alloc: Global,
     table: EventTable,
-    marks: IndexMap<u64, AnyId>,
+    // In the order of the marks.
+    marks: Vec<(u64, AnyId)>,
     links: Links,
     next_id: u64,
     room: usize,
@@ -83,7 +83,7 @@ impl Events {
         let Some(room) = need_of(&table) else {
             return Err(NoMemory);
         };
-        let mut marks = IndexMap::with_capacity(alloc, room)?;
+        let mut marks = Vec::with_capacity(alloc, room)?;
         let mut links = Links::new(alloc);
         links.reserve(room, room)?;
         fill_marks(&table, &mut marks);
@@ -165,9 +165,13 @@ impl Events {
     pub fn by_mark(&self, mark: Mark) -> Option<AnyId>
         ensures { result ≡ find_mark mark self.now.list }
     {
-        match self.marks.get(&mark.number()) {
-            Some(id) => Some(*id),
-            None => None,
+        let number = mark.number();
+        match self
+            .marks
+            .binary_search_by_key(&number, |marked: &(u64, AnyId)| -> u64 { marked.0 })
+        {
+            Ok(at) => Some(self.marks[at].1),
+            Err(_) => None,
         }
     }
 

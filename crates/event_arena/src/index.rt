@@ -1,6 +1,4 @@
 //! How the indices of a history are filled from its table of events.
-ghost use Rattle.indexmap.specs.IndexMap.{index_map_len, spare};
-ghost use Rattle.std.specs.Map.{lookup};
 ghost use Rattle.std.specs.Prelude.{
   ◌≡◌,
   ◌≤◌,
@@ -9,23 +7,22 @@ ghost use Rattle.std.specs.Prelude.{
   ◌∷◌,
   ◌++◌,
   [],
-  None,
   flat_map,
   length,
   max,
-  nat_eq,
   slice_index_or,
+  vec_capacity,
+  vec_len,
   IsTrue,
 };
-ghost use Rattle.event_arena.specs.Indices.{HasChildren, IsLinked, IsLinkedEvent};
-ghost use Rattle.event_arena.specs.Once.{AreMarkedOnce, AreParentsOnce, named};
+ghost use Rattle.event_arena.specs.Indices.{HasChildren, IsLinked, IsLinkedEvent, IsMarkIndex};
+ghost use Rattle.event_arena.specs.Once.{AreParentsOnce, named};
 ghost use Rattle.plain_model.specs.Lookups.{event_parents, marks_of, own_marks};
 ghost use Rattle.plain_model.specs.Soundness.{are_distinct};
 ghost use Rattle.plain_model.specs.declared.id.AnyId.TheVariants.{Commit};
 
 use crate::links::Links;
 use crate::table::EventTable;
-use indexmap::IndexMap;
 use plain_model::{AnyId, CommitId, Mark, PlainEvent};
 
 // Links a child to those of its parents that are in the table.
@@ -98,78 +95,56 @@ pub fn fill_links(table: &EventTable, links: &mut Links)
     }
 }
 
-// Notes a mark that wasn't noted, in room that is there.
-fn note(marks: &mut IndexMap<u64, AnyId>, mark: u64, id: AnyId)
-    requires absent { lookup (nat_eq mark) marks.old.entries ≡ None }
-    requires room { 0 < spare marks.old }
-    ensures entries { marks.new.entries ≡ marks.old.entries ++ (mark, id) ∷ [] }
-    ensures room { index_map_len marks.old + spare marks.old
-        ≤ index_map_len marks.new + spare marks.new }
-{
-    let _ = marks.insert(mark, id).unwrap();
-}
-
-// Notes the aliases of a commit.
-fn note_aliases(marks: &mut IndexMap<u64, AnyId>, aliases: &[Mark], id: CommitId)
-    requires once { AreMarkedOnce (marks.old.entries ++ named (Commit id) aliases.now) }
-    requires room { length aliases.now ≤ spare marks.old }
-    ensures entries { marks.new.entries ≡ marks.old.entries ++ named (Commit id) aliases.now }
-    ensures room { index_map_len marks.old + spare marks.old
-        ≤ index_map_len marks.new + spare marks.new }
+// Notes the aliases of a commit, in room that is there.
+fn note_aliases(marks: &mut Vec<(u64, AnyId)>, aliases: &[Mark], id: CommitId)
+    requires { vec_len marks.old + length aliases.now ≤ vec_capacity marks.old }
+    ensures items { marks.new.items ≡ marks.old.items ++ named (Commit id) aliases.now }
+    ensures len { vec_len marks.new ≡ vec_len marks.old + length aliases.now }
+    ensures room { vec_capacity marks.new ≡ vec_capacity marks.old }
 {
     for alias in aliases {
-        note(marks, alias.number(), AnyId::Commit(id));
+        marks.push_reserved((alias.number(), AnyId::Commit(id)));
     }
 }
 
-// Notes the mark of a commit and its aliases.
-fn note_commit(marks: &mut IndexMap<u64, AnyId>, mark: Mark, aliases: &[Mark], id: CommitId)
-    requires once { AreMarkedOnce (marks.old.entries ++ named (Commit id) (mark ∷ aliases.now)) }
-    requires room { length aliases.now < spare marks.old }
-    ensures entries { marks.new.entries
-        ≡ marks.old.entries ++ named (Commit id) (mark ∷ aliases.now) }
-    ensures room { index_map_len marks.old + spare marks.old
-        ≤ index_map_len marks.new + spare marks.new }
-{
-    note(marks, mark.number(), AnyId::Commit(id));
-    note_aliases(marks, aliases, id);
-}
-
 // Notes the marks of an event.
-fn note_event(marks: &mut IndexMap<u64, AnyId>, event: &PlainEvent)
-    requires once { AreMarkedOnce (marks.old.entries ++ own_marks event.now) }
-    requires room { length (own_marks event.now) ≤ spare marks.old }
-    ensures entries { marks.new.entries ≡ marks.old.entries ++ own_marks event.now }
-    ensures room { index_map_len marks.old + spare marks.old
-        ≤ index_map_len marks.new + spare marks.new }
+fn note_event(marks: &mut Vec<(u64, AnyId)>, event: &PlainEvent)
+    requires { vec_len marks.old + length (own_marks event.now) ≤ vec_capacity marks.old }
+    ensures items { marks.new.items ≡ marks.old.items ++ own_marks event.now }
+    ensures len { vec_len marks.new ≡ vec_len marks.old + length (own_marks event.now) }
+    ensures room { vec_capacity marks.new ≡ vec_capacity marks.old }
 {
     match event {
-        PlainEvent::Blob { id, mark, .. } => note(marks, mark.number(), AnyId::Blob(*id)),
+        PlainEvent::Blob { id, mark, .. } => {
+            marks.push_reserved((mark.number(), AnyId::Blob(*id)));
+        }
         PlainEvent::Commit {
             id,
             mark,
             aliases,
             ..
-        } => note_commit(marks, *mark, aliases.as_slice(), *id),
+        } => {
+            marks.push_reserved((mark.number(), AnyId::Commit(*id)));
+            note_aliases(marks, aliases.as_slice(), *id);
+        }
         PlainEvent::Tag { id, mark, .. } => {
             if let Some(mark) = mark {
-                note(marks, mark.number(), AnyId::Tag(*id));
+                marks.push_reserved((mark.number(), AnyId::Tag(*id)));
             }
         }
         _ => {}
     }
 }
 
-/// Notes each mark of the table, and forgets all others.
-pub fn fill_marks(table: &EventTable, marks: &mut IndexMap<u64, AnyId>)
-    requires once { AreMarkedOnce (marks_of table.now) }
-    requires room { length (marks_of table.now) ≤ index_map_len marks.old + spare marks.old }
-    ensures entries { marks.new.entries ≡ marks_of table.now }
-    ensures room { index_map_len marks.old + spare marks.old
-        ≤ index_map_len marks.new + spare marks.new }
+/// Notes each mark of the table, in the order of the marks, and forgets all others.
+pub fn fill_marks(table: &EventTable, marks: &mut Vec<(u64, AnyId)>)
+    requires { length (marks_of table.now) ≤ vec_capacity marks.old }
+    ensures index { IsMarkIndex marks.new.items table.now }
+    ensures room { vec_capacity marks.new ≡ vec_capacity marks.old }
 {
     marks.clear();
     for place in 0..table.count() {
         note_event(marks, table.nth(place));
     }
+    marks.sort_unstable_by_key(|marked: &(u64, AnyId)| -> u64 { marked.0 });
 }
