@@ -1,5 +1,5 @@
 ghost use Rattle.std.specs.Prelude.{◌≡◌, ◌<◌, ◌+◌, ◌^◌, ◌∷◌, ◌++◌, ◌⊎◌, [], None, codes, IfOk, IfSome, IsSome, IsTrue, OnOk};
-ghost use Rattle.event_arena.specs.Changes.{has_mark, without};
+ghost use Rattle.event_arena.specs.Changes.{has_comment, has_label, has_mark, has_signed, without};
 ghost use Rattle.event_arena.specs.Examples.{commit, example, grown, other_order, pair, put, signed, tag};
 ghost use Rattle.plain_model.specs.Lookups.{find_event};
 ghost use Rattle.plain_model.specs.Soundness.{IsSound};
@@ -391,34 +391,84 @@ fn events_are_found_by_number_mark_id_and_parent(rt: HostRuntime) -> Result<(), 
     Ok(())
 }
 
-fn set_fields(alloc: Global, plan: &mut Plan) -> Result<(), Fail> {
-    find(plan, commit_id(5))?;
-    plan.set_parents(CommitId::new(5), Items::of(alloc, &[CommitId::new(4)])?)?;
-    find(plan, commit_id(3))?;
-    plan.set_ops(CommitId::new(3), Items::of(alloc, &[FileOp::DeleteAll])?)?;
-    find(plan, commit_id(3))?;
-    plan.set_aliases(CommitId::new(3), Items::of(alloc, &[mark(40)?, mark(41)?])?)?;
-    find_marked(plan, blob_id(1))?;
-    plan.set_mark(blob_id(1), mark(9)?)?;
-    find_marked(plan, tag_id(6))?;
-    plan.set_mark(tag_id(6), mark(60)?)?;
+fn set_parents(alloc: Global, plan: &mut Plan, number: u64, parent: u64) -> Result<(), Fail> {
+    find(plan, commit_id(number))?;
+    plan.set_parents(
+        CommitId::new(number),
+        Items::of(alloc, &[CommitId::new(parent)])?,
+    )?;
+    Ok(())
+}
+
+fn set_ops(alloc: Global, plan: &mut Plan, number: u64) -> Result<(), Fail> {
+    find(plan, commit_id(number))?;
+    plan.set_ops(
+        CommitId::new(number),
+        Items::of(alloc, &[FileOp::DeleteAll])?,
+    )?;
+    Ok(())
+}
+
+fn set_aliases(alloc: Global, plan: &mut Plan, number: u64) -> Result<(), Fail> {
+    find(plan, commit_id(number))?;
+    plan.set_aliases(
+        CommitId::new(number),
+        Items::of(alloc, &[mark(40)?, mark(41)?])?,
+    )?;
+    Ok(())
+}
+
+fn set_mark(plan: &mut Plan, id: AnyId, number: u64) -> Result<(), Fail> {
+    find_marked(plan, id)?;
+    plan.set_mark(id, mark(number)?)?;
+    Ok(())
+}
+
+fn set_targets(plan: &mut Plan) -> Result<(), Fail> {
     find(plan, tag_id(6))?;
     plan.set_target(tag_id(6), CommitId::new(4))?;
     find(plan, reset_id(7))?;
     plan.set_target(reset_id(7), CommitId::new(5))?;
-    find(plan, commit_id(4))?;
-    plan.set_comment(commit_id(4), text(alloc, b"because")?)?;
+    Ok(())
+}
+
+fn set_comment(alloc: Global, plan: &mut Plan, id: AnyId, comment: &[u8]) -> Result<(), Fail>
+    requires { IsTrue (has_comment id) }
+{
+    find(plan, id)?;
+    plan.set_comment(id, text(alloc, comment)?)?;
+    Ok(())
+}
+
+fn set_fields(alloc: Global, plan: &mut Plan) -> Result<(), Fail> {
+    set_parents(alloc, plan, 5, 4)?;
+    set_ops(alloc, plan, 3)?;
+    set_aliases(alloc, plan, 3)?;
+    set_mark(plan, blob_id(1), 9)?;
+    set_mark(plan, tag_id(6), 60)?;
+    set_targets(plan)?;
+    set_comment(alloc, plan, commit_id(4), b"because")
+}
+
+// Gives an event another person who signs, by the seconds.
+fn set_signed(
+    alloc: Global,
+    plan: &mut Plan,
+    id: AnyId,
+    role: Role,
+    seconds: u64,
+) -> Result<(), Fail>
+    requires { IsTrue (has_signed role id) }
+{
+    find(plan, id)?;
+    plan.set_signed(id, role, signed(alloc, seconds)?)?;
     Ok(())
 }
 
 fn set_people(alloc: Global, plan: &mut Plan) -> Result<(), Fail> {
-    find(plan, commit_id(4))?;
-    plan.set_signed(commit_id(4), Role::Author, signed(alloc, 44)?)?;
-    find(plan, commit_id(5))?;
-    plan.set_signed(commit_id(5), Role::Committer, signed(alloc, 55)?)?;
-    find(plan, tag_id(6))?;
-    plan.set_signed(tag_id(6), Role::Tagger, signed(alloc, 66)?)?;
-    Ok(())
+    set_signed(alloc, plan, commit_id(4), Role::Author, 44)?;
+    set_signed(alloc, plan, commit_id(5), Role::Committer, 55)?;
+    set_signed(alloc, plan, tag_id(6), Role::Tagger, 66)
 }
 
 fn fields_set(alloc: Global, plan: &mut Plan) -> Result<Text, Fail> {
@@ -440,14 +490,18 @@ fn fields_are_set_by_id(rt: HostRuntime) -> Result<(), Fail> {
     Ok(())
 }
 
-fn set_labels(alloc: Global, plan: &mut Plan) -> Result<(), Fail> {
-    find(plan, commit_id(4))?;
-    plan.set_label(commit_id(4), text(alloc, b"other")?)?;
-    find(plan, tag_id(6))?;
-    plan.set_label(tag_id(6), text(alloc, b"v2")?)?;
-    find(plan, reset_id(7))?;
-    plan.set_label(reset_id(7), text(alloc, b"old")?)?;
+fn set_label(alloc: Global, plan: &mut Plan, id: AnyId, label: &[u8]) -> Result<(), Fail>
+    requires { IsTrue (has_label id) }
+{
+    find(plan, id)?;
+    plan.set_label(id, text(alloc, label)?)?;
     Ok(())
+}
+
+fn set_labels(alloc: Global, plan: &mut Plan) -> Result<(), Fail> {
+    set_label(alloc, plan, commit_id(4), b"other")?;
+    set_label(alloc, plan, tag_id(6), b"v2")?;
+    set_label(alloc, plan, reset_id(7), b"old")
 }
 
 // The branch of a commit or a reset, or the name of a tag.
