@@ -4,7 +4,7 @@ use Rattle.std.proofs.lemmas.List.{reverse-append, length-reverse}
 use Rattle.std.proofs.lemmas.Bool.{cases_Bool}
 use Rattle.std.proofs.lemmas.Bool.Decides.{nat_tests}
 use Rattle.std.proofs.Math.ListN.{set}
-use Rattle.plain_model.proofs.Numbers.{eqb_turned, eqb_lower}
+use Rattle.plain_model.proofs.Numbers.{eqb_lower}
 use Rattle.event_arena.specs.declared.links.Link.{Link}
 use Rattle.event_arena.specs.Chains.{follow, chain_at, IsBelow, AreBack, AllBelow}
 

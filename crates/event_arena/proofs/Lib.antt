@@ -1,11 +1,13 @@
 pub mod ChainLemmas
 pub mod ChangeLemmas
+pub mod DistinctLemmas
 pub mod Examples
-pub mod Ids
 pub mod LinkLemmas
 pub mod ListLemmas
+pub mod MarkLemmas
 pub mod MeasureLemmas
 pub mod OnceLemmas
+pub mod PlaceLemmas
 pub mod RowLemmas
 pub mod SoundLemmas
 pub mod SpentLemmas

@@ -1,11 +1,11 @@
 -- Links between the events of a list.
-use Rattle.std.proofs.Common.{◌≡◌, ◌∙◌, ℕ, zero, suc, ◌+◌, ◌<◌, ◌≤◌, Bool, true, false, cond, not, ◌||◌, ◌&&◌, inl, inr, List, [], ◌∷◌, ◌++◌, Option, Some, None, refl, sym, ap, subst, length, get_or, take, drop, eqb, arith}
+use Rattle.std.proofs.Common.{◌≡◌, ◌∙◌, ℕ, zero, suc, ◌+◌, ◌<◌, ◌≤◌, Bool, true, false, cond, not, ◌||◌, ◌&&◌, inl, inr, List, [], ◌∷◌, ◌++◌, Some, None, refl, sym, ap, subst, length, get_or, take, drop, eqb, arith}
 use Rattle.std.proofs.lemmas.Bool.{cases_Bool, eqb-true, true≢false}
 use Rattle.std.proofs.lemmas.Bool.Decides.{nat_tests}
 use Rattle.std.proofs.lemmas.Option.{none-some, same_Some}
 use Rattle.std.proofs.Math.ListN.{set}
 use Rattle.std.specs.List.{list_any}
-use Rattle.std.specs.Prelude.{flat_map, option_map, slice_get, IsTrue}
+use Rattle.std.specs.Prelude.{flat_map, slice_get, IsTrue}
 use Rattle.plain_model.specs.declared.id.AnyId.{AnyId}
 use Rattle.plain_model.specs.declared.id.AnyId.TheVariants as any
 use Rattle.plain_model.specs.declared.event.PlainEvent.{PlainEvent}
@@ -16,12 +16,9 @@ use Rattle.std.proofs.Math.Bool.{or_assoc, or-false}
 use Rattle.event_arena.specs.Indices.{HasChildren, IsLinked, IsLinkedEvent}
 use Rattle.event_arena.specs.Once.{AreParentsOnce}
 use Rattle.event_arena.proofs.ListLemmas.{drop-item, length-flat-item}
+use Rattle.event_arena.proofs.PlaceLemmas.{some_suc}
 
 -- ---- places
-
-some_suc : (o : Option ℕ) (k : ℕ) → option_map suc o ≡ Some k → (j : ℕ) × (o ≡ Some j) × (suc j ≡ k)
-some_suc None k h = absurd (none-some k h)
-some_suc (Some j) k h = (j, refl, same_Some (suc j) k h)
 
 -- two ids at one place are one
 one_place : (a b : AnyId) (es : List PlainEvent) (k : ℕ) → place_of a es ≡ Some k → place_of b es ≡ Some k → a ≡ b

@@ -40,7 +40,7 @@ module _ {X : Type 0} where
   pub reverse-push : (xs : List X) (x : X) → reverse (xs ++ x ∷ []) ≡ x ∷ reverse xs
   reverse-push xs x = reverse-append xs (x ∷ [])
 
-  append-nil : (xs : List X) → xs ++ [] ≡ xs
+  pub append-nil : (xs : List X) → xs ++ [] ≡ xs
   append-nil [] = refl
   append-nil (x ∷ xs) = ap (λ ys. x ∷ ys) (append-nil xs)
 

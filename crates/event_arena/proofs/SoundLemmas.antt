@@ -1,16 +1,16 @@
 -- In a sound history ids, marks and parents occur once, and what isn't there has no children.
-use Rattle.std.proofs.Common.{◌≡◌, ◌∙◌, ℕ, suc, Bool, true, false, cond, not, ◌||◌, ◌&&◌, inl, inr, List, [], ◌∷◌, ◌++◌, Option, Some, None, refl, sym, ap, eqb, arith, append_assoc}
+use Rattle.std.proofs.Common.{◌≡◌, ◌∙◌, ℕ, Bool, true, false, cond, not, ◌||◌, ◌&&◌, inl, inr, List, [], ◌∷◌, ◌++◌, Option, Some, None, refl, sym, ap, eqb, arith, append_assoc}
 use Rattle.std.proofs.lemmas.Bool.{cases_Bool, eqb-true, true≢false}
 use Rattle.std.proofs.lemmas.Bool.Decides.{nat_tests}
 use Rattle.std.proofs.lemmas.Option.{none-some}
 use Rattle.std.specs.List.{AllByRecursion, list_any}
 use Rattle.std.specs.Map.{lookup}
-use Rattle.std.specs.Prelude.{is_some, map, option_map, option_to_list}
+use Rattle.std.specs.Prelude.{is_some, map, option_to_list}
 use Rattle.plain_model.specs.declared.id.AnyId.{AnyId}
 use Rattle.plain_model.specs.declared.id.AnyId.TheVariants as any
 use Rattle.plain_model.specs.declared.event.PlainEvent.{PlainEvent}
 use Rattle.plain_model.specs.declared.event.PlainEvent.TheVariants as plain
-use Rattle.plain_model.specs.Lookups.{children_of, event_marks, event_parents, find_event, id_of, marks_of, own_child, own_marks, place_of, same_id}
+use Rattle.plain_model.specs.Lookups.{children_of, event_marks, event_parents, find_event, id_of, marks_of, own_child, own_marks, same_id}
 use Rattle.plain_model.specs.Soundness.{AreSoundAfter, IsCommitOf, IsSound, IsSoundEvent, are_distinct, has_id}
 use Rattle.plain_model.specs.Streams.{is_among, is_marked}
 use Rattle.history_laws.proofs.Ids.{has_id-cons, has_id-append, event_new, same_id-refl, same_id-true, is_marked-append}
@@ -178,18 +178,6 @@ sound-once events h = record {
   parents = parents-once [] events h.formed;
   childless = childless [] events h.formed;
 }
-
--- what has no place isn't there
-pub placeless : (es : List PlainEvent) (id : AnyId) → place_of id es ≡ None → find_event id es ≡ None
-placeless [] id h = refl
-placeless (e ∷ es) id h = elim (cases_Bool (same_id id (id_of e))) [
-  | inl it ↦ absurd (none-some 0 (sym h ∙ rw it refl))
-  | inr no_it ↦ cons-absent id e es no_it (placeless es id (no_suc (place_of id es) (rw no_it at h)))
-]
-  where
-    no_suc : (o : Option ℕ) → option_map suc o ≡ None → o ≡ None
-    no_suc None h = refl
-    no_suc (Some k) h = absurd (none-some (suc k) (sym h))
 
 -- a commit that isn't there is nobody's child
 no_child : (c n : ℕ) (es : List PlainEvent) → find_event (any.Commit n) es ≡ None → list_any (λ m. eqb m n) (children_of c es) ≡ false

@@ -1,9 +1,12 @@
--- How the children at the places of a list grow, while commits are linked to their parents. (own)
+-- The indices of a history: its marks in their order; and the children at the places of a list, and how they grow, while
+-- commits are linked to their parents. (own)
 use Rattle.std.specs.Prelude.{◌≡◌, ◌==◌, ℕ, List, [], ◌∷◌, ◌++◌, Some, slice_index_or, if◌then◌else◌}
 use Rattle.std.specs.List.{list_any}
+use Rattle.std.specs.List.Sorted.{IsNonDecreasingBy, IsPermutation}
+use Rattle.plain_model.specs.declared.id.AnyId.{AnyId}
 use Rattle.plain_model.specs.declared.id.AnyId.TheVariants as any
 use Rattle.plain_model.specs.declared.event.PlainEvent.{PlainEvent}
-use Rattle.plain_model.specs.Lookups.{children_of, own_child, place_of}
+use Rattle.plain_model.specs.Lookups.{children_of, marks_of, own_child, place_of}
 
 -- at the place of each commit of the list are its children among the others
 abbrev pub HasChildren : List (List ℕ) → List PlainEvent → List PlainEvent → Type 0
@@ -17,3 +20,8 @@ IsLinked child parents events old new = (c k : ℕ) → place_of (any.Commit c) 
 -- so is an event, if it is a commit
 abbrev pub IsLinkedEvent : PlainEvent → List PlainEvent → List (List ℕ) → List (List ℕ) → Type 0
 IsLinkedEvent e events old new = (c k : ℕ) → place_of (any.Commit c) events ≡ Some k → slice_index_or new k [] ≡ own_child c e ++ slice_index_or old k []
+
+-- all marks of the events, each with the id of its event, in the order of the marks
+pub record IsMarkIndex (marks : List (ℕ × AnyId)) (events : List PlainEvent) : Type 0 where
+  pub all : IsPermutation (marks_of events) marks
+  pub rising : IsNonDecreasingBy (λ m. m.0) marks

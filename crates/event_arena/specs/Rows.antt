@@ -1,14 +1,37 @@
--- The events of a table's rows. (own)
-use Rattle.std.specs.Prelude.{◌≡◌, List, [], ◌∷◌, map}
+-- The events of a table's rows, and the places that are noted for them. (own)
+use Rattle.std.specs.Prelude.{◌≡◌, ◌==◌, ℕ, List, map, Some, slice_index_or, if◌then◌else◌}
 use Rattle.std.specs.declared.rc.Rc.{Rc}
 use Rattle.plain_model.specs.declared.id.AnyId.{AnyId}
+use Rattle.plain_model.specs.declared.id.AnyId.TheVariants as any
 use Rattle.plain_model.specs.declared.event.PlainEvent.{PlainEvent}
-use Rattle.plain_model.specs.Lookups.{id_of}
+use Rattle.plain_model.specs.Lookups.{place_of, same_id}
+use Rattle.event_arena.specs.declared.places.Places.{Places}
+use Rattle.event_arena.specs.Once.{AreDistinct}
 
-abbrev pub events_of : {A : Type 0} → List (AnyId × Rc PlainEvent A) → List PlainEvent
-events_of rows = map (λ r. r.1.value) rows
+abbrev pub events_of : {A : Type 0} → List (Rc PlainEvent A) → List PlainEvent
+events_of rows = map (λ r. r.value) rows
 
--- each event is under its id
-abbrev pub IsKeyed : {A : Type 0} → List (AnyId × Rc PlainEvent A) → Type 0
-IsKeyed [] = Unit {0}
-IsKeyed (r ∷ rows) = (r.0 ≡ id_of r.1.value) × IsKeyed rows
+-- the place that is noted for an id, or 0; ids of each kind have numbers of their own
+abbrev pub noted : Places → AnyId → ℕ
+noted s (any.Blob n) = slice_index_or s.blobs.items n 0
+noted s (any.Commit n) = slice_index_or s.commits.items n 0
+noted s (any.Tag n) = slice_index_or s.tags.items n 0
+noted s (any.Reset n) = slice_index_or s.resets.items n 0
+noted s (any.Pass n) = slice_index_or s.passes.items n 0
+
+-- the place under one number is changed, and no other
+abbrev pub IsNotedAt : ℕ → ℕ → List ℕ → List ℕ → Type 0
+IsNotedAt number place old new = (n : ℕ) → slice_index_or new n 0 ≡ (if n == number then place else slice_index_or old n 0)
+
+-- the place of one id is changed, and no other
+abbrev pub IsNoted : AnyId → ℕ → Places → Places → Type 0
+IsNoted id place old new = (other : AnyId) → noted new other ≡ (if same_id other id then place else noted old other)
+
+-- the place of each id that is there is noted
+abbrev pub IsPlaced : Places → List PlainEvent → Type 0
+IsPlaced places events = (id : AnyId) (k : ℕ) → place_of id events ≡ Some k → noted places id ≡ k
+
+-- a table: no two events with one id, and their places
+pub record IsTable (places : Places) (events : List PlainEvent) : Type 0 where
+  pub once : AreDistinct events
+  pub placed : IsPlaced places events

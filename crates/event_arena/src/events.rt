@@ -8,6 +8,7 @@ ghost use Rattle.std.specs.Prelude.{
   None,
   Some,
   length,
+  max,
   option_map,
   slice_get,
   IfOk,
@@ -38,18 +39,18 @@ use crate::links::{Children, Links};
 use crate::measure::{greatest_mark, need_of, next_number};
 use crate::plan::Plan;
 use crate::table::EventTable;
-use indexmap::IndexMap;
 use plain_model::{AnyId, CommitId, EventList, MAX_MARK, Mark, NoMemory, PlainEvent};
 use std::alloc::Global;
 use std::marker::Model;
 
-/// A sound history. Contracts see its list of events, `next_id`, the number below which all ids are spent, and
-/// `room`, up to which a plan can be carried out without memory.
+/// A sound history. Contracts see its list of events, `next_id`, the number below which all ids are spent, `slots`,
+/// how many places for events it keeps, and `room`, up to which a plan can be carried out without memory.
 #[derive(Drop)]
 pub struct Events {
     alloc: Global,
     table: EventTable,
-    marks: IndexMap<u64, AnyId>,
+    // In the order of the marks.
+    marks: Vec<(u64, AnyId)>,
     links: Links,
     next_id: u64,
     room: usize,
@@ -75,13 +76,14 @@ impl Events {
         ensures list { IfOk result (λ events. events.list ≡ list) }
         ensures next_id { IfOk result (λ events. events.next_id ≡ next_number list) }
         ensures low { IfOk result (λ events. events.next_id ≤ 2 ^ 62) }
+        ensures slots { IfOk result (λ events. events.slots ≡ length list) }
         ensures room { IfOk result (λ events. need list ≤ events.room) }
     {
         let table = EventTable::from_list(alloc, list)?;
         let Some(room) = need_of(&table) else {
             return Err(NoMemory);
         };
-        let mut marks = IndexMap::with_capacity(alloc, room)?;
+        let mut marks = Vec::with_capacity(alloc, room)?;
         let mut links = Links::new(alloc);
         links.reserve(room, room)?;
         fill_marks(&table, &mut marks);
@@ -163,9 +165,13 @@ impl Events {
     pub fn by_mark(&self, mark: Mark) -> Option<AnyId>
         ensures { result ≡ find_mark mark self.now.list }
     {
-        match self.marks.get(&mark.number()) {
-            Some(id) => Some(*id),
-            None => None,
+        let number = mark.number();
+        match self
+            .marks
+            .binary_search_by_key(&number, |marked: &(u64, AnyId)| -> u64 { marked.0 })
+        {
+            Ok(at) => Some(self.marks[at].1),
+            Err(_) => None,
         }
     }
 
@@ -209,9 +215,17 @@ impl Events {
         self.next_id
     }
 
+    /// How many places for events the history keeps. The place of an event that is gone stays, and serves a later one.
+    pub fn slots(&self) -> usize
+        ensures { result ≡ self.now.slots }
+    {
+        self.links.places()
+    }
+
     /// An equal table over the same events.
     pub(crate) fn share(&self, alloc: Global) -> Result<EventTable, NoMemory>
-        ensures { IfOk result (λ table. table ≡ self.now.list) }
+        ensures table { IfOk result (λ table. table ≡ self.now.list) }
+        ensures sound { IsSound self.now.list }
     {
         self.table.share(alloc)
     }
@@ -220,6 +234,7 @@ impl Events {
     pub fn reserve_for(&mut self, plan: &Plan) -> Result<(), NoMemory>
         ensures list { self.new.list ≡ self.old.list }
         ensures next_id { self.new.next_id ≡ self.old.next_id }
+        ensures slots { self.new.slots ≡ self.old.slots }
         ensures room { self.old.room ≤ self.new.room }
         ensures ok { OnOk result (need plan.now.after ≤ self.new.room) }
     {
@@ -243,9 +258,11 @@ impl Events {
         requires room { need plan.after ≤ self.old.room }
         ensures list { self.new.list ≡ plan.after }
         ensures next_id { self.new.next_id ≡ plan.next }
+        ensures slots { self.new.slots ≡ max self.old.slots (length plan.after) }
         ensures room { self.new.room ≡ self.old.room }
 
-        // What is spent stays spent, and a spent id that isn't there never comes back.
+        // What is spent stays spent, and a spent id that isn't there never comes back: no look-up finds it in a later
+        // state, though another event may have its place.
         ensures spent { self.old.next_id ≤ self.new.next_id }
         ensures none_back { BringsNoneBack self.old.next_id self.old.list self.new.list }
     {

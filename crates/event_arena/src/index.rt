@@ -1,6 +1,4 @@
 //! How the indices of a history are filled from its table of events.
-ghost use Rattle.indexmap.specs.IndexMap.{index_map_len, spare};
-ghost use Rattle.std.specs.Map.{lookup};
 ghost use Rattle.std.specs.Prelude.{
   ◌≡◌,
   ◌≤◌,
@@ -9,30 +7,30 @@ ghost use Rattle.std.specs.Prelude.{
   ◌∷◌,
   ◌++◌,
   [],
-  None,
   flat_map,
   length,
-  nat_eq,
+  max,
   slice_index_or,
+  vec_capacity,
+  vec_len,
   IsTrue,
 };
-ghost use Rattle.event_arena.specs.Indices.{HasChildren, IsLinked, IsLinkedEvent};
-ghost use Rattle.event_arena.specs.Once.{AreMarkedOnce, AreParentsOnce, named};
+ghost use Rattle.event_arena.specs.Indices.{HasChildren, IsLinked, IsLinkedEvent, IsMarkIndex};
+ghost use Rattle.event_arena.specs.Once.{AreParentsOnce, named};
 ghost use Rattle.plain_model.specs.Lookups.{event_parents, marks_of, own_marks};
 ghost use Rattle.plain_model.specs.Soundness.{are_distinct};
 ghost use Rattle.plain_model.specs.declared.id.AnyId.TheVariants.{Commit};
 
 use crate::links::Links;
 use crate::table::EventTable;
-use indexmap::IndexMap;
 use plain_model::{AnyId, CommitId, Mark, PlainEvent};
 
 // Links a child to those of its parents that are in the table.
 fn link_to(table: &EventTable, links: &mut Links, child: CommitId, parents: &[CommitId])
     requires once { IsTrue (are_distinct parents.now) }
-    requires places { length links.old.lists ≡ length table.now }
+    requires places { length table.now ≤ length links.old.lists }
     requires room { links.old.used + length parents.now ≤ links.old.link_room }
-    ensures places { length links.new.lists ≡ length table.now }
+    ensures places { length links.new.lists ≡ length links.old.lists }
     ensures used { links.new.used ≤ links.old.used + length parents.now }
     ensures place_room { links.new.place_room ≡ links.old.place_room }
     ensures link_room { links.new.link_room ≡ links.old.link_room }
@@ -48,9 +46,9 @@ fn link_to(table: &EventTable, links: &mut Links, child: CommitId, parents: &[Co
 // Links an event to its parents, if it is a commit.
 fn link(table: &EventTable, links: &mut Links, event: &PlainEvent)
     requires once { IsTrue (are_distinct (event_parents event.now)) }
-    requires places { length links.old.lists ≡ length table.now }
+    requires places { length table.now ≤ length links.old.lists }
     requires room { links.old.used + length (event_parents event.now) ≤ links.old.link_room }
-    ensures places { length links.new.lists ≡ length table.now }
+    ensures places { length links.new.lists ≡ length links.old.lists }
     ensures used { links.new.used ≤ links.old.used + length (event_parents event.now) }
     ensures place_room { links.new.place_room ≡ links.old.place_room }
     ensures link_room { links.new.link_room ≡ links.old.link_room }
@@ -61,28 +59,31 @@ fn link(table: &EventTable, links: &mut Links, event: &PlainEvent)
     }
 }
 
-// Makes so many places without children, and forgets all others.
+// Forgets all children, and makes places up to so many. Places that are there stay.
 fn clear_places(count: usize, links: &mut Links)
-    requires { count ≤ links.old.place_room }
-    ensures places { length links.new.lists ≡ count }
+    requires room { count ≤ links.old.place_room }
+    requires places { length links.old.lists ≤ links.old.place_room }
+    ensures places { length links.new.lists ≡ max (length links.old.lists) count }
     ensures empty { (k : _) → slice_index_or links.new.lists k [] ≡ [] }
     ensures used { links.new.used ≡ 0 }
     ensures place_room { links.new.place_room ≡ links.old.place_room }
     ensures link_room { links.new.link_room ≡ links.old.link_room }
 {
+    let places = links.places().max(count);
     links.clear();
-    for _place in 0..count {
+    for _place in 0..places {
         links.add_place();
     }
 }
 
 /// Links each commit of the table to its parents. It goes from the last one back, and each child is put before
-/// the others, so that children are in the order of the table.
+/// the others, so that children are in the order of the table. Places that are there stay, and may be used again.
 pub fn fill_links(table: &EventTable, links: &mut Links)
     requires once { AreParentsOnce table.now }
     requires place_room { length table.now ≤ links.old.place_room }
+    requires places { length links.old.lists ≤ links.old.place_room }
     requires link_room { length (flat_map event_parents table.now) ≤ links.old.link_room }
-    ensures places { length links.new.lists ≡ length table.now }
+    ensures places { length links.new.lists ≡ max (length links.old.lists) (length table.now) }
     ensures children { HasChildren links.new.lists table.now table.now }
     ensures place_room { links.new.place_room ≡ links.old.place_room }
     ensures link_room { links.new.link_room ≡ links.old.link_room }
@@ -94,78 +95,56 @@ pub fn fill_links(table: &EventTable, links: &mut Links)
     }
 }
 
-// Notes a mark that wasn't noted, in room that is there.
-fn note(marks: &mut IndexMap<u64, AnyId>, mark: u64, id: AnyId)
-    requires absent { lookup (nat_eq mark) marks.old.entries ≡ None }
-    requires room { 0 < spare marks.old }
-    ensures entries { marks.new.entries ≡ marks.old.entries ++ (mark, id) ∷ [] }
-    ensures room { index_map_len marks.old + spare marks.old
-        ≤ index_map_len marks.new + spare marks.new }
-{
-    let _ = marks.insert(mark, id).unwrap();
-}
-
-// Notes the aliases of a commit.
-fn note_aliases(marks: &mut IndexMap<u64, AnyId>, aliases: &[Mark], id: CommitId)
-    requires once { AreMarkedOnce (marks.old.entries ++ named (Commit id) aliases.now) }
-    requires room { length aliases.now ≤ spare marks.old }
-    ensures entries { marks.new.entries ≡ marks.old.entries ++ named (Commit id) aliases.now }
-    ensures room { index_map_len marks.old + spare marks.old
-        ≤ index_map_len marks.new + spare marks.new }
+// Notes the aliases of a commit, in room that is there.
+fn note_aliases(marks: &mut Vec<(u64, AnyId)>, aliases: &[Mark], id: CommitId)
+    requires { vec_len marks.old + length aliases.now ≤ vec_capacity marks.old }
+    ensures items { marks.new.items ≡ marks.old.items ++ named (Commit id) aliases.now }
+    ensures len { vec_len marks.new ≡ vec_len marks.old + length aliases.now }
+    ensures room { vec_capacity marks.new ≡ vec_capacity marks.old }
 {
     for alias in aliases {
-        note(marks, alias.number(), AnyId::Commit(id));
+        marks.push_reserved((alias.number(), AnyId::Commit(id)));
     }
 }
 
-// Notes the mark of a commit and its aliases.
-fn note_commit(marks: &mut IndexMap<u64, AnyId>, mark: Mark, aliases: &[Mark], id: CommitId)
-    requires once { AreMarkedOnce (marks.old.entries ++ named (Commit id) (mark ∷ aliases.now)) }
-    requires room { length aliases.now < spare marks.old }
-    ensures entries { marks.new.entries
-        ≡ marks.old.entries ++ named (Commit id) (mark ∷ aliases.now) }
-    ensures room { index_map_len marks.old + spare marks.old
-        ≤ index_map_len marks.new + spare marks.new }
-{
-    note(marks, mark.number(), AnyId::Commit(id));
-    note_aliases(marks, aliases, id);
-}
-
 // Notes the marks of an event.
-fn note_event(marks: &mut IndexMap<u64, AnyId>, event: &PlainEvent)
-    requires once { AreMarkedOnce (marks.old.entries ++ own_marks event.now) }
-    requires room { length (own_marks event.now) ≤ spare marks.old }
-    ensures entries { marks.new.entries ≡ marks.old.entries ++ own_marks event.now }
-    ensures room { index_map_len marks.old + spare marks.old
-        ≤ index_map_len marks.new + spare marks.new }
+fn note_event(marks: &mut Vec<(u64, AnyId)>, event: &PlainEvent)
+    requires { vec_len marks.old + length (own_marks event.now) ≤ vec_capacity marks.old }
+    ensures items { marks.new.items ≡ marks.old.items ++ own_marks event.now }
+    ensures len { vec_len marks.new ≡ vec_len marks.old + length (own_marks event.now) }
+    ensures room { vec_capacity marks.new ≡ vec_capacity marks.old }
 {
     match event {
-        PlainEvent::Blob { id, mark, .. } => note(marks, mark.number(), AnyId::Blob(*id)),
+        PlainEvent::Blob { id, mark, .. } => {
+            marks.push_reserved((mark.number(), AnyId::Blob(*id)));
+        }
         PlainEvent::Commit {
             id,
             mark,
             aliases,
             ..
-        } => note_commit(marks, *mark, aliases.as_slice(), *id),
+        } => {
+            marks.push_reserved((mark.number(), AnyId::Commit(*id)));
+            note_aliases(marks, aliases.as_slice(), *id);
+        }
         PlainEvent::Tag { id, mark, .. } => {
             if let Some(mark) = mark {
-                note(marks, mark.number(), AnyId::Tag(*id));
+                marks.push_reserved((mark.number(), AnyId::Tag(*id)));
             }
         }
         _ => {}
     }
 }
 
-/// Notes each mark of the table, and forgets all others.
-pub fn fill_marks(table: &EventTable, marks: &mut IndexMap<u64, AnyId>)
-    requires once { AreMarkedOnce (marks_of table.now) }
-    requires room { length (marks_of table.now) ≤ index_map_len marks.old + spare marks.old }
-    ensures entries { marks.new.entries ≡ marks_of table.now }
-    ensures room { index_map_len marks.old + spare marks.old
-        ≤ index_map_len marks.new + spare marks.new }
+/// Notes each mark of the table, in the order of the marks, and forgets all others.
+pub fn fill_marks(table: &EventTable, marks: &mut Vec<(u64, AnyId)>)
+    requires { length (marks_of table.now) ≤ vec_capacity marks.old }
+    ensures index { IsMarkIndex marks.new.items table.now }
+    ensures room { vec_capacity marks.new ≡ vec_capacity marks.old }
 {
     marks.clear();
     for place in 0..table.count() {
         note_event(marks, table.nth(place));
     }
+    marks.sort_unstable_by_key(|marked: &(u64, AnyId)| -> u64 { marked.0 });
 }

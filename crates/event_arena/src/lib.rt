@@ -1,5 +1,5 @@
 //! The event graph under stable ids: histories whose events are found by id, number and mark, and plans that change them.
-//! Read in this order: `table`, `links`, `index` (the parts), `events` (a history), `field`, `plan` (a change of one).
+//! Read in this order: `places`, `table`, `links`, `index` (the parts), `events` (a history), `field`, `plan` (a change of one).
 #![tactic(auto)]
 
 mod events;
@@ -7,6 +7,7 @@ mod field;
 mod index;
 mod links;
 mod measure;
+mod places;
 mod plan;
 mod table;
 

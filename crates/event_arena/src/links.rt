@@ -70,6 +70,13 @@ impl Links {
         Ok(())
     }
 
+    /// How many places there are.
+    pub fn places(&self) -> usize
+        ensures { result ≡ length self.now.lists }
+    {
+        self.heads.len()
+    }
+
     /// Forgets all places and children, and keeps the room.
     pub fn clear(&mut self)
         ensures lists { self.new.lists ≡ [] }

@@ -53,6 +53,7 @@ ghost use Rattle.plain_model.specs.Lookups.{
   number_of,
   place_of,
 };
+ghost use Rattle.plain_model.specs.Soundness.{IsSound};
 ghost use Rattle.plain_model.specs.declared.id.AnyId.TheVariants.{Commit};
 
 use crate::events::Events;
@@ -160,10 +161,11 @@ impl Plan {
         self.before.nth(place)
     }
 
-    /// How many events there were before. No two had one id.
+    /// How many events there were before. No two had one id, and the history was sound.
     pub fn old_count(&self) -> usize
         ensures count { result ≡ length self.now.before }
         ensures once { AreDistinct self.now.before }
+        ensures sound { IsSound self.now.before }
     {
         self.before.count()
     }
@@ -251,8 +253,7 @@ impl Plan {
             (self.new ≡ record self.old { after = without id self.old.after }) }
         ensures err { OnErr result (self.new ≡ self.old) }
     {
-        self.after.remove(id);
-        Ok(())
+        self.after.remove(id)
     }
 
     /// Takes away the events with these ids, in one pass over the list. Ids that aren't there are passed by.

@@ -8,10 +8,10 @@ ghost use Rattle.std.specs.Prelude.{
   None,
   Some,
   length,
-  not,
+  map,
   option_map,
-  option_to_list,
   slice_get,
+  slice_set,
   IfOk,
   IfSome,
   IsSome,
@@ -24,14 +24,13 @@ ghost use Rattle.event_arena.specs.Changes.{
   changed,
   in_order,
   put_after,
-  put_event,
   with_field,
   without,
   without_all,
 };
 ghost use Rattle.event_arena.specs.Numbers.{numbered};
 ghost use Rattle.event_arena.specs.Once.{AreDistinct};
-ghost use Rattle.event_arena.specs.Rows.{IsKeyed, events_of};
+ghost use Rattle.event_arena.specs.Rows.{IsNoted, IsPlaced, IsTable, events_of, noted};
 ghost use Rattle.event_arena.specs.Spent.{AddsNone, AddsOnly};
 ghost use Rattle.plain_model.specs.Lookups.{
   event_at,
@@ -40,42 +39,52 @@ ghost use Rattle.plain_model.specs.Lookups.{
   is_listed,
   number_of,
   place_of,
+  same_id,
 };
 
 use crate::field::{Field, with_field};
-use indexmap::{IndexMap, IndexSet};
+use crate::places::Places;
 use plain_model::{AnyId, Copied, EventList, NoMemory, PlainEvent};
 use std::alloc::Global;
 use std::marker::Model;
 use std::rc::Rc;
 
-/// A list of events, no two with one id. Tables share their events, so a copy of a table copies no event.
+/// A list of events, no two with one id. Tables share all that they hold, rows and places and events, until one of them
+/// changes it.
 #[derive(Drop)]
 pub struct EventTable {
     alloc: Global,
-    // The order of the map is the order of the list.
-    rows: IndexMap<AnyId, Rc<PlainEvent>>,
+    rows: Rc<Vec<Rc<PlainEvent>>>,
+    // A place counts for an id only where the event there has that very id. So places of events that are gone may stay.
+    places: Rc<Places>,
 }
 
 impl Model for EventTable {
     ghost use Rattle.std.specs.Prelude.{List};
     ghost use Rattle.plain_model.specs.declared.event.PlainEvent.{PlainEvent};
-    ghost use Rattle.event_arena.specs.Rows.{events_of, IsKeyed};
+    ghost use Rattle.event_arena.specs.Rows.{events_of, IsTable};
 
     ghost Value = { List PlainEvent };
 
-    ghost view = { λ t. events_of t.rows.entries };
+    ghost view = { λ t. events_of t.rows.value.items };
 
-    ghost invariant = { λ t. IsKeyed t.rows.entries };
+    ghost invariant = { λ t. IsTable t.places.value (events_of t.rows.value.items) };
 }
 
 impl EventTable {
-    // The table without events, and with room for so many.
-    fn with_room(alloc: Global, count: usize) -> Result<EventTable, NoMemory>
-        ensures { IfOk result (λ table. table ≡ []) }
+    // The table of these rows.
+    fn of_rows(alloc: Global, rows: Vec<Rc<PlainEvent>>) -> Result<EventTable, NoMemory>
+        requires { AreDistinct (events_of rows.items) }
+        ensures { IfOk result (λ table. table ≡ events_of rows.items) }
     {
-        let rows = IndexMap::with_capacity(alloc, count)?;
-        Ok(EventTable { alloc, rows })
+        let places = places_of(alloc, rows.as_slice())?;
+        let places = Rc::new(alloc, places)?;
+        let rows = Rc::new(alloc, rows)?;
+        Ok(EventTable {
+            alloc,
+            rows,
+            places,
+        })
     }
 
     /// The table of a list whose ids are distinct.
@@ -84,11 +93,11 @@ impl EventTable {
         ensures { IfOk result (λ table. table ≡ list) }
     {
         let items = list.into_items();
-        let mut table = EventTable::with_room(alloc, items.len())?;
+        let mut rows = Vec::with_capacity(alloc, items.len())?;
         for event in items {
-            table.append(event)?;
+            rows.push(Rc::new(alloc, event)?)?;
         }
-        Ok(table)
+        EventTable::of_rows(alloc, rows)
     }
 
     /// The list, with copies of the events.
@@ -102,12 +111,17 @@ impl EventTable {
         Ok(list)
     }
 
-    /// An equal table over the same events.
+    /// An equal table over the same rows.
     pub fn share(&self, alloc: Global) -> Result<EventTable, NoMemory>
         ensures { IfOk result (λ table. table ≡ self.now) }
     {
         let rows = self.rows.clone()?;
-        Ok(EventTable { alloc, rows })
+        let places = self.places.clone()?;
+        Ok(EventTable {
+            alloc,
+            rows,
+            places,
+        })
     }
 
     /// How many events there are. No two have one id.
@@ -115,15 +129,14 @@ impl EventTable {
         ensures count { result ≡ length self.now }
         ensures once { AreDistinct self.now }
     {
-        self.rows.len()
+        self.rows.as_ref().len()
     }
 
-    fn row(&self, place: usize) -> &PlainEvent
+    fn row(&self, place: usize) -> &Rc<PlainEvent>
         requires { place < length self.now }
-        ensures { slice_get self.now place ≡ Some result.now }
+        ensures { slice_get self.now place ≡ Some result.now.value }
     {
-        let (_, event) = self.rows.get_index(place).unwrap();
-        event.as_ref()
+        &self.rows.as_ref()[place]
     }
 
     /// The event before which so many are.
@@ -133,7 +146,7 @@ impl EventTable {
         ensures found { find_event (id_of result.now) self.now ≡ Some result.now }
     {
         let _count = self.count();
-        self.row(place)
+        self.row(place).as_ref()
     }
 
     /// The event with the number, from 1. `None` exactly where the list has no such number.
@@ -152,8 +165,8 @@ impl EventTable {
     pub fn event(&self, id: AnyId) -> Option<&PlainEvent>
         ensures { option_map (λ event. event.now) result ≡ find_event id self.now }
     {
-        match self.rows.get(&id) {
-            Some(event) => Some(event.as_ref()),
+        match self.place(id) {
+            Some(place) => Some(self.nth(place)),
             None => None,
         }
     }
@@ -163,15 +176,23 @@ impl EventTable {
         ensures place { result ≡ place_of id self.now }
         ensures within { IfSome result (λ place. place < length self.now) }
     {
-        self.rows.get_index_of(&id)
+        let place = self.places.as_ref().noted(id);
+        if place >= self.count() {
+            return None;
+        }
+        if has_id(self.nth(place), &id) {
+            Some(place)
+        } else {
+            None
+        }
     }
 
     /// The number of the event with the id, from 1.
     pub fn position(&self, id: AnyId) -> Option<usize>
         ensures { result ≡ number_of id self.now }
     {
-        let _count = self.rows.len();
-        match self.rows.get_index_of(&id) {
+        let _count = self.count();
+        match self.place(id) {
             Some(place) => Some(place + 1),
             None => None,
         }
@@ -181,24 +202,10 @@ impl EventTable {
     pub fn at(&self, number: usize) -> Option<AnyId>
         ensures { result ≡ event_at number self.now }
     {
-        if number == 0 {
-            return None;
-        }
-        match self.rows.get_index(number - 1) {
-            Some((_, event)) => Some(event.as_ref().id()),
+        match self.numbered(number as u64) {
+            Some(event) => Some(event.id()),
             None => None,
         }
-    }
-
-    // Puts an event in the place of the one with its id, or at the end.
-    fn put(&mut self, event: PlainEvent) -> Result<(), NoMemory>
-        ensures ok { OnOk result (self.new ≡ put_event event self.old) }
-        ensures err { OnErr result (self.new ≡ self.old) }
-    {
-        let id = event.id();
-        let row = Rc::new(self.alloc, event)?;
-        let _ = self.rows.insert(id, row)?;
-        Ok(())
     }
 
     /// Puts an event at the end.
@@ -208,7 +215,23 @@ impl EventTable {
         ensures err { OnErr result (self.new ≡ self.old) }
         ensures adds { AddsOnly (id_of event) self.old self.new }
     {
-        self.put(event)
+        let place = self.count();
+        let id = event.id();
+        let row = Rc::new(self.alloc, event)?;
+        note_place(&mut self.places, id, place)?;
+        push_row(&mut self.rows, row)
+    }
+
+    // The rows with another right after the one with the id.
+    fn rows_with(&self, id: AnyId, row: Rc<PlainEvent>) -> Result<Vec<Rc<PlainEvent>>, NoMemory>
+        requires { IsSome (find_event id self.now) }
+        ensures { IfOk result (λ rows. events_of rows.items ≡ put_after id row.value self.now) }
+    {
+        let _count = self.count();
+        let place = self.place(id).unwrap();
+        let mut rows = self.rows.as_ref().clone()?;
+        rows.insert(place + 1, row)?;
+        Ok(rows)
     }
 
     /// Puts an event right after the one with the id.
@@ -219,11 +242,10 @@ impl EventTable {
         ensures err { OnErr result (self.new ≡ self.old) }
         ensures adds { AddsOnly (id_of event) self.old self.new }
     {
-        let own = event.id();
+        let _count = self.count();
         let row = Rc::new(self.alloc, event)?;
-        let _count = self.rows.len();
-        let place = self.rows.get_index_of(&id).unwrap();
-        let _ = self.rows.insert_before(place + 1, own, row)?;
+        let rows = self.rows_with(id, row)?;
+        *self = EventTable::of_rows(self.alloc, rows)?;
         Ok(())
     }
 
@@ -234,17 +256,61 @@ impl EventTable {
         ensures err { OnErr result (self.new ≡ self.old) }
         ensures adds { AddsNone self.old self.new }
     {
-        let event = self.event(id).unwrap();
-        let event = with_field(self.alloc, event, field)?;
-        self.put(event)
+        let place = self.place(id).unwrap();
+        let event = with_field(self.alloc, self.nth(place), field)?;
+        let row = Rc::new(self.alloc, event)?;
+        put_row(&mut self.rows, place, row)
+    }
+
+    // The rows but for the one with the id.
+    fn rows_but(&self, id: AnyId) -> Result<Vec<Rc<PlainEvent>>, NoMemory>
+        ensures { IfOk result (λ rows. events_of rows.items ≡ without id self.now) }
+    {
+        let mut rows = self.rows.as_ref().clone()?;
+        if let Some(place) = self.place(id) {
+            let _ = rows.remove(place);
+        }
+        Ok(rows)
     }
 
     /// Takes the event with the id away. The later ones move up, which costs a move of each.
-    pub fn remove(&mut self, id: AnyId)
-        ensures after { self.new ≡ without id self.old }
+    pub fn remove(&mut self, id: AnyId) -> Result<(), NoMemory>
+        ensures ok { OnOk result (self.new ≡ without id self.old) }
+        ensures err { OnErr result (self.new ≡ self.old) }
         ensures adds { AddsNone self.old self.new }
     {
-        let _ = self.rows.shift_remove(&id);
+        let _count = self.count();
+        let rows = self.rows_but(id)?;
+        *self = EventTable::of_rows(self.alloc, rows)?;
+        Ok(())
+    }
+
+    // For each place whether the id of the event there is one of these.
+    fn listed(&self, ids: &[AnyId]) -> Result<Vec<bool>, NoMemory>
+        ensures { IfOk result (λ listed. listed.items ≡ map (λ event. is_listed (id_of event) ids.now) self.now) }
+    {
+        let mut listed = Vec::new(self.alloc);
+        listed.resize(self.count(), false)?;
+        for id in ids {
+            if let Some(place) = self.place(*id) {
+                listed[place] = true;
+            }
+        }
+        Ok(listed)
+    }
+
+    // The rows without those of these ids.
+    fn rows_without(&self, ids: &[AnyId]) -> Result<Vec<Rc<PlainEvent>>, NoMemory>
+        ensures { IfOk result (λ rows. events_of rows.items ≡ without_all ids.now self.now) }
+    {
+        let gone = self.listed(ids)?;
+        let mut rows = Vec::new(self.alloc);
+        for place in 0..self.count() {
+            if !gone[place] {
+                rows.push(self.row(place).clone()?)?;
+            }
+        }
+        Ok(rows)
     }
 
     /// Takes away the events with these ids, in one pass.
@@ -253,13 +319,22 @@ impl EventTable {
         ensures err { OnErr result (self.new ≡ self.old) }
         ensures adds { AddsNone self.old self.new }
     {
-        let listed = set_of(self.alloc, ids)?;
-        self.rows.retain(
-            |id: &AnyId, row: &mut Rc<PlainEvent>| -> bool
-                ensures { (result ≡ not (is_listed id.now listed.keys)) × (row.new ≡ row.old) }
-            { !listed.contains(id) },
-        );
+        let rows = self.rows_without(ids)?;
+        *self = EventTable::of_rows(self.alloc, rows)?;
         Ok(())
+    }
+
+    // The rows of these ids, in their order.
+    fn rows_of(&self, ids: &[AnyId]) -> Result<Vec<Rc<PlainEvent>>, NoMemory>
+        ensures { IfOk result (λ rows. events_of rows.items ≡ in_order ids.now self.now) }
+    {
+        let mut rows = Vec::with_capacity(self.alloc, ids.len())?;
+        for id in ids {
+            if let Some(place) = self.place(*id) {
+                rows.push(self.row(place).clone()?)?;
+            }
+        }
+        Ok(rows)
     }
 
     /// Puts the events in another order.
@@ -269,44 +344,60 @@ impl EventTable {
         ensures err { OnErr result (self.new ≡ self.old) }
         ensures adds { AddsNone self.old self.new }
     {
-        let _count = self.rows.len();
-        let mut rows = IndexMap::with_capacity(self.alloc, order.len())?;
-        for id in order {
-            copy_row(&self.rows, &mut rows, *id)?;
-        }
-        self.rows = rows;
+        let _count = self.count();
+        let rows = self.rows_of(order)?;
+        *self = EventTable::of_rows(self.alloc, rows)?;
         Ok(())
     }
 }
 
-// The set of these ids.
-fn set_of(alloc: Global, ids: &[AnyId]) -> Result<IndexSet<AnyId>, NoMemory>
-    ensures { IfOk result (λ set. (id : AnyId) → is_listed id set.keys ≡ is_listed id ids.now) }
+fn has_id(event: &PlainEvent, id: &AnyId) -> bool
+    ensures { result ≡ same_id (id_of event.now) id.now }
 {
-    let mut set = IndexSet::with_capacity(alloc, ids.len())?;
-    for id in ids {
-        let _ = set.insert(*id)?;
-    }
-    Ok(set)
+    event.id() == *id
 }
 
-// Puts the row of the id at the end of other rows, if there is one.
-fn copy_row(
-    from: &IndexMap<AnyId, Rc<PlainEvent>>,
-    to: &mut IndexMap<AnyId, Rc<PlainEvent>>,
-    id: AnyId,
-) -> Result<(), NoMemory>
-    requires from_keyed { IsKeyed from.now.entries }
-    requires to_keyed { IsKeyed to.old.entries }
-    requires unknown { find_event id (events_of to.old.entries) ≡ None }
-    ensures keyed { IsKeyed to.new.entries }
-    ensures ok { OnOk result (events_of to.new.entries
-        ≡ events_of to.old.entries ++ option_to_list (find_event id (events_of from.now.entries))) }
+// The places of these rows.
+fn places_of(alloc: Global, rows: &[Rc<PlainEvent>]) -> Result<Places, NoMemory>
+    requires { AreDistinct (events_of rows.now) }
+    ensures { IfOk result (λ places. IsPlaced places (events_of rows.now)) }
 {
-    let Some(row) = from.get(&id) else {
-        return Ok(());
-    };
-    let row = row.clone()?;
-    let _ = to.insert(id, row)?;
+    let mut places = Places::new(alloc);
+    for place in 0..rows.len() {
+        places.note(rows[place].as_ref().id(), place)?;
+    }
+    Ok(places)
+}
+
+// Notes a place; in a copy, where the places have another owner.
+fn note_place(places: &mut Rc<Places>, id: AnyId, place: usize) -> Result<(), NoMemory>
+    ensures ok { OnOk result (IsNoted id place places.old.value places.new.value) }
+    ensures err { OnErr result
+        ((other : AnyId) → noted places.new.value other ≡ noted places.old.value other) }
+{
+    Rc::make_mut(places)?.note(id, place)
+}
+
+// Puts a row at the end; of a copy, where the rows have another owner.
+fn push_row(rows: &mut Rc<Vec<Rc<PlainEvent>>>, row: Rc<PlainEvent>) -> Result<(), NoMemory>
+    ensures ok { OnOk result (events_of rows.new.value.items ≡ events_of rows.old.value.items ++ row.value ∷ []) }
+    ensures err { OnErr result (events_of rows.new.value.items ≡ events_of rows.old.value.items) }
+{
+    Rc::make_mut(rows)?.push(row)?;
+    Ok(())
+}
+
+// Puts a row in the place of another; in a copy, where the rows have another owner.
+fn put_row(
+    rows: &mut Rc<Vec<Rc<PlainEvent>>>,
+    place: usize,
+    row: Rc<PlainEvent>,
+) -> Result<(), NoMemory>
+    requires { place < length (events_of rows.old.value.items) }
+    ensures ok { OnOk result (events_of rows.new.value.items ≡ slice_set (events_of rows.old.value.items) place row.value) }
+    ensures err { OnErr result (events_of rows.new.value.items ≡ events_of rows.old.value.items) }
+{
+    let rows = Rc::make_mut(rows)?;
+    rows[place] = row;
     Ok(())
 }

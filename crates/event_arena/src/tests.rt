@@ -1,14 +1,14 @@
-ghost use Rattle.std.specs.Prelude.{◌≡◌, ◌<◌, ◌^◌, ◌∷◌, ◌++◌, [], None, IfOk, IfSome, IsSome, IsTrue, OnOk};
-ghost use Rattle.event_arena.specs.Changes.{has_mark, without};
-ghost use Rattle.event_arena.specs.Examples.{commit, example, other_order, signed, tag};
+ghost use Rattle.std.specs.Prelude.{◌≡◌, ◌<◌, ◌+◌, ◌^◌, ◌∷◌, ◌++◌, ◌⊎◌, [], None, codes, IfOk, IfSome, IsSome, IsTrue, OnOk};
+ghost use Rattle.event_arena.specs.Changes.{has_comment, has_label, has_mark, has_signed, without};
+ghost use Rattle.event_arena.specs.Examples.{commit, example, grown, other_order, pair, put, signed, tag};
 ghost use Rattle.plain_model.specs.Lookups.{find_event};
 ghost use Rattle.plain_model.specs.Soundness.{IsSound};
 ghost use Rattle.plain_model.specs.declared.id.AnyId.TheVariants.{Blob, Commit, Reset, Tag};
 
 use crate::*;
 use plain_model::{
-    AnyId, BlobId, CommitId, EventList, FileOp, IdList, Items, Mark, NoMemory, Person, PlainEvent,
-    ResetId, Signed, TagId, Text, When,
+    AnyId, BlobId, CommitId, Content, EventList, FileOp, IdList, Items, Mark, Mode, NoMemory,
+    OpList, Path, Person, PlainEvent, ResetId, Signed, TagId, Text, When,
 };
 use std::alloc::Global;
 use std::test::*;
@@ -391,34 +391,84 @@ fn events_are_found_by_number_mark_id_and_parent(rt: HostRuntime) -> Result<(), 
     Ok(())
 }
 
-fn set_fields(alloc: Global, plan: &mut Plan) -> Result<(), Fail> {
-    find(plan, commit_id(5))?;
-    plan.set_parents(CommitId::new(5), Items::of(alloc, &[CommitId::new(4)])?)?;
-    find(plan, commit_id(3))?;
-    plan.set_ops(CommitId::new(3), Items::of(alloc, &[FileOp::DeleteAll])?)?;
-    find(plan, commit_id(3))?;
-    plan.set_aliases(CommitId::new(3), Items::of(alloc, &[mark(40)?, mark(41)?])?)?;
-    find_marked(plan, blob_id(1))?;
-    plan.set_mark(blob_id(1), mark(9)?)?;
-    find_marked(plan, tag_id(6))?;
-    plan.set_mark(tag_id(6), mark(60)?)?;
+fn set_parents(alloc: Global, plan: &mut Plan, number: u64, parent: u64) -> Result<(), Fail> {
+    find(plan, commit_id(number))?;
+    plan.set_parents(
+        CommitId::new(number),
+        Items::of(alloc, &[CommitId::new(parent)])?,
+    )?;
+    Ok(())
+}
+
+fn set_ops(alloc: Global, plan: &mut Plan, number: u64) -> Result<(), Fail> {
+    find(plan, commit_id(number))?;
+    plan.set_ops(
+        CommitId::new(number),
+        Items::of(alloc, &[FileOp::DeleteAll])?,
+    )?;
+    Ok(())
+}
+
+fn set_aliases(alloc: Global, plan: &mut Plan, number: u64) -> Result<(), Fail> {
+    find(plan, commit_id(number))?;
+    plan.set_aliases(
+        CommitId::new(number),
+        Items::of(alloc, &[mark(40)?, mark(41)?])?,
+    )?;
+    Ok(())
+}
+
+fn set_mark(plan: &mut Plan, id: AnyId, number: u64) -> Result<(), Fail> {
+    find_marked(plan, id)?;
+    plan.set_mark(id, mark(number)?)?;
+    Ok(())
+}
+
+fn set_targets(plan: &mut Plan) -> Result<(), Fail> {
     find(plan, tag_id(6))?;
     plan.set_target(tag_id(6), CommitId::new(4))?;
     find(plan, reset_id(7))?;
     plan.set_target(reset_id(7), CommitId::new(5))?;
-    find(plan, commit_id(4))?;
-    plan.set_comment(commit_id(4), text(alloc, b"because")?)?;
+    Ok(())
+}
+
+fn set_comment(alloc: Global, plan: &mut Plan, id: AnyId, comment: &[u8]) -> Result<(), Fail>
+    requires { IsTrue (has_comment id) }
+{
+    find(plan, id)?;
+    plan.set_comment(id, text(alloc, comment)?)?;
+    Ok(())
+}
+
+fn set_fields(alloc: Global, plan: &mut Plan) -> Result<(), Fail> {
+    set_parents(alloc, plan, 5, 4)?;
+    set_ops(alloc, plan, 3)?;
+    set_aliases(alloc, plan, 3)?;
+    set_mark(plan, blob_id(1), 9)?;
+    set_mark(plan, tag_id(6), 60)?;
+    set_targets(plan)?;
+    set_comment(alloc, plan, commit_id(4), b"because")
+}
+
+// Gives an event another person who signs, by the seconds.
+fn set_signed(
+    alloc: Global,
+    plan: &mut Plan,
+    id: AnyId,
+    role: Role,
+    seconds: u64,
+) -> Result<(), Fail>
+    requires { IsTrue (has_signed role id) }
+{
+    find(plan, id)?;
+    plan.set_signed(id, role, signed(alloc, seconds)?)?;
     Ok(())
 }
 
 fn set_people(alloc: Global, plan: &mut Plan) -> Result<(), Fail> {
-    find(plan, commit_id(4))?;
-    plan.set_signed(commit_id(4), Role::Author, signed(alloc, 44)?)?;
-    find(plan, commit_id(5))?;
-    plan.set_signed(commit_id(5), Role::Committer, signed(alloc, 55)?)?;
-    find(plan, tag_id(6))?;
-    plan.set_signed(tag_id(6), Role::Tagger, signed(alloc, 66)?)?;
-    Ok(())
+    set_signed(alloc, plan, commit_id(4), Role::Author, 44)?;
+    set_signed(alloc, plan, commit_id(5), Role::Committer, 55)?;
+    set_signed(alloc, plan, tag_id(6), Role::Tagger, 66)
 }
 
 fn fields_set(alloc: Global, plan: &mut Plan) -> Result<Text, Fail> {
@@ -440,14 +490,18 @@ fn fields_are_set_by_id(rt: HostRuntime) -> Result<(), Fail> {
     Ok(())
 }
 
-fn set_labels(alloc: Global, plan: &mut Plan) -> Result<(), Fail> {
-    find(plan, commit_id(4))?;
-    plan.set_label(commit_id(4), text(alloc, b"other")?)?;
-    find(plan, tag_id(6))?;
-    plan.set_label(tag_id(6), text(alloc, b"v2")?)?;
-    find(plan, reset_id(7))?;
-    plan.set_label(reset_id(7), text(alloc, b"old")?)?;
+fn set_label(alloc: Global, plan: &mut Plan, id: AnyId, label: &[u8]) -> Result<(), Fail>
+    requires { IsTrue (has_label id) }
+{
+    find(plan, id)?;
+    plan.set_label(id, text(alloc, label)?)?;
     Ok(())
+}
+
+fn set_labels(alloc: Global, plan: &mut Plan) -> Result<(), Fail> {
+    set_label(alloc, plan, commit_id(4), b"other")?;
+    set_label(alloc, plan, tag_id(6), b"v2")?;
+    set_label(alloc, plan, reset_id(7), b"old")
 }
 
 // The branch of a commit or a reset, or the name of a tag.
@@ -662,5 +716,153 @@ fn a_removed_id_is_gone_and_never_comes_back(rt: HostRuntime) -> Result<(), Fail
         b" - b1 c2 c3 c4 c5 r7 - -, - b1 - -, b1 c2 c3 c4 c5 - - c3, :31, 6 6 8, -, -, 3 4 <3 5 <5 5 <5 - -; \
 - b1 c2 c3 c4 c5 r7 t8 -, - b1 t8 -, b1 c2 c3 c4 c5 - t8 c3, :31, 7 7 10, -, -, 3 4 <3 5 <5 5 <5 - -;";
     assert_eq!(rt; retagged(rt.alloc())?.as_slice(), want);
+    Ok(())
+}
+
+// Puts the first blob at a path.
+fn put_at(alloc: Global, path: &[u8]) -> Result<FileOp, Fail>
+    ensures { IfOk result (λ op. op ≡ put path.now) }
+{
+    Ok(FileOp::Modify {
+        mode: Mode::Plain,
+        content: Content::Blob(BlobId::new(1)),
+        path: Path::new(alloc, path).ok().ok_or("path")?,
+    })
+}
+
+fn two_ops(alloc: Global) -> Result<OpList, Fail>
+    ensures { IfOk result (λ ops. ops ≡ put (codes "f") ∷ put (codes "g") ∷ []) }
+{
+    let mut ops: OpList = Items::new(alloc)?;
+    ops.push(put_at(alloc, b"f")?)?;
+    ops.push(put_at(alloc, b"g")?)?;
+    Ok(ops)
+}
+
+#[tactic(auto, unfolding(crate::specs::Examples::pair))]
+fn pair_list(alloc: Global) -> Result<EventList, Fail>
+    ensures { IfOk result (λ list. list ≡ pair) }
+{
+    let mut list: EventList = Items::new(alloc)?;
+    list.push(PlainEvent::Blob {
+        id: BlobId::new(1),
+        mark: mark(1)?,
+        bytes: text(alloc, b"one")?,
+    })?;
+    list.push(PlainEvent::Commit {
+        id: CommitId::new(2),
+        mark: mark(2)?,
+        branch: text(alloc, b"main")?,
+        author: signed(alloc, 2)?,
+        committer: signed(alloc, 2)?,
+        encoding: None,
+        comment: text(alloc, b"why")?,
+        parents: Items::new(alloc)?,
+        ops: two_ops(alloc)?,
+        aliases: Items::new(alloc)?,
+    })?;
+    Ok(list)
+}
+
+fn pair_history(alloc: Global) -> Result<Events, Fail>
+    ensures list { IfOk result (λ events. events.list ≡ pair) }
+    ensures next_id { IfOk result (λ events. events.next_id ≡ 3) }
+{
+    Ok(Events::from_plain(alloc, pair_list(alloc)?)?)
+}
+
+fn put_child(alloc: Global, plan: &mut Plan) -> Result<(), Fail>
+    requires { plan.old.next < 2 ^ 62 }
+    ensures { OnOk result (plan.new ≡ record plan.old {
+      after = plan.old.after ++ commit plan.old.next (2 ∷ []) [] ∷ [];
+      next = plan.old.next + 1;
+    }) }
+{
+    let number = plan.unused();
+    miss(plan, commit_id(number))?;
+    plan.append(commit(alloc, number, &[CommitId::new(2)], &[])?)?;
+    Ok(())
+}
+
+// Puts a child of the commit at the end.
+fn grow(alloc: Global, events: &mut Events) -> Result<(), Fail>
+    requires list { events.old.list ≡ pair }
+    requires next_id { (events.old.next_id ≡ 3) ⊎ (events.old.next_id ≡ 4) }
+    ensures list { OnOk result (events.new.list ≡ grown events.old.next_id) }
+    ensures next_id { OnOk result (events.new.next_id ≡ events.old.next_id + 1) }
+{
+    let mut plan = Plan::new(alloc, events)?;
+    put_child(alloc, &mut plan)?;
+    carry(events, plan)
+}
+
+fn take_child(plan: &mut Plan) -> Result<(), Fail>
+    ensures { OnOk result
+        (plan.new ≡ record plan.old { after = without (Commit 3) plan.old.after }) }
+{
+    find(plan, commit_id(3))?;
+    plan.remove(commit_id(3))?;
+    Ok(())
+}
+
+// Takes the first child away.
+fn shrink(alloc: Global, events: &mut Events) -> Result<(), Fail>
+    requires list { events.old.list ≡ grown 3 }
+    ensures list { OnOk result (events.new.list ≡ pair) }
+    ensures next_id { OnOk result (events.new.next_id ≡ events.old.next_id) }
+{
+    let mut plan = Plan::new(alloc, events)?;
+    take_child(&mut plan)?;
+    carry(events, plan)
+}
+
+// The slots, the events and the first id that isn't spent; what is found by the id of the first child; the third
+// event; the event with the mark :3; and the children of the commit.
+fn put_slots(out: &mut Text, events: &Events) -> Result<(), Fail> {
+    put_number(out, b" ", events.slots() as u64)?;
+    put_number(out, b" ", events.count() as u64)?;
+    put_number(out, b" ", events.next_id())?;
+    put_place(out, events, &commit_id(3))?;
+    match events.place(commit_id(3)) {
+        Some(place) => put_number(out, b" ", place as u64)?,
+        None => out.push_all(b" -")?,
+    }
+    put_found(out, events.at(3))?;
+    put_found(out, events.by_mark(mark(3)?))?;
+    out.push(b',')?;
+    for number in 2..4 {
+        for child in events.children(CommitId::new(number)) {
+            put_number(out, b" ", child.number())?;
+        }
+        out.push(b';')?;
+    }
+    Ok(())
+}
+
+fn slots_shown(alloc: Global, events: &mut Events) -> Result<Text, Fail>
+    requires list { events.old.list ≡ pair }
+    requires next_id { events.old.next_id ≡ 3 }
+{
+    let mut out = Items::new(alloc)?;
+    put_slots(&mut out, events)?;
+    grow(alloc, events)?;
+    put_slots(&mut out, events)?;
+    shrink(alloc, events)?;
+    put_slots(&mut out, events)?;
+    grow(alloc, events)?;
+    put_slots(&mut out, events)?;
+    Ok(out)
+}
+
+fn slots_used_again(alloc: Global) -> Result<Text, Fail> {
+    let mut events = pair_history(alloc)?;
+    slots_shown(alloc, &mut events)
+}
+
+#[test]
+fn a_slot_serves_a_later_event_and_the_old_id_finds_nothing(rt: HostRuntime) -> Result<(), Fail> {
+    let want: &[u8] =
+        b" 2 2 3, - - - -,;; 3 3 4, 3* 2 c3 c3, 3;; 3 2 4, - - - -,;; 3 3 5, - - c4 -, 4;;";
+    assert_eq!(rt; slots_used_again(rt.alloc())?.as_slice(), want);
     Ok(())
 }

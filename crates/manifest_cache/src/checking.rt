@@ -20,7 +20,7 @@ ghost use Rattle.lru.specs.LruCache.{lru_cache, put_entries};
 ghost use Rattle.plain_model.specs.Faults.{Returns};
 ghost use Rattle.plain_model.specs.Histories.{IsLinkedPast, past, tree};
 ghost use Rattle.plain_model.specs.Lookups.{find_event};
-ghost use Rattle.plain_model.specs.Soundness.{IsCommitOf, IsSound};
+ghost use Rattle.plain_model.specs.Soundness.{IsCommitOf};
 ghost use Rattle.plain_model.specs.declared.id.AnyId.TheVariants.{Commit};
 ghost use Rattle.manifest_cache.specs.Checking.{
   Applies,
@@ -105,7 +105,6 @@ fn begun(
     front: usize,
     parent: Option<CommitId>,
 ) -> Result<PathTree, NoMemory>
-    requires sound { IsSound plan.now.before }
     requires kept { AgreesWith plan.now.before kept.now.entries }
     requires made { AgreesWith plan.now.after made.now.entries }
     requires within { front ≤ length plan.now.after }
@@ -113,8 +112,9 @@ fn begun(
     requires there { IfSome parent (λ p. IsSome (tree plan.now.after p)) }
     ensures { IfOk result (λ t. begun_of (tree plan.now.after) parent ≡ Some t) }
 {
-    // Its contract says that no event is there twice.
+    // Their contracts say that no event is there twice, and that the history before was sound.
     let _ = plan.count();
+    let _ = plan.old_count();
     let mut steps: Steps<Checking> = Steps::new();
     let Some(parent) = parent else {
         return PathTree::new(alloc);
@@ -135,7 +135,6 @@ fn check_event(
     front: usize,
     place: usize,
 ) -> Result<(), Halt>
-    requires sound { IsSound plan.now.before }
     requires kept { AgreesWith plan.now.before kept.now.entries }
     requires made { AgreesWith plan.now.after made.old.entries }
     requires within { front ≤ length plan.now.after }
@@ -166,13 +165,14 @@ fn check_event(
 
 /// Checks the events from the first on that a plan changes.
 pub fn check(alloc: Global, kept: &Trees, plan: &Plan) -> Result<(), Halt>
-    requires sound { IsSound plan.now.before }
     requires agrees { AgreesWith plan.now.before kept.now.entries }
     requires earlier { IsLinkedPast (past plan.now.after) }
     ensures checked { Returns (λ done. done) result (tree_check plan.now.after) }
     ensures trees { OnOk result
         ((c : ℕ) → IsCommitOf plan.now.after c → IsSome (tree plan.now.after c)) }
 {
+    // Its contract says that the history before was sound, so what is in front has trees.
+    let _ = plan.old_count();
     let front = first_changed(plan);
     let mut made = no_trees(alloc)?;
     for place in front..plan.count() {

@@ -5,7 +5,7 @@ ghost use Rattle.std.specs.Map.{keys_of};
 ghost use Rattle.plain_model.specs.Faults.{Returns};
 ghost use Rattle.plain_model.specs.Histories.{IsLinkedPast, past, tree};
 ghost use Rattle.plain_model.specs.Lookups.{find_event};
-ghost use Rattle.plain_model.specs.Soundness.{IsCommitOf, IsSound};
+ghost use Rattle.plain_model.specs.Soundness.{IsCommitOf};
 ghost use Rattle.plain_model.specs.declared.id.AnyId.TheVariants.{Commit};
 ghost use Rattle.manifest_cache.specs.Checking.{tree_check};
 ghost use Rattle.manifest_cache.specs.Following.{Follows};
@@ -96,7 +96,6 @@ impl Manifests {
     /// `MissingSource`, or `Limit` with `Paths` or `PathBytes`. Only the events from the first on that the plan changes
     /// are looked at. It leaves what is kept. (own)
     pub fn check(&mut self, plan: &Plan) -> Result<(), Halt>
-        requires sound { IsSound plan.now.before }
         requires agrees { AgreesWith plan.now.before self.old }
         requires earlier { IsLinkedPast (past plan.now.after) }
         ensures checked { Returns (λ done. done) result (tree_check plan.now.after) }

@@ -28,4 +28,4 @@ loop-done-preserved c =
     let e = c.link.ensures in
     let step = linked-step c.args.table.now k c.nth.result.now c.loop-done.links.lists c.link.new.links.lists c.loop-done.links.used c.link.new.links.used c.nth.ensures.event
     (rw next at v.used) e.used (rw next at v.children) e.linked in
-    rw now (record { places = e.places; used = step.0; children = step.1; place_room = e.place_room ∙ v.place_room; link_room = e.link_room ∙ v.link_room })
+    rw now (record { places = e.places ∙ v.places; used = step.0; children = step.1; place_room = e.place_room ∙ v.place_room; link_room = e.link_room ∙ v.link_room })

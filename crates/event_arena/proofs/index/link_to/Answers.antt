@@ -11,7 +11,7 @@ loop-parent-preserved c = elim c.match-place.branch [
       let e = w.add_child.ensures in
       let v = c.loop-parent.invariant in
       let t = c.loop-parent-test.true in
-      let within : w.in-Some.place < length c.loop-parent.links.lists = let h = w.in-Some.ensures.within in let p = v.places in omega arith in
+      let within : w.in-Some.place < length c.loop-parent.links.lists = let h = w.in-Some.ensures.within in let p = v.places in let q = c.requires.places in omega arith in
       let linked = subst (λ ls. IsLinked c.args.child (take (suc c.loop-parent.parent-index) c.args.parents.now) c.args.table.now c.args.links.now.lists ls) (sym e.lists)
       (linked-more c.args.child c.args.parents.now c.loop-parent.parent-index c.parent-item.result w.in-Some.place c.args.table.now c.args.links.now.lists c.loop-parent.links.lists
       c.requires.once t c.parent-item.is (sym w.in-Some.ensures.place) within v.linked) in

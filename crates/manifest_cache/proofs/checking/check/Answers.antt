@@ -15,12 +15,12 @@ pub loop-place-init : goal.loop-place-init
 loop-place-init c =
     let before = c.args.plan.now.before in
     let after = c.args.plan.now.after in
-    let once = distinct before c.requires.sound in
+    let once = distinct before c.old_count.ensures.sound in
     let front = c.first_changed-front.result in
     let alike = c.first_changed-front.ensures.alike in
     record {
       have = λ d h.
-          let has = live_tree before d c.requires.sound (found_before before after once c.count-place-end.ensures.once front alike d h) in
+          let has = live_tree before d c.old_count.ensures.sound (found_before before after once c.count-place-end.ensures.once front alike d h) in
           let same = front_same before after once c.count-place-end.ensures.once front alike d h in
           ap is_some (tree_line after d ∙ ap tree_along (sym same) ∙ sym (tree_line before d)) ∙ has;
       made = subst (λ (m : LruCache ℕ Tree). AgreesWith after m.entries) (sym c.in_ok-made.ensures) tt;

@@ -4,9 +4,6 @@ use Rattle.event_arena.proofs.MeasureLemmas.{parents-need}
 use Rattle.event_arena.proofs.SoundLemmas.{sound-once}
 use Rattle.event_arena.proofs.events.Events.carry_out.Goals as goal
 
-pub fill_marks-requires-clause-once : goal.fill_marks-requires-clause-once
-fill_marks-requires-clause-once c = rw c.into_after-table.ensures.after ((sound-once c.args.plan.after c.requires.sound).marks)
-
 pub fill_links-requires-clause-once : goal.fill_links-requires-clause-once
 fill_links-requires-clause-once c = rw c.into_after-table.ensures.after ((sound-once c.args.plan.after c.requires.sound).parents)
 

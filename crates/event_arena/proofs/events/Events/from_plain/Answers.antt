@@ -1,4 +1,4 @@
-use Rattle.std.proofs.Common.{sym, subst, arith}
+use Rattle.std.proofs.Common.{◌∙◌, ap, length, sym, subst, arith}
 use Rattle.plain_model.specs.Soundness.{IsSound}
 use Rattle.event_arena.proofs.MeasureLemmas.{below-next, parents-need}
 use Rattle.event_arena.proofs.SoundLemmas.{sound-once}
@@ -6,9 +6,6 @@ use Rattle.event_arena.proofs.events.Events.from_plain.Goals as goal
 
 pub from_list-requires : goal.from_list-requires
 from_list-requires c = (sound-once c.args.list c.requires.sound).ids
-
-pub fill_marks-requires-clause-once : goal.fill_marks-requires-clause-once
-fill_marks-requires-clause-once c = rw c.in_ok-table.ensures ((sound-once c.args.list c.requires.sound).marks)
 
 pub fill_links-requires-clause-once : goal.fill_links-requires-clause-once
 fill_links-requires-clause-once c = rw c.in_ok-table.ensures ((sound-once c.args.list c.requires.sound).parents)
@@ -25,12 +22,16 @@ invariant_of-result c =
     let links = c.fill_links.ensures in
     let marks = c.fill_marks.ensures in
     let room = c.in_ok-reserve.ensures.ok in
-    let spare = c.in_ok-marks.ensures.spare in
+    let spare = c.in_ok-marks.ensures.exact in
+    let need = c.in-Some.ensures in
+    let empty = ap length (c.reserve.ensures.lists ∙ c.new-links.ensures) in
+    let slots = links.places in
     record {
       sound = subst IsSound (sym c.in_ok-table.ensures) c.requires.sound;
       spent = rw c.next_number-next_id.ensures.value (below-next c.in_ok-table.table);
-      marks = marks.entries;
-      places = links.places;
+      marks = marks.index;
+      places = omega arith;
+      slot_room = omega arith;
       children = links.children;
       place_room = omega arith;
       link_room = omega arith;

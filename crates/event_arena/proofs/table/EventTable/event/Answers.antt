@@ -1,10 +1,9 @@
-use Rattle.std.proofs.Common.{◌∙◌, ap}
-use Rattle.std.specs.Prelude.{option_map}
-use Rattle.event_arena.proofs.RowLemmas.{events-lookup}
+use Rattle.std.proofs.Common.{sym}
+use Rattle.event_arena.proofs.PlaceLemmas.{place-found, place-none}
 use Rattle.event_arena.proofs.table.EventTable.event.Goals as goal
 
 pub returns-in-Some : goal.returns-in-Some
-returns-in-Some c = rw (c.as_ref.ensures, ← c.self.view_is) (ap (option_map (λ r. r.value)) c.in-Some.ensures.value ∙ events-lookup c.args.id c.self.inside.rows.entries c.self.invariant)
+returns-in-Some c = place-found c.args.id c.args.self.now c.in-Some.place c.nth.result.now (sym c.in-Some.ensures.place) c.nth.ensures.event
 
 pub returns-in-None : goal.returns-in-None
-returns-in-None c = rw (← c.self.view_is) (ap (option_map (λ r. r.value)) c.in-None.ensures.value ∙ events-lookup c.args.id c.self.inside.rows.entries c.self.invariant)
+returns-in-None c = place-none c.args.id c.args.self.now (sym c.in-None.ensures.place)

@@ -1,18 +1,12 @@
-use Rattle.std.proofs.Common.{sym, subst}
-use Rattle.event_arena.specs.Rows.{events_of}
+use Rattle.std.proofs.Common.{◌∙◌, subst, sym}
 use Rattle.event_arena.specs.Spent.{AddsNone}
-use Rattle.event_arena.proofs.RowLemmas.{events-remove, keyed-remove}
+use Rattle.event_arena.proofs.DistinctLemmas.{distinct-without}
 use Rattle.event_arena.proofs.SpentLemmas.{adds-without}
 use Rattle.event_arena.proofs.table.EventTable.remove.Goals as goal
 
-pub invariant_of-self : goal.invariant_of-self
-invariant_of-self c = rw c.shift_remove.ensures.entries (keyed-remove c.args.id c.self.inside.rows.entries c.self.invariant)
-
-pub returns-clause-after : goal.returns-clause-after
-returns-clause-after c = rw (c.shift_remove.ensures.entries, ← c.self.view_is) (events-remove c.args.id c.self.inside.rows.entries c.self.invariant)
+pub of_rows-requires : goal.of_rows-requires
+of_rows-requires c = rw c.in_ok-rows.ensures (distinct-without c.args.id c.args.self.now c.count-count.ensures.once)
 
 pub returns-clause-adds : goal.returns-clause-adds
 returns-clause-adds c =
-    rw (c.shift_remove.ensures.entries, ← c.self.view_is)
-    (subst (AddsNone (events_of c.self.inside.rows.entries)) (sym (events-remove c.args.id c.self.inside.rows.entries c.self.invariant))
-    (adds-without c.args.id (events_of c.self.inside.rows.entries)))
+    subst (AddsNone c.args.self.now) (sym (c.drop.view_is ∙ c.in_ok-self-inside.ensures ∙ c.in_ok-rows.ensures)) (adds-without c.args.id c.args.self.now)

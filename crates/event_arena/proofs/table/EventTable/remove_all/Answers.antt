@@ -1,25 +1,16 @@
-use Rattle.std.proofs.Common.{sym, subst, not, rules}
+use Rattle.std.proofs.Common.{◌∙◌, not, subst, sym}
 use Rattle.plain_model.specs.Lookups.{id_of, is_listed}
-use Rattle.event_arena.specs.Rows.{events_of}
+use Rattle.event_arena.specs.Once.{AreDistinct}
 use Rattle.event_arena.specs.Spent.{AddsNone}
-use Rattle.event_arena.proofs.ChangeLemmas.{events-filter}
+use Rattle.event_arena.proofs.DistinctLemmas.{distinct-filter}
 use Rattle.event_arena.proofs.SpentLemmas.{adds-filter}
-use Rattle.indexmap.proofs.CallerLemmas.{filter-RetainsPairs}
 use Rattle.event_arena.proofs.table.EventTable.remove_all.Goals as goal
 
-pub invariant_of-self : goal.invariant_of-self
-invariant_of-self c =
-    let kept = filter-RetainsPairs _ (λ r. not (is_listed r.0 c.in_ok-listed.listed.keys)) _ (λ k v b w g call. search rules) _ _ c.retain.ensures.filtered in
-    rw kept (events-filter c.in_ok-listed.listed.keys c.args.ids.now c.in_ok-listed.ensures c.self.inside.rows.entries c.self.invariant).1
-
-pub returns-clause-ok : goal.returns-clause-ok
-returns-clause-ok c =
-    let kept = filter-RetainsPairs _ (λ r. not (is_listed r.0 c.in_ok-listed.listed.keys)) _ (λ k v b w g call. search rules) _ _ c.retain.ensures.filtered in
-    rw (← c.self.view_is, kept) (events-filter c.in_ok-listed.listed.keys c.args.ids.now c.in_ok-listed.ensures c.self.inside.rows.entries c.self.invariant).0
+pub of_rows-requires : goal.of_rows-requires
+of_rows-requires c =
+    rw c.in_ok-rows.ensures (distinct-filter (λ e. not (is_listed (id_of e) c.args.ids.now)) c.args.self.now (subst AreDistinct c.self.view_is c.self.invariant.once))
 
 pub returns-clause-adds : goal.returns-clause-adds
 returns-clause-adds c =
-    let kept = filter-RetainsPairs _ (λ r. not (is_listed r.0 c.in_ok-listed.listed.keys)) _ (λ k v b w g call. search rules) _ _ c.retain.ensures.filtered in
-    rw (← c.self.view_is, kept) (subst (AddsNone (events_of c.self.inside.rows.entries))
-    (sym (events-filter c.in_ok-listed.listed.keys c.args.ids.now c.in_ok-listed.ensures c.self.inside.rows.entries c.self.invariant).0)
-    (adds-filter (λ e. not (is_listed (id_of e) c.args.ids.now)) (events_of c.self.inside.rows.entries)))
+    subst (AddsNone c.args.self.now) (sym (c.drop.view_is ∙ c.in_ok-self-inside.ensures ∙ c.in_ok-rows.ensures))
+    (adds-filter (λ e. not (is_listed (id_of e) c.args.ids.now)) c.args.self.now)

@@ -1,27 +1,50 @@
-use Rattle.std.proofs.Common.{◌≡◌, ◌∙◌, Some, sym, ap, subst, OnOk, Bor}
-use Rattle.std.specs.Prelude.{option_map}
-use Rattle.plain_model.specs.declared.event.PlainEvent.{PlainEvent}
-use Rattle.plain_model.specs.Lookups.{find_event}
-use Rattle.event_arena.specs.Changes.{changed, put_event, with_field}
+use Rattle.std.proofs.Common.{◌≡◌, ◌∙◌, Some, OnOk, ap, subst, sym}
+use Rattle.std.proofs.Math.ListN.{set}
+use Rattle.std.specs.Prelude.{slice_get}
+use Rattle.plain_model.specs.Lookups.{place_of}
+use Rattle.event_arena.specs.Changes.{changed, with_field}
+use Rattle.event_arena.specs.Rows.{IsTable, events_of}
 use Rattle.event_arena.specs.Spent.{AddsNone}
-use Rattle.event_arena.proofs.ChangeLemmas.{id-with_field, put-changed}
-use Rattle.event_arena.proofs.SpentLemmas.{adds-changed, either, find-id}
+use Rattle.event_arena.proofs.ChangeLemmas.{id-with_field}
+use Rattle.event_arena.proofs.DistinctLemmas.{distinct-changed}
+use Rattle.event_arena.proofs.PlaceLemmas.{found-place, placed-changed, put-set}
+use Rattle.event_arena.proofs.SpentLemmas.{adds-changed, either}
 use Rattle.event_arena.proofs.table.EventTable.set.Goals as goal
+use Rattle.event_arena.proofs.table.EventTable.set.Goals.{After-put_row}
+
+pub unwrap-place-requires : goal.unwrap-place-requires
+unwrap-place-requires c = rw c.place.ensures.place (found-place c.args.id c.args.self.now c.requires)
+
+-- the row with the value is put
+put : (c : After-put_row) → OnOk c.put_row.result (events_of c.put_row.new.rows.value.items ≡ changed c.args.id (with_field c.args.field) (events_of c.self.inside.rows.value.items))
+put c =
+    let k = c.unwrap-place.result in
+    let es = events_of c.self.inside.rows.value.items in
+    let place = subst (λ xs. place_of c.args.id xs ≡ Some k) (sym c.self.view_is) (sym c.place.ensures.place ∙ c.unwrap-place.ensures) in
+    let at = subst (λ xs. slice_get xs k ≡ Some c.nth.result.now) (sym c.self.view_is) c.nth.ensures.event in
+    let is = c.in_ok-row.ensures.ok ∙ c.in_ok-event.ensures in
+    subst (λ xs. OnOk c.put_row.result (events_of c.put_row.new.rows.value.items ≡ xs))
+    (ap (set es k) is ∙ put-set c.args.id (with_field c.args.field) es k c.nth.result.now place at) c.put_row.ensures.ok
+
+pub invariant_of-self : goal.invariant_of-self
+invariant_of-self c =
+    let es = events_of c.self.inside.rows.value.items in
+    let f = with_field c.args.field in
+    let same = id-with_field c.args.field in
+    either (IsTable c.self.inside.places.value) c.put_row.result es (events_of c.put_row.new.rows.value.items) (changed c.args.id f es) (put c) c.put_row.ensures.err
+    (record {
+      once = distinct-changed c.args.id f same es c.self.invariant.once;
+      placed = placed-changed c.self.inside.places.value c.args.id f same es c.self.invariant.placed;
+    })
+    c.self.invariant
 
 pub returns-clause-ok : goal.returns-clause-ok
-returns-clause-ok c =
-    let old = c.unwrap-event.result.now in
-    let found : find_event c.args.id c.args.self.now ≡ Some old = sym c.event.ensures ∙ ap (option_map (λ (e : Bor PlainEvent). e.now)) c.unwrap-event.ensures in
-    let own = id-with_field c.args.field old ∙ sym (find-id c.args.id c.args.self.now old found) in
-    let after = ap (λ e. put_event e c.args.self.now) c.in_ok-event.ensures ∙ put-changed c.args.id (with_field c.args.field) c.args.self.now old found own in
-    subst (λ es. OnOk c.put.result (c.put.new.self ≡ es)) after c.put.ensures.ok
+returns-clause-ok c = rw (← c.self.view_is) (put c)
 
 pub returns-clause-adds : goal.returns-clause-adds
 returns-clause-adds c =
-    let old = c.unwrap-event.result.now in
-    let found : find_event c.args.id c.args.self.now ≡ Some old = sym c.event.ensures ∙ ap (option_map (λ (e : Bor PlainEvent). e.now)) c.unwrap-event.ensures in
-    let own = id-with_field c.args.field old ∙ sym (find-id c.args.id c.args.self.now old found) in
-    let after = ap (λ e. put_event e c.args.self.now) c.in_ok-event.ensures ∙ put-changed c.args.id (with_field c.args.field) c.args.self.now old found own in
-    either (AddsNone c.args.self.now) c.put.result c.args.self.now c.put.new.self (changed c.args.id (with_field c.args.field) c.args.self.now)
-    (subst (λ es. OnOk c.put.result (c.put.new.self ≡ es)) after c.put.ensures.ok) c.put.ensures.err
-    (adds-changed c.args.id (with_field c.args.field) (id-with_field c.args.field) c.args.self.now) (λ id h. h)
+    let es = events_of c.self.inside.rows.value.items in
+    let f = with_field c.args.field in
+    rw (← c.self.view_is)
+    (either (AddsNone es) c.put_row.result es (events_of c.put_row.new.rows.value.items) (changed c.args.id f es) (put c) c.put_row.ensures.err
+    (adds-changed c.args.id f (id-with_field c.args.field) es) (λ id h. h))

@@ -1,0 +1,98 @@
+-- Changes that keep the ids of a list distinct.
+use Rattle.std.proofs.Common.{◌≡◌, ◌∙◌, ℕ, suc, Bool, false, inl, inr, List, [], ◌∷◌, ◌++◌, Option, Some, None, refl, ap, sym, subst, filter, take, drop}
+use Rattle.std.proofs.lemmas.Bool.{cases_Bool}
+use Rattle.std.proofs.lemmas.List.{take-append-drop}
+use Rattle.std.proofs.lemmas.Map.Keys.{IsDistinct-IsPermutation}
+use Rattle.std.specs.List.{AllByRecursion, IsDistinct}
+use Rattle.std.specs.Prelude.{map, option_to_list, slice_get}
+use Rattle.plain_model.specs.declared.id.AnyId.{AnyId}
+use Rattle.plain_model.specs.declared.event.PlainEvent.{PlainEvent}
+use Rattle.plain_model.specs.Lookups.{find_event, id_of, is_listed, same_id}
+use Rattle.history_laws.proofs.Ids.{same_id-comm}
+use Rattle.event_arena.specs.Changes.{IsOrderOf, changed, in_order, put_after, without}
+use Rattle.event_arena.specs.Once.{AreDistinct}
+use Rattle.event_arena.proofs.ChangeLemmas.{AreListedOnce, once-distinct, order-misses}
+use Rattle.event_arena.proofs.ListLemmas.{drop-item}
+use Rattle.event_arena.proofs.OnceLemmas.{distinct-absent}
+use Rattle.event_arena.proofs.SpentLemmas.{absent-cons, adds-changed, adds-filter, adds-put_after, adds-without, cons-absent, find-id}
+
+find-front : (id : AnyId) (xs ys : List PlainEvent) → find_event id (xs ++ ys) ≡ None → find_event id xs ≡ None
+find-front id [] ys h = refl
+find-front id (x ∷ xs) ys h = let rest = absent-cons id x (xs ++ ys) h in cons-absent id x xs rest.0 (find-front id xs ys rest.1)
+
+pub distinct-front : (xs ys : List PlainEvent) → AreDistinct (xs ++ ys) → AreDistinct xs
+distinct-front [] ys once = tt
+distinct-front (x ∷ xs) ys once = (find-front (id_of x) xs ys once.0, distinct-front xs ys once.1)
+
+-- the events before a place miss the id of the one there
+pub distinct-before : (es : List PlainEvent) (k : ℕ) (e : PlainEvent) → AreDistinct es → slice_get es k ≡ Some e → find_event (id_of e) (take k es) ≡ None
+distinct-before es k e once at =
+    distinct-absent (take k es) (drop (suc k) es) e
+    (subst AreDistinct (sym (take-append-drop k es) ∙ ap (λ xs. take k es ++ xs) (drop-item es k e at)) once)
+
+pub distinct-more : (es : List PlainEvent) (new : PlainEvent) → find_event (id_of new) es ≡ None → AreDistinct es → AreDistinct (es ++ new ∷ [])
+distinct-more [] new absent once = (refl, tt)
+distinct-more (e ∷ es) new absent once =
+    let rest = absent-cons (id_of new) e es absent in
+    (adds-one es e (same_id-comm (id_of e) (id_of new) ∙ rest.0) once.0, distinct-more es new rest.1 once.1)
+  where
+    adds-one : (es : List PlainEvent) (e : PlainEvent) → same_id (id_of e) (id_of new) ≡ false → find_event (id_of e) es ≡ None → find_event (id_of e) (es ++ new ∷ []) ≡ None
+    adds-one [] e other h = rw other refl
+    adds-one (x ∷ es) e other h = let rest = absent-cons (id_of e) x es h in cons-absent (id_of e) x (es ++ new ∷ []) rest.0 (adds-one es e other rest.1)
+
+pub distinct-put_after : (x : AnyId) (new : PlainEvent) (es : List PlainEvent) → find_event (id_of new) es ≡ None → AreDistinct es → AreDistinct (put_after x new es)
+distinct-put_after x new [] absent once = tt
+distinct-put_after x new (e ∷ es) absent once =
+    let rest = absent-cons (id_of new) e es absent in
+    let other = same_id-comm (id_of e) (id_of new) ∙ rest.0 in
+    elim (cases_Bool (same_id x (id_of e))) [
+      | inl it ↦ rw it (cons-absent (id_of e) new es other once.0, (rest.1, once.1))
+      | inr no_it ↦ rw no_it (adds-put_after x new es (id_of e) other once.0, distinct-put_after x new es rest.1 once.1)
+    ]
+
+pub distinct-without : (x : AnyId) (es : List PlainEvent) → AreDistinct es → AreDistinct (without x es)
+distinct-without x [] once = tt
+distinct-without x (e ∷ es) once = elim (cases_Bool (same_id x (id_of e))) [
+  | inl it ↦ rw it once.1
+  | inr no_it ↦ rw no_it (adds-without x es (id_of e) once.0, distinct-without x es once.1)
+]
+
+pub distinct-filter : (p : PlainEvent → Bool) (es : List PlainEvent) → AreDistinct es → AreDistinct (filter p es)
+distinct-filter p [] once = tt
+distinct-filter p (e ∷ es) once = elim (cases_Bool (p e)) [
+  | inl it ↦ rw it (adds-filter p es (id_of e) once.0, distinct-filter p es once.1)
+  | inr no_it ↦ rw no_it (distinct-filter p es once.1)
+]
+
+pub distinct-changed : (x : AnyId) (f : PlainEvent → PlainEvent) → ((e : PlainEvent) → id_of (f e) ≡ id_of e) → (es : List PlainEvent) → AreDistinct es → AreDistinct (changed x f es)
+distinct-changed x f same [] once = tt
+distinct-changed x f same (e ∷ es) once = elim (cases_Bool (same_id x (id_of e))) [
+  | inl it ↦ rw it (ap (λ i. find_event i es) (same e) ∙ once.0, once.1)
+  | inr no_it ↦ rw no_it (adds-changed x f same es (id_of e) once.0, distinct-changed x f same es once.1)
+]
+
+-- ---- orders
+
+ids-distinct : (es : List PlainEvent) → AreDistinct es → IsDistinct same_id (map id_of es)
+unfolding IsDistinct
+ids-distinct [] once = tt
+ids-distinct (e ∷ es) once = (apart (id_of e) es once.0, ids-distinct es once.1)
+  where
+    apart : (own : AnyId) (es : List PlainEvent) → find_event own es ≡ None → AllByRecursion (λ y. same_id own y ≡ false) (map id_of es)
+    apart own [] h = tt
+    apart own (x ∷ es) h = let rest = absent-cons own x es h in (rest.0, apart own es rest.1)
+
+-- an order has no id twice
+order-once : (es : List PlainEvent) (order : List AnyId) → AreDistinct es → IsOrderOf order es → AreListedOnce order
+order-once es order once p = once-distinct order (IsDistinct-IsPermutation same_id same_id-comm (map id_of es) order p (ids-distinct es once))
+
+listed-distinct : (order : List AnyId) (es : List PlainEvent) → AreListedOnce order → AreDistinct (in_order order es)
+listed-distinct [] es listed = tt
+listed-distinct (x ∷ order) es listed = by (find_event x es) refl (listed-distinct order es listed.1)
+  where
+    by : (o : Option PlainEvent) → find_event x es ≡ o → AreDistinct (in_order order es) → AreDistinct (option_to_list o ++ in_order order es)
+    by None is rest = rest
+    by (Some e) is rest = (order-misses order es (id_of e) (ap (λ i. is_listed i order) (sym (find-id x es e is)) ∙ listed.0), rest)
+
+pub distinct-in_order : (order : List AnyId) (es : List PlainEvent) → AreDistinct es → IsOrderOf order es → AreDistinct (in_order order es)
+distinct-in_order order es once p = listed-distinct order es (order-once es order once p)
