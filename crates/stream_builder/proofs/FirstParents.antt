@@ -1,6 +1,5 @@
 -- The tree of a commit among events whose ids are places: that of its first parent, with its operations.
-use Rattle.std.proofs.Common.{◌≡◌, ℕ, suc, ◌+◌, ◌<◌, ◌≤◌, Bool, true, false, cond, List, [], ◌∷◌, ◌++◌, length, Option, Some, None, refl, sym, ap, subst, ◌∙◌, arith, ne_eqb, eqb-true, nat_lt, get_or, drop, take}
-use Rattle.std.proofs.lemmas.List.{take_more}
+use Rattle.std.proofs.Common.{◌≡◌, ℕ, zero, suc, ◌+◌, ◌<◌, ◌≤◌, Bool, true, false, cond, List, [], ◌∷◌, ◌++◌, length, Option, Some, None, refl, sym, ap, subst, ◌∙◌, arith, ne_eqb, eqb-true, nat_lt, get_or, drop}
 use Rattle.std.proofs.lemmas.Bool.Decides.{nat_tests}
 use Rattle.std.proofs.lemmas.Option.{same_Some}
 use Rattle.plain_model.specs.Lookups.{id_of, id_number}
@@ -14,7 +13,9 @@ use Rattle.plain_model.specs.Histories.{Node, Past, nodes, node_at, past, folded
 use Rattle.plain_model.specs.Trees.{Tree}
 use Rattle.stream_drafts.specs.Events.{links_of}
 use Rattle.stream_drafts.specs.Placed.{ArePlaced}
-use Rattle.stream_builder.specs.Lines.{IsFoldedFrom, ops_in, ops_at, along}
+use Rattle.stream_grammar.specs.Known.{next_id}
+use Rattle.stream_builder.specs.Keeping.{IsEarlier}
+use Rattle.stream_builder.specs.Lines.{AreFolded, IsLine, ops_in, ops_at, along}
 
 -- ---- ids that fall
 
@@ -148,14 +149,25 @@ module _ (events : List PlainEvent) (placed : ArePlaced 1 events) (c : ℕ) wher
           tree_found 1 (length events + 1) (past events) (falling 1 events placed) c n is
           ∙ ap (λ ps. folded n.ops (begun_before c (tree events) ps)) (sym (ap (λ (x : List ℕ × List FileOp). x.0) (same_Some (parents, ops) (n.parents, n.ops) e)))
 
-  pub is_root : (ops : List FileOp) → Some ([], ops) ≡ links → tree events c ≡ folded (ops_at events c) (Some [])
-  is_root ops e = hangs [] ops e
+  -- what is found is among the events
+  found_here : (parents : List ℕ) (ops : List FileOp) → Some (parents, ops) ≡ links → c < next_id events
+  found_here parents ops e = go (node_at (past events) c) refl e
+    where
+      go : (o : Option Node) → node_at (past events) c ≡ o → Some (parents, ops) ≡ option_map links_of o → c < next_id events
+      go None is e = absurd cc
+      go (Some n) is e = found_below 1 (length events + 1) (past events) (falling 1 events placed) c n is
+
+  pub is_root : (ops : List FileOp) → Some ([], ops) ≡ links → (tree events c ≡ folded (ops_at events c) (Some [])) × (c < next_id events)
+  is_root ops e = (hangs [] ops e, found_here [] ops e)
 
   module _ (p : ℕ) (ps : List ℕ) (ops : List FileOp) (e : Some (p ∷ ps, ops) ≡ links) where
-    pub hangs_on : p < c → tree events c ≡ folded (ops_at events c) (tree events p)
+    pub hangs_on : p < c → (tree events c ≡ folded (ops_at events c) (tree events p)) × (c < next_id events) × (p < c)
     hangs_on less =
-        let is : nat_lt p c ≡ true = grind (arith, nat_tests) in
-        hangs (p ∷ ps) ops e ∙ ap (λ t. folded (ops_at events c) (cond t (tree events p) None)) is
+        let is : nat_lt p c ≡ true = grind (arith, nat_tests) in (
+          hangs (p ∷ ps) ops e ∙ ap (λ t. folded (ops_at events c) (cond t (tree events p) None)) is,
+          found_here (p ∷ ps) ops e,
+          less,
+        )
 
     pub hangs_nowhere : c ≤ p → tree events c ≡ None
     hangs_nowhere more =
@@ -182,23 +194,32 @@ pub along_more : (events : List PlainEvent) (line : List ℕ) (c : ℕ) (t : Opt
 along_more events [] c t = refl
 along_more events (d ∷ line) c t = ap (folded (ops_at events d)) (along_more events line c t)
 
--- a line that goes on to what its oldest commit hangs on
-pub goes_back : (events : List PlainEvent) (c at : ℕ) (line longer : List ℕ) (base : Option Tree) → tree events c ≡ along events line (tree events at)
-    → longer ≡ line ++ at ∷ [] → tree events at ≡ folded (ops_at events at) base → tree events c ≡ along events longer base
-goes_back events c at line longer base so_far is hangs =
-    so_far ∙ ap (along events line) hangs ∙ sym (along_more events line at base) ∙ sym (ap (λ (l : List ℕ). along events l base) is)
+module _ (events : List PlainEvent) (at : ℕ) (base : Option Tree) (hangs : tree events at ≡ folded (ops_at events at) base) (here : at < next_id events) where
+  folded_back : (line : List ℕ) → AreFolded events line (tree events at) → AreFolded events (line ++ at ∷ []) base
+  folded_back [] h = (hangs, here, tt)
+  folded_back (d ∷ line) h = (
+    h.0 ∙ ap (along events (d ∷ line)) hangs ∙ sym (along_more events (d ∷ line) at base),
+    h.1,
+    folded_back line h.2,
+  )
 
--- what a commit is folded from hangs on another
-pub from_further : (events : List PlainEvent) (c at p : ℕ) → IsFoldedFrom events c at → tree events at ≡ folded (ops_at events at) (tree events p) → IsFoldedFrom events c p
-from_further events c at p from hangs = (from.0 ++ at ∷ [], goes_back events c at from.0 (from.0 ++ at ∷ []) (tree events p) from.1 refl hangs)
+  -- a line that goes on to what its oldest commit hangs on
+  pub goes_back : (c : ℕ) (line longer : List ℕ) → IsLine events c line (tree events at) → longer ≡ line ++ at ∷ [] → IsLine events c longer base
+  goes_back c line longer so_far is = subst (λ (l : List ℕ). IsLine events c l base) (sym is) (record {
+    newest = so_far.newest ∙ ap (along events line) hangs ∙ sym (along_more events line at base);
+    each = folded_back line so_far.each;
+  })
 
--- the oldest commit that is left of a line
-pub oldest_left : (events : List PlainEvent) (line : List ℕ) (n m at : ℕ) (base made new : Option Tree) → n ≡ m + 1 → m < length line → at ≡ get_or line m at
-    → along events line base ≡ along events (take n line) made → new ≡ folded (ops_at events at) made → along events line base ≡ along events (take m line) new
-oldest_left events line n m at base made new is within is_at so_far after =
-    so_far
-    ∙ ap (λ k. along events (take k line) made) is
-    ∙ ap (λ (l : List ℕ). along events l made) (take_more line m at within)
-    ∙ ap (λ k. along events (take m line ++ k ∷ []) made) (sym is_at)
-    ∙ along_more events (take m line) at made
-    ∙ ap (along events (take m line)) (sym after)
+-- the commit at a place of a line, and its tree
+pub tree_at : (events : List PlainEvent) (line : List ℕ) (m at : ℕ) (base : Option Tree) → m < length line → at ≡ get_or line m at
+    → AreFolded events line base → IsEarlier events at (along events (drop m line) base)
+tree_at events [] m at base within is h = absurd (omega (arith, within))
+tree_at events (c ∷ line) zero at base within is h = subst (λ a. IsEarlier events a (along events (c ∷ line) base)) (sym is) (h.0, h.1)
+tree_at events (c ∷ line) (suc m) at base within is h = tree_at events line m at base (omega (arith, within)) is h.2
+
+-- the tree of a newer commit of a line
+pub one_newer : (events : List PlainEvent) (line : List ℕ) (m at : ℕ) (base made new : Option Tree) → m < length line → at ≡ get_or line m at
+    → made ≡ along events (drop (suc m) line) base → new ≡ folded (ops_at events at) made → new ≡ along events (drop m line) base
+one_newer events [] m at base made new within is so_far after = absurd (omega (arith, within))
+one_newer events (c ∷ line) zero at base made new within is so_far after = after ∙ (λ i. folded (ops_at events (is i)) (so_far i))
+one_newer events (c ∷ line) (suc m) at base made new within is so_far after = one_newer events line m at base made new (omega (arith, within)) is so_far after

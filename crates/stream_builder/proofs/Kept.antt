@@ -1,5 +1,5 @@
 -- What is known of the trees after one more event, and at the beginning of a commit.
-use Rattle.std.proofs.Common.{◌≡◌, ℕ, ◌+◌, ◌<◌, Bool, true, false, cond, List, [], ◌∷◌, ◌++◌, length, Option, Some, None, refl, sym, ap, slice_index_or, subst, ◌∙◌, arith, ne_eqb, eq-eqb}
+use Rattle.std.proofs.Common.{◌≡◌, ℕ, ◌+◌, ◌<◌, Bool, true, false, cond, List, [], ◌∷◌, ◌++◌, length, Option, Some, None, refl, sym, ap, subst, ◌∙◌, arith, ne_eqb, eq-eqb}
 use Rattle.std.specs.Prelude.{◌==◌}
 use Rattle.plain_model.specs.declared.event.PlainEvent.{PlainEvent}
 use Rattle.plain_model.specs.declared.operation.FileOp.{FileOp}
@@ -7,11 +7,12 @@ use Rattle.plain_model.specs.declared.operation.FileOp.TheVariants.{DeleteAll}
 use Rattle.plain_model.specs.Histories.{nodes, begun, folded, tree}
 use Rattle.plain_model.specs.Trees.{Tree}
 use Rattle.stream_grammar.specs.Known.{next_id, with_event}
-use Rattle.stream_builder.specs.declared.draft_trees.trees.KnownTree.{KnownTree}
+use Rattle.stream_builder.specs.declared.draft_trees.kept_trees.KeptTrees.{KeptTrees}
 use Rattle.stream_builder.specs.declared.known.OpenTree.{OpenTree}
 use Rattle.stream_builder.specs.declared.known.OpenTree.TheVariants.{NotFolded}
 use Rattle.stream_builder.specs.declared.known.Trees.{Trees}
-use Rattle.stream_builder.specs.Minding.{AreEarlier, HasAtMost, IsEarlier, IsOpened, Minds, open_tree}
+use Rattle.stream_builder.specs.Keeping.{AreEarlier, IsEarlier}
+use Rattle.stream_builder.specs.Minding.{HasAtMost, IsOpened, Minds, open_tree}
 use Rattle.stream_builder.proofs.TreesAfter.{tree_beside, tree_after}
 
 -- what a commit begins with has no more paths than any tree
@@ -31,11 +32,10 @@ next_more events e = go events
     go (x ∷ es) = let more = go es in omega (arith, more)
 
 module _ (t : Trees) (events : List PlainEvent) (e : PlainEvent) where
-  earlier_beside : ((c : ℕ) → c < next_id events → tree (with_event events e) c ≡ tree events c) → (kept : List KnownTree) → AreEarlier events kept → AreEarlier (with_event events e) kept
-  earlier_beside same kept h = λ i d less. go (slice_index_or kept i d) (h i d less)
-    where
-      go : (k : KnownTree) → IsEarlier events k → IsEarlier (with_event events e) k
-      go k h = (h.0 ∙ sym (same k.commit h.1), let before = h.1 in let more = next_more events e in omega (arith, before, more))
+  earlier_beside : ((c : ℕ) → c < next_id events → tree (with_event events e) c ≡ tree events c) → (kept : KeptTrees) → AreEarlier events kept → AreEarlier (with_event events e) kept
+  earlier_beside same kept h = λ c t is.
+      let own = h c t is in
+      (same c own.1 ∙ own.0, let before = own.1 in let more = next_more events e in omega (arith, before, more))
 
   -- an event that is no commit is after the others
   pub one_beside : nodes (e ∷ []) ≡ [] → (parents : List ℕ) (ops : List FileOp) → Minds t events parents ops → Minds t (with_event events e) parents ops
@@ -43,7 +43,7 @@ module _ (t : Trees) (events : List PlainEvent) (e : PlainEvent) where
       let same = tree_beside events e none in
       let begins_same : begun (tree (with_event events e)) parents ≡ begun (tree events) parents = go parents same in
       record {
-        earlier = earlier_beside (λ c before. same c) t.kept.items m.earlier;
+        earlier = earlier_beside (λ c before. same c) t.kept m.earlier;
         is_opened = subst (λ (o : Option Tree). IsOpened t.opened (folded ops o)) (sym begins_same) m.is_opened;
         all = λ c. subst (HasAtMost t.most) (sym (same c)) (m.all c);
         own = subst (λ (o : Option Tree). HasAtMost t.most (folded ops o)) (sym begins_same) m.own;
@@ -71,29 +71,29 @@ module _ (t : Trees) (events : List PlainEvent) (e : PlainEvent) where
 
     pub one_after : Minds t (with_event events e) [] []
     one_after = record {
-      earlier = earlier_beside before t.kept.items m.earlier;
+      earlier = earlier_beside before t.kept m.earlier;
       is_opened = m.is_opened;
       all = all_after;
       own = m.own;
     }
 
-    pub earlier_after : AreEarlier (with_event events e) t.kept.items
-    earlier_after = earlier_beside before t.kept.items m.earlier
+    pub earlier_after : AreEarlier (with_event events e) t.kept
+    earlier_after = earlier_beside before t.kept m.earlier
 
     -- its own tree is known
-    pub own_earlier : (made : Option Tree) → made ≡ open_tree events parents ops → IsEarlier (with_event events e) (record { commit = commit; tree = made })
+    pub own_earlier : (made : Tree) → Some made ≡ open_tree events parents ops → IsEarlier (with_event events e) commit (Some made)
     own_earlier made same = (
-      same ∙ sym (there commit ∙ ap (λ b. cond b (open_tree events parents ops) (tree events commit)) (eq-eqb commit commit refl)),
+      there commit ∙ ap (λ b. cond b (open_tree events parents ops) (tree events commit)) (eq-eqb commit commit refl) ∙ sym same,
       let more = next_more events e in omega (arith, is, more),
     )
 
     -- other trees are kept
-    pub own_after : (new : Trees) → AreEarlier (with_event events e) new.kept.items → new.opened ≡ t.opened → new.most ≡ t.most → Minds new (with_event events e) [] []
-    own_after new earlier opened most = record {
+    pub own_after : (kept : KeptTrees) → AreEarlier (with_event events e) kept → Minds (record { kept = kept; opened = t.opened; most = t.most }) (with_event events e) [] []
+    own_after kept earlier = record {
       earlier = earlier;
-      is_opened = subst (λ (o : OpenTree). IsOpened o (open_tree events [] [])) (sym opened) m.is_opened;
-      all = λ c. subst (λ n. HasAtMost n (tree (with_event events e) c)) (sym most) (all_after c);
-      own = subst (λ n. HasAtMost n (open_tree events [] [])) (sym most) m.own;
+      is_opened = m.is_opened;
+      all = all_after;
+      own = m.own;
     }
 
 -- all files of a commit go

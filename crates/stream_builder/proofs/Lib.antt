@@ -6,3 +6,5 @@ mod Counting
 mod Built
 mod Limited
 mod FirstParents
+mod Sources
+mod Keeping

@@ -4,3 +4,4 @@ pub mod Minding
 pub mod Pushing
 pub mod Operating
 pub mod Lines
+pub mod Keeping

@@ -1,13 +1,13 @@
 //! The trees of commits that were read so far, each folded only where it is asked for.
 
 mod folding;
+mod kept_trees;
 mod line;
-mod nearest_tree;
 mod trees;
 
 pub use folding::folded;
-pub use nearest_tree::nearest;
-pub use trees::{KnownTree, tree_of};
+pub use kept_trees::KeptTrees;
+pub use trees::tree_of;
 
 #[cfg(test)]
 mod tests;

@@ -1,5 +1,5 @@
 //! The trees that are known while a stream is read.
-use crate::draft_trees::KnownTree;
+use crate::draft_trees::KeptTrees;
 use path_tree::PathTree;
 
 /// The tree of the commit that is being read, where it was folded; none where an operation was refused.
@@ -9,12 +9,11 @@ pub enum OpenTree {
     Folded(Option<PathTree>),
 }
 
-/// The tree of the commit that is being read, trees of the latest commits whose trees were folded, in the order of the commits,
-/// and a bound on the paths of every tree. No tree is folded before one is asked for, so a stream that asks for none costs
-/// none; and of several branches each goes on from a tree of its own.
+/// The tree of the commit that is being read, those that are kept of earlier commits, and a bound on the paths of every
+/// tree. No tree is folded before one is asked for, so a stream that asks for none costs none.
 #[derive(Drop)]
 pub struct Trees {
-    pub kept: Vec<KnownTree>,
+    pub kept: KeptTrees,
     pub opened: OpenTree,
     pub most: u64,
 }

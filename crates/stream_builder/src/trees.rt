@@ -1,15 +1,14 @@
 //! The trees are folded where an operation needs them.
-ghost use Rattle.std.specs.Prelude.{◌≡◌, ◌∷◌, ◌++◌, ℕ, List, [], IfOk, IfSome, OnErr, OnOk, Option, true};
+ghost use Rattle.std.specs.Prelude.{◌≡◌, ◌∷◌, ◌++◌, ℕ, List, [], IfOk, OnErr, OnOk, Option, Some, true};
 ghost use Rattle.plain_model.specs.declared.event.PlainEvent.{PlainEvent};
 ghost use Rattle.plain_model.specs.declared.operation.FileOp.{FileOp};
 ghost use Rattle.stream_grammar.specs.Known.{has_source, next_id, with_event};
 ghost use Rattle.plain_model.specs.Histories.{begun, nodes, tree};
 ghost use Rattle.plain_model.specs.Trees.{Tree};
 ghost use Rattle.stream_builder.specs.declared.known.OpenTree.TheVariants.{NotFolded};
+ghost use Rattle.stream_builder.specs.Keeping.{AreEarlier};
 ghost use Rattle.stream_builder.specs.Minding.{
-  AreEarlier,
   HasAtMost,
-  IsEarlier,
   IsOpened,
   Minds,
   open_tree,
@@ -23,11 +22,11 @@ ghost use Rattle.stream_builder.specs.Pushing.{
   most_after,
 };
 
-use crate::draft_trees::{KnownTree, folded, nearest, tree_of};
+use crate::draft_trees::{KeptTrees, folded, tree_of};
 use crate::fault::LineFault;
 use crate::known::{OpenTree, Trees};
 use path_tree::{ApplyFault, PathTree};
-use plain_model::{CommitId, FileOp, MAX_KEPT_TREES, MAX_PATHS, NoMemory, Path, Steps};
+use plain_model::{CommitId, Copied, FileOp, MAX_PATHS, NoMemory, Path, Steps};
 use std::alloc::Global;
 use std::mem;
 use stream_drafts::Drafts;
@@ -64,6 +63,27 @@ fn most_after(most: u64, op: &FileOp) -> u64
     }
 }
 
+// Whether the tree has something at or below the path. What is below isn't listed, as it may be many paths: a copy of the
+// path to itself is refused for its source exactly where nothing is there.
+fn has_something(alloc: Global, tree: &PathTree, path: &Path) -> Result<bool, NoMemory>
+    ensures { IfOk result (λ there. there ≡ has_source path.now (Some tree.now)) }
+{
+    if tree.get(path).is_some() {
+        return Ok(true);
+    }
+    let copy = FileOp::Copy {
+        source: path.copied(alloc)?,
+        target: path.copied(alloc)?,
+    };
+    let mut steps: Steps<Reading> = Steps::new();
+    let mut trial = tree.share()?;
+    match trial.apply(&copy, &mut steps) {
+        Ok(()) | Err(ApplyFault::Limit { .. }) => Ok(true),
+        Err(ApplyFault::MissingSource) => Ok(false),
+        Err(ApplyFault::Memory) => Err(NoMemory),
+    }
+}
+
 // Applies an operation to a tree, if it is there, and tells how many paths there are then. What is refused for its source is
 // not reported: then there is no tree.
 fn apply_to(tree: &mut Option<PathTree>, op: &FileOp) -> Result<u64, LineFault>
@@ -90,7 +110,7 @@ impl Trees {
         ensures { Minds result [] [] [] }
     {
         Trees {
-            kept: Vec::new(alloc),
+            kept: KeptTrees::new(alloc),
             opened: OpenTree::NotFolded,
             most: 0,
         }
@@ -102,19 +122,6 @@ impl Trees {
         matches!(self.opened, OpenTree::Folded(_))
     }
 
-    // Takes out the tree that is nearest to a commit, so that it needn't be copied.
-    fn take_nearest(&mut self, drafts: &Drafts, commit: CommitId) -> Option<KnownTree>
-        requires { AreEarlier drafts.now self.old.kept.items }
-        ensures known { IfSome result (λ k. k.tree ≡ tree drafts.now k.commit) }
-        ensures earlier { AreEarlier drafts.now self.new.kept.items }
-        ensures same { (self.new.opened ≡ self.old.opened) × (self.new.most ≡ self.old.most) }
-    {
-        match nearest(drafts, self.kept.as_slice(), commit) {
-            Some(place) => Some(self.kept.remove(place)),
-            None => None,
-        }
-    }
-
     // The tree on which a commit with these parents begins.
     fn begun(
         &mut self,
@@ -122,17 +129,14 @@ impl Trees {
         drafts: &Drafts,
         parents: &[CommitId],
     ) -> Result<Option<PathTree>, NoMemory>
-        requires { AreEarlier drafts.now self.old.kept.items }
+        requires { AreEarlier drafts.now self.old.kept }
         ensures begun { IfOk result (λ made. made ≡ begun (tree drafts.now) parents.now) }
-        ensures earlier { AreEarlier drafts.now self.new.kept.items }
+        ensures earlier { AreEarlier drafts.now self.new.kept }
         ensures same { (self.new.opened ≡ self.old.opened) × (self.new.most ≡ self.old.most) }
     {
         match parents {
             [] => Ok(Some(PathTree::new(alloc)?)),
-            [first, ..] => {
-                let known = self.take_nearest(drafts, *first);
-                tree_of(alloc, drafts, known, *first)
-            }
+            [first, ..] => tree_of(alloc, drafts, &mut self.kept, *first),
         }
     }
 
@@ -166,7 +170,7 @@ impl Trees {
         parents: &[CommitId],
         ops: &[FileOp],
     ) -> Result<(), NoMemory>
-        requires { AreEarlier drafts.now self.old.kept.items }
+        requires { AreEarlier drafts.now self.old.kept }
         ensures ok { OnOk result ((p : List ℕ) → (o : List FileOp) → Minds self.old drafts.now p o →
             Minds self.new drafts.now parents.now ops.now) }
         ensures err { OnErr result ((p : List ℕ) → (o : List FileOp) → Minds self.old drafts.now p o →
@@ -202,19 +206,6 @@ impl Trees {
         mem::replace(&mut self.opened, OpenTree::NotFolded)
     }
 
-    // Keeps a tree after the others; where there are too many, that of the oldest commit goes. Where memory runs out, the
-    // tree isn't kept.
-    fn put(&mut self, known: KnownTree)
-        ensures earlier { (events : List PlainEvent) → AreEarlier events self.old.kept.items →
-            IsEarlier events known → AreEarlier events self.new.kept.items }
-        ensures same { (self.new.opened ≡ self.old.opened) × (self.new.most ≡ self.old.most) }
-    {
-        if self.kept.len() as u64 >= MAX_KEPT_TREES {
-            self.kept.remove(0);
-        }
-        let _ = self.kept.push(known);
-    }
-
     /// A commit is after the other events, with its tree, if it was folded.
     pub fn keep(&mut self, commit: CommitId, tree: OpenTree)
         ensures { (events : List PlainEvent) → (e : PlainEvent) → (parents : List ℕ) →
@@ -224,19 +215,19 @@ impl Trees {
             nodes (e ∷ []) ≡ record { id = commit; parents = parents; ops = ops } ∷ [] →
             commit ≡ next_id events → Minds self.new (with_event events e) [] [] }
     {
-        if let OpenTree::Folded(tree) = tree {
-            self.put(KnownTree { commit, tree });
+        if let OpenTree::Folded(Some(tree)) = tree {
+            self.kept.put(commit, tree);
         }
     }
 
     /// Whether the tree that was folded has something at or below the path.
-    pub fn has(&self, path: &Path) -> Result<bool, NoMemory>
+    pub fn has(&self, alloc: Global, path: &Path) -> Result<bool, NoMemory>
         requires { is_folded self.now.opened ≡ true }
         ensures { IfOk result (λ there. (expected : Option Tree) → IsOpened self.now.opened expected →
             there ≡ has_source path.now expected) }
     {
         match &self.opened {
-            OpenTree::Folded(Some(tree)) => { Ok(!tree.entries_below(path)?.as_slice().is_empty()) }
+            OpenTree::Folded(Some(tree)) => has_something(alloc, tree, path),
             _ => Ok(false),
         }
     }

@@ -34,7 +34,7 @@ impl Builder {
             let parents = open.parents.as_slice();
             self.trees
                 .fold(alloc, &self.drafts, parents, open.ops.as_slice())?;
-            self.trees.has(source)
+            self.trees.has(alloc, source)
         } else {
             Ok(false)
         }

@@ -1,22 +1,13 @@
 //! The line of first parents, from a commit back.
-ghost use Rattle.std.specs.Prelude.{◌≡◌, ℕ, IfOk, if◌then◌else◌};
-ghost use Rattle.stream_builder.specs.Lines.{LeadsBack, along, base_of, known_tree};
-ghost use Rattle.plain_model.specs.Histories.{tree};
+ghost use Rattle.std.specs.Prelude.{◌≡◌, IfOk};
+ghost use Rattle.stream_builder.specs.Keeping.{AreEarlier};
+ghost use Rattle.stream_builder.specs.Lines.{IsLine, LeadsBack};
 
+use crate::draft_trees::kept_trees::KeptTrees;
+use path_tree::PathTree;
 use plain_model::{CommitId, Items, NoMemory, ParentList};
 use std::alloc::Global;
 use stream_drafts::Drafts;
-
-/// Where a line begins.
-#[derive(Clone, Copy, Debug, PartialEq, Eq)]
-pub enum Base {
-    /// Its oldest commit is a root.
-    Empty,
-    /// Its oldest commit hangs on the one whose tree is known.
-    Known,
-    /// Its oldest commit has no tree, since what it hangs on isn't there.
-    Nowhere,
-}
 
 /// What a commit hangs on.
 pub enum Back {
@@ -44,32 +35,34 @@ pub fn step_back(drafts: &Drafts, commit: CommitId) -> Back
     }
 }
 
-/// The commits from this one back along first parents, up to a root or the one that is known, which isn't among them.
+/// The commits from this one back along first parents, up to a root or to one whose tree is kept, which isn't among them;
+/// and the tree on which the oldest of them hangs. There is none where that isn't there.
 pub fn line_to(
     alloc: Global,
     drafts: &Drafts,
-    known: Option<CommitId>,
+    kept: &KeptTrees,
     commit: CommitId,
-) -> Result<(ParentList, Base), NoMemory>
-    ensures { IfOk result (λ line. tree drafts.now commit
-        ≡ along drafts.now line.0 (base_of (known_tree drafts.now known) line.1)) }
+) -> Result<(ParentList, Option<PathTree>), NoMemory>
+    requires { AreEarlier drafts.now kept.now }
+    ensures { IfOk result (λ line. IsLine drafts.now commit line.0 line.1) }
 {
     let mut line: ParentList = Items::empty(alloc);
     let mut at = commit;
     loop {
-        if known == Some(at) {
-            return Ok((line, Base::Known));
+        if let Some(tree) = kept.share(at)? {
+            return Ok((line, Some(tree)));
         }
         match step_back(drafts, at) {
             Back::Root => {
+                let root = PathTree::new(alloc)?;
                 line.push(at)?;
-                return Ok((line, Base::Empty));
+                return Ok((line, Some(root)));
             }
             Back::To(parent) => {
                 line.push(at)?;
                 at = parent;
             }
-            Back::Nowhere => return Ok((line, Base::Nowhere)),
+            Back::Nowhere => return Ok((line, None)),
         }
     }
 }

@@ -1,5 +1,8 @@
 use super::*;
-use plain_model::{CommitId, Items, Person, Signed, When};
+use plain_model::{
+    BlobId, CommitId, Content, FileOp, Items, Mode, OpList, ParentList, Path, Person, Signed, Text,
+    When,
+};
 use std::alloc::Global;
 use std::test::*;
 use stream_drafts::{CommitFields, Drafts};
@@ -18,12 +21,20 @@ fn signed(alloc: Global) -> Signed {
     }
 }
 
-// A commit that hangs on the one with this number, or a root for 0.
+// A commit that hangs on the one with this number, or a root for 0, and puts a file.
 fn push(alloc: Global, drafts: &mut Drafts, parent: u64) -> Result<(), Fail> {
-    let mut parents = Items::empty(alloc);
+    let mut parents: ParentList = Items::empty(alloc);
     if parent > 0 {
         parents.push(CommitId::new(parent))?;
     }
+    let mut name: Text = Items::empty(alloc);
+    name.push_number(parent)?;
+    let mut ops: OpList = Items::empty(alloc);
+    ops.push(FileOp::Modify {
+        mode: Mode::Plain,
+        content: Content::Blob(BlobId::new(1)),
+        path: Path::new(alloc, name.as_slice())?,
+    })?;
     let fields = CommitFields {
         branch: Items::empty(alloc),
         author: signed(alloc),
@@ -31,43 +42,35 @@ fn push(alloc: Global, drafts: &mut Drafts, parent: u64) -> Result<(), Fail> {
         encoding: None,
         comment: Items::empty(alloc),
         parents,
-        ops: Items::empty(alloc),
+        ops,
     };
     drafts.push_commit(None, fields)?;
     Ok(())
 }
 
-// The place of the nearest of two known trees to a commit, where 1, 3 and 5 are on one line, and 2, 4 and 6 on another.
-fn place_of(alloc: Global, known: [u64; 2], commit: u64) -> Result<Option<usize>, Fail> {
-    let mut drafts = Drafts::new(alloc);
-    for parent in [0, 0, 1, 2, 3, 4] {
-        push(alloc, &mut drafts, parent)?;
+// How many paths the tree has that is kept for a commit.
+fn paths_at(kept: &KeptTrees, commit: u64) -> Result<Option<usize>, Fail> {
+    match kept.share(CommitId::new(commit))? {
+        Some(tree) => Ok(Some(tree.len())),
+        None => Ok(None),
     }
-    let mut trees = Vec::new(alloc);
-    for number in known {
-        trees.push(KnownTree {
-            commit: CommitId::new(number),
-            tree: None,
-        })?;
-    }
-    Ok(nearest(&drafts, trees.as_slice(), CommitId::new(commit)))
 }
 
 #[test]
-fn the_nearest_known_tree_is_found_on_its_line(rt: HostRuntime) -> Result<(), Fail> {
-    let rows: [(&str, [u64; 2], u64, Option<usize>); 8] = [
-        ("its own", [4, 5], 5, Some(1)),
-        ("its parent's, before one beside it", [3, 4], 5, Some(0)),
-        ("its parent's, after one beside it", [2, 3], 5, Some(1)),
-        ("the nearer one of two", [1, 3], 5, Some(1)),
-        ("that of the root", [1, 4], 5, Some(0)),
-        ("only one that hangs on it", [5, 6], 3, None),
-        ("only those of another line", [2, 4], 5, None),
-        ("no such commit", [1, 2], 9, None),
-    ];
-    for (what, known, commit, want) in rows {
-        let found = place_of(rt.alloc(), known, commit)?;
-        assert_eq!(rt; found, want, "{what}");
+fn a_fork_begins_half_way(rt: HostRuntime) -> Result<(), Fail> {
+    let alloc = rt.alloc();
+    let mut drafts = Drafts::new(alloc);
+    for parent in [0, 1, 2, 3, 4, 5, 6, 7, 8, 9, 8] {
+        push(alloc, &mut drafts, parent)?;
     }
+    let mut kept = KeptTrees::new(alloc);
+    let tree = tree_of(alloc, &drafts, &mut kept, CommitId::new(10))?;
+    assert_eq!(rt; tree.ok_or("a tree")?.len(), 10);
+    assert_eq!(rt; paths_at(&kept, 10)?, Some(10), "the tree itself");
+    assert_eq!(rt; paths_at(&kept, 5)?, Some(5), "half way");
+    assert_eq!(rt; paths_at(&kept, 7)?, None);
+    let fork = tree_of(alloc, &drafts, &mut kept, CommitId::new(11))?;
+    assert_eq!(rt; fork.ok_or("a tree")?.len(), 9);
+    assert_eq!(rt; paths_at(&kept, 7)?, Some(7), "half way from the fifth");
     Ok(())
 }

@@ -1,55 +1,18 @@
 //! The tree of a commit.
-ghost use Rattle.std.specs.Prelude.{◌≡◌, IfOk, IfSome, option_map, option_and_then};
-ghost use Rattle.stream_builder.specs.Lines.{along, base_of, ops_at};
+ghost use Rattle.std.specs.Prelude.{◌≡◌, IfOk, List};
+ghost use Rattle.plain_model.specs.declared.event.PlainEvent.{PlainEvent};
+ghost use Rattle.stream_builder.specs.Keeping.{AreEarlier, IsEarlier};
+ghost use Rattle.stream_builder.specs.Lines.{AreFolded, along, ops_at};
 ghost use Rattle.plain_model.specs.Histories.{folded as tree_after};
 ghost use Rattle.plain_model.specs.Histories.{tree};
 
 use crate::draft_trees::folding::folded;
-use crate::draft_trees::line::{Base, line_to};
+use crate::draft_trees::kept_trees::KeptTrees;
+use crate::draft_trees::line::line_to;
 use path_tree::PathTree;
 use plain_model::{CommitId, NoMemory};
 use std::alloc::Global;
 use stream_drafts::Drafts;
-
-/// A commit with its tree; none where one of its operations, or of those before it, is refused.
-#[derive(Drop)]
-pub struct KnownTree {
-    pub commit: CommitId,
-    pub tree: Option<PathTree>,
-}
-
-fn commit_in(known: &Option<KnownTree>) -> Option<CommitId>
-    ensures { result ≡ option_map (λ k. k.commit) known.now }
-{
-    match known {
-        Some(known) => Some(known.commit),
-        None => None,
-    }
-}
-
-fn tree_in(known: Option<KnownTree>) -> Option<PathTree>
-    ensures { result ≡ option_and_then (λ k. k.tree) known }
-{
-    match known {
-        Some(known) => known.tree,
-        None => None,
-    }
-}
-
-// The tree on which the oldest commit of a line hangs.
-fn base_of(
-    alloc: Global,
-    base: Base,
-    known: Option<KnownTree>,
-) -> Result<Option<PathTree>, NoMemory>
-    ensures { IfOk result (λ made. made ≡ base_of (option_and_then (λ k. k.tree) known) base) }
-{
-    match base {
-        Base::Empty => Ok(Some(PathTree::new(alloc)?)),
-        Base::Known => Ok(tree_in(known)),
-        Base::Nowhere => Ok(None),
-    }
-}
 
 // The tree after a commit, which hangs on another.
 fn folded_after(
@@ -65,34 +28,58 @@ fn folded_after(
     }
 }
 
-// The tree after the commits of a line, the newest of them first.
+// Keeps the tree of a commit at a place of a line of so many, the newest first, where it is the newest or half way to it: so
+// for no commit that begins on the line later on is more than half of it folded again.
+fn keep_on_way(
+    kept: &mut KeptTrees,
+    commit: CommitId,
+    place: usize,
+    count: usize,
+    tree: &Option<PathTree>,
+)
+    ensures { (events : List PlainEvent) → AreEarlier events kept.old →
+        IsEarlier events commit tree.now → AreEarlier events kept.new }
+{
+    if place == 0 || place == count / 2 {
+        kept.put_share(commit, tree);
+    }
+}
+
+// The tree after the commits of a line, the newest of them first, some of which are kept.
 fn folded_along(
     drafts: &Drafts,
     line: &[CommitId],
     base: Option<PathTree>,
+    kept: &mut KeptTrees,
 ) -> Result<Option<PathTree>, NoMemory>
-    ensures { IfOk result (λ made. made ≡ along drafts.now line.now base) }
+    requires each { AreFolded drafts.now line.now base }
+    requires earlier { AreEarlier drafts.now kept.old }
+    ensures made { IfOk result (λ made. made ≡ along drafts.now line.now base) }
+    ensures earlier { AreEarlier drafts.now kept.new }
 {
     let mut made = base;
     for after in 0..line.len() {
-        made = folded_after(drafts, line[line.len() - 1 - after], made)?;
+        let place = line.len() - 1 - after;
+        let commit = line[place];
+        made = folded_after(drafts, commit, made)?;
+        keep_on_way(kept, commit, place, line.len(), &made);
     }
     Ok(made)
 }
 
-/// The tree of a commit among drafts, folded along its first parents from the tree that is known, if it is among them,
-/// and else from the root. There is none where an operation is refused, and where there is no such commit. (git-fast-import,
-/// `from`, file operations.)
+/// The tree of a commit among drafts, folded along its first parents from the nearest that is kept, and else from the root.
+/// There is none where an operation is refused, and where there is no such commit. (git-fast-import, `from`, file
+/// operations.)
 pub fn tree_of(
     alloc: Global,
     drafts: &Drafts,
-    known: Option<KnownTree>,
+    kept: &mut KeptTrees,
     commit: CommitId,
 ) -> Result<Option<PathTree>, NoMemory>
-    requires { IfSome known (λ k. k.tree ≡ tree drafts.now k.commit) }
-    ensures { IfOk result (λ made. made ≡ tree drafts.now commit) }
+    requires { AreEarlier drafts.now kept.old }
+    ensures made { IfOk result (λ made. made ≡ tree drafts.now commit) }
+    ensures earlier { AreEarlier drafts.now kept.new }
 {
-    let (line, base) = line_to(alloc, drafts, commit_in(&known), commit)?;
-    let made = base_of(alloc, base, known)?;
-    folded_along(drafts, line.as_slice(), made)
+    let (line, base) = line_to(alloc, drafts, kept, commit)?;
+    folded_along(drafts, line.as_slice(), base, kept)
 }

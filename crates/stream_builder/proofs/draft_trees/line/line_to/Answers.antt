@@ -1,15 +1,17 @@
+use Rattle.std.proofs.Common.{Some, ap, subst, sym, ◌∙◌}
+use Rattle.plain_model.specs.Histories.{folded, tree}
+use Rattle.plain_model.specs.Trees.{Tree}
+use Rattle.stream_builder.specs.Lines.{LeadsBack, ops_at}
 use Rattle.stream_builder.proofs.FirstParents.{goes_back}
-use Rattle.std.proofs.Common.{Some, [], subst}
-use Rattle.plain_model.specs.Histories.{tree}
-use Rattle.stream_builder.specs.Lines.{LeadsBack}
 use Rattle.stream_builder.proofs.draft_trees.line.line_to.Goals as goal
 
 pub returns-in-Root : goal.returns-in-Root
 returns-in-Root c =
-    goes_back c.args.drafts.now c.args.commit c.loop-known.at c.loop-known.line c.push.new.self (Some []) c.loop-known.invariant c.in_ok-push-in-Root.ensures.ok
-    (subst (LeadsBack c.args.drafts.now c.loop-known.at) c.in-Root.is c.step_back.ensures)
+    let back = subst (LeadsBack c.args.drafts.now c.loop-line.at) c.in-Root.is c.step_back.ensures in
+    goes_back c.args.drafts.now c.loop-line.at (Some c.in_ok-root-in-Root.root) (back.0 ∙ ap (λ (t : Tree). folded (ops_at c.args.drafts.now c.loop-line.at) (Some t)) (sym c.in_ok-root-in-Root.ensures)) back.1
+    c.args.commit c.loop-line.line c.push.new.self c.loop-line.invariant c.in_ok-push-in-Root.ensures.ok
 
-pub loop-known-preserved : goal.loop-known-preserved
-loop-known-preserved c =
-    goes_back c.args.drafts.now c.args.commit c.loop-known.at c.loop-known.line c.push-in-To.new.self (tree c.args.drafts.now c.in-To.parent) c.loop-known.invariant c.in_ok-push-in-To.ensures.ok
-    (subst (LeadsBack c.args.drafts.now c.loop-known.at) c.in-To.is c.step_back.ensures).0
+pub loop-line-preserved : goal.loop-line-preserved
+loop-line-preserved c =
+    let back = subst (LeadsBack c.args.drafts.now c.loop-line.at) c.in-To.is c.step_back.ensures in
+    goes_back c.args.drafts.now c.loop-line.at (tree c.args.drafts.now c.in-To.parent) back.0 back.1 c.args.commit c.loop-line.line c.push-in-To.new.self c.loop-line.invariant c.in_ok-push-in-To.ensures.ok

@@ -18,11 +18,9 @@ returns-then-number c =
     (subst (λ (l : List ℕ). c.first-item.result ≡ get_or l 0 c.first-item.result) c.as_slice.ensures c.first-item.is) in
     let left = c.number.ensures in
     let right = c.number-in-len1-up.ensures in
-    let less : c.first-item.result < c.args.commit = omega (arith, left, right, c.if-number.true) in (
-      hangs_on c.args.drafts.now c.commit.ensures.placed c.args.commit c.first-item.result (drop 1 c.in-Some.fields.now.parents) c.in-Some.fields.now.ops
-          (ap (λ (l : List ℕ). Some (l, c.in-Some.fields.now.ops)) parents ∙ c.in-Some.ensures.found) less,
-      less,
-    )
+    let less : c.first-item.result < c.args.commit = omega (arith, left, right, c.if-number.true) in
+    hangs_on c.args.drafts.now c.commit.ensures.placed c.args.commit c.first-item.result (drop 1 c.in-Some.fields.now.parents) c.in-Some.fields.now.ops
+    (ap (λ (l : List ℕ). Some (l, c.in-Some.fields.now.ops)) parents ∙ c.in-Some.ensures.found) less
 
 pub returns-else-number : goal.returns-else-number
 returns-else-number c =
