@@ -1,1 +1,3 @@
-pub mod TableLaws
+pub mod Examples
+pub mod MarkLemmas
+pub mod SendingLemmas
