@@ -54,13 +54,12 @@ module _ (text gathered next coming : Bytes) where
       → gathered ++ next ≡ sent ++ left → IfSome now (λ w. new ≡ Some (w ++ sent)) → Way old text new left coming
   further None now new left sent way is put = tt
   further (Some before) now new left sent way is put =
-      let more : new ≡ Some ((before ++ way.0) ++ sent) = subst (λ (o : Option Bytes). IfSome o (λ w. new ≡ Some (w ++ sent))) way.1 put in
-      (
+      let more : new ≡ Some ((before ++ way.0) ++ sent) = subst (λ (o : Option Bytes). IfSome o (λ w. new ≡ Some (w ++ sent))) way.1 put in (
         way.0 ++ sent,
         more ∙ ap (λ (l : Bytes). Some l) (append_assoc before way.0 sent),
         way.2
-        ∙ ap (λ (l : Bytes). way.0 ++ l) (sym (append_assoc gathered next coming) ∙ ap (λ (l : Bytes). l ++ coming) is ∙ append_assoc sent left coming)
-        ∙ sym (append_assoc way.0 sent (left ++ coming)),
+            ∙ ap (λ (l : Bytes). way.0 ++ l) (sym (append_assoc gathered next coming) ∙ ap (λ (l : Bytes). l ++ coming) is ∙ append_assoc sent left coming)
+            ∙ sym (append_assoc way.0 sent (left ++ coming)),
       )
 
   broken : (old now new : Option Bytes) → Way old text now gathered (next ++ coming)
@@ -69,12 +68,11 @@ module _ (text gathered next coming : Bytes) where
   broken (Some before) now new way put =
       let part : (k : ℕ) × (new ≡ Some ((before ++ way.0) ++ take k (gathered ++ next))) = subst (λ (o : Option Bytes). IfSome o (λ w. (k : ℕ) × (new ≡ Some (w ++ take k (gathered ++ next))))) way.1 put in
       let first = first_of way.0 (gathered ++ next) coming part.0 in
-      let whole : text ≡ way.0 ++ ((gathered ++ next) ++ coming) = way.2 ∙ ap (λ (l : Bytes). way.0 ++ l) (sym (append_assoc gathered next coming)) in
-      (
+      let whole : text ≡ way.0 ++ ((gathered ++ next) ++ coming) = way.2 ∙ ap (λ (l : Bytes). way.0 ++ l) (sym (append_assoc gathered next coming)) in (
         first.0,
         part.1
-        ∙ ap (λ (l : Bytes). Some l) (append_assoc before way.0 (take part.0 (gathered ++ next))
-        ∙ ap (λ (l : Bytes). before ++ l) (first.1 ∙ ap (λ (l : Bytes). take first.0 l) (sym whole))),
+            ∙ ap (λ (l : Bytes). Some l) (append_assoc before way.0 (take part.0 (gathered ++ next))
+            ∙ ap (λ (l : Bytes). before ++ l) (first.1 ∙ ap (λ (l : Bytes). take first.0 l) (sym whole))),
       )
 
 module _ (old now new : SinkState) (text gathered next coming : Bytes) (way : IsOnItsWay old text now gathered (next ++ coming)) where

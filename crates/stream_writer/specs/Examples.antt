@@ -50,23 +50,24 @@ side = Commit 70 2 (codes "side") nobody (signed 0) (Some (codes "latin1")) (233
 abbrev pub merge : PlainEvent
 merge = Commit 3 3 (codes "main") (signed 300) (signed 300) None (codes "c\n") (1 ∷ 70 ∷ []) (DeleteAll ∷ []) []
 
--- a promise, blobs, commits up to their merge, and roots on a branch with a tip and without one, tags and resets
-unfoldable pub each_kind : List PlainEvent
-each_kind =
-    Pass 1 (codes "feature done")
-    ∷ Blob 3 4294967295 []
-    ∷ Blob 4 90 (codes "two\n\n")
-    ∷ root 1 [] puts
-    ∷ side
-    ∷ merge
-    ∷ root 4 (codes "d") []
-    ∷ Reset 1 (codes "main") None
-    ∷ root 5 (codes "e") []
-    ∷ Reset 2 (codes "side") (Some 3)
+-- a promise, two blobs, and a commit that puts them
+abbrev pub front : List PlainEvent
+front = Pass 1 (codes "feature done") ∷ Blob 3 4294967295 [] ∷ Blob 4 90 (codes "two\n\n") ∷ root 1 [] puts ∷ []
+
+-- its child and their merge; roots on a branch that has a tip, and on one that has none any more
+abbrev pub commits : List PlainEvent
+commits = side ∷ merge ∷ root 4 (codes "d") [] ∷ Reset 1 (codes "main") None ∷ root 5 (codes "e") [] ∷ []
+
+abbrev pub names : List PlainEvent
+names =
+    Reset 2 (codes "side") (Some 3)
     ∷ Tag 1 (codes "v1") 4 (Some (signed 8)) (codes "t\n") (Some 80)
     ∷ Tag 2 (codes "v2") 70 None (codes "u") None
     ∷ Pass 2 (codes "progress half  way ")
     ∷ []
+
+unfoldable pub each_kind : List PlainEvent
+each_kind = front ++ commits ++ names
 
 -- ---- blobs
 

@@ -20,11 +20,7 @@ use event_arena::Events;
 use plain_model::{CommitId, FileOp, Mark, NoMemory, PlainEvent, Signed, Text};
 use stream_fields::write_data;
 
-fn push_encoding(
-    out: &mut Text,
-    history: &Events,
-    encoding: &Option<Text>,
-) -> Result<(), NoMemory>
+fn push_encoding(out: &mut Text, history: &Events, encoding: &Option<Text>) -> Result<(), NoMemory>
     ensures { OnOk result (out.new ≡ out.old ++ encoding_text history.now.list encoding.now) }
 {
     match encoding {
@@ -33,11 +29,7 @@ fn push_encoding(
     }
 }
 
-fn push_tagger(
-    out: &mut Text,
-    history: &Events,
-    tagger: &Option<Signed>,
-) -> Result<(), NoMemory>
+fn push_tagger(out: &mut Text, history: &Events, tagger: &Option<Signed>) -> Result<(), NoMemory>
     ensures { OnOk result (out.new ≡ out.old ++ tagger_text history.now.list tagger.now) }
 {
     match tagger {
@@ -74,11 +66,7 @@ fn push_aliases(out: &mut Text, mark: Mark, aliases: &[Mark]) -> Result<(), NoMe
     Ok(())
 }
 
-fn push_target(
-    out: &mut Text,
-    history: &Events,
-    target: Option<CommitId>,
-) -> Result<(), NoMemory>
+fn push_target(out: &mut Text, history: &Events, target: Option<CommitId>) -> Result<(), NoMemory>
     ensures { OnOk result (out.new ≡ out.old ++ target_text history.now.list target) }
 {
     match target {

@@ -11,6 +11,5 @@ mod writer;
 pub use stream::Stream;
 pub use writer::write_stream;
 
-
 #[cfg(test)]
 mod tests;

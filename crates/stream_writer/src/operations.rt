@@ -106,11 +106,7 @@ fn push_merges(out: &mut Text, history: &Events, merges: &[CommitId]) -> Result<
 }
 
 /// Puts the line of the first parent and those of the further ones.
-pub fn push_parents(
-    out: &mut Text,
-    history: &Events,
-    parents: &[CommitId],
-) -> Result<(), NoMemory>
+pub fn push_parents(out: &mut Text, history: &Events, parents: &[CommitId]) -> Result<(), NoMemory>
     ensures { OnOk result (out.new ≡ out.old ++ parents_text history.now.list parents.now) }
 {
     match parents {

@@ -1,7 +1,9 @@
 ghost use Rattle.std.specs.Prelude.{◌≡◌, ◌∷◌, ◌++◌, [], IfOk, OnOk};
 ghost use Rattle.plain_model.specs.declared.event.PlainEvent.TheVariants as a;
 ghost use Rattle.stream_writer.specs.Examples.{
+  commits,
   each_kind,
+  front,
   merge,
   moves,
   nobody,
@@ -76,13 +78,13 @@ fn nobody(alloc: Global) -> Result<Signed, Fail>
     })
 }
 
-fn blob(alloc: Global, id: u64, number: u64, bytes: &[u8]) -> Result<PlainEvent, Fail>
-    ensures { IfOk result (λ event. event ≡ a.Blob id number bytes.now) }
+fn blob(id: u64, number: u64, bytes: Text) -> Result<PlainEvent, Fail>
+    ensures { IfOk result (λ event. event ≡ a.Blob id number bytes) }
 {
     Ok(PlainEvent::Blob {
         id: BlobId::new(id),
         mark: mark(number)?,
-        bytes: text(alloc, bytes)?,
+        bytes,
     })
 }
 
@@ -246,22 +248,36 @@ fn merge(alloc: Global) -> Result<PlainEvent, Fail>
     })
 }
 
-#[tactic(auto, unfolding(crate::specs::Examples::each_kind))]
-fn put_each_kind(alloc: Global, list: &mut EventList) -> Result<(), Fail>
+fn put_front(alloc: Global, list: &mut EventList) -> Result<(), Fail>
     requires { list.old ≡ [] }
-    ensures { OnOk result (list.new ≡ each_kind) }
+    ensures { OnOk result (list.new ≡ front) }
 {
-    let tagger = signed(alloc, 8)?;
-    let number = mark(80)?;
     list.push(pass(alloc, 1, b"feature done")?)?;
-    list.push(blob(alloc, 3, 4294967295, b"")?)?;
-    list.push(blob(alloc, 4, 90, b"two\n\n")?)?;
+    list.push(blob(3, 4294967295, Items::new(alloc)?)?)?;
+    list.push(blob(4, 90, text(alloc, b"two\n\n")?)?)?;
     list.push(root(alloc, 1, b"", puts(alloc)?)?)?;
+    Ok(())
+}
+
+fn put_commits(alloc: Global, list: &mut EventList) -> Result<(), Fail>
+    requires { list.old ≡ front }
+    ensures { OnOk result (list.new ≡ front ++ commits) }
+{
     list.push(side(alloc)?)?;
     list.push(merge(alloc)?)?;
     list.push(root(alloc, 4, b"d", Items::new(alloc)?)?)?;
     list.push(reset(alloc, 1, b"main", None)?)?;
     list.push(root(alloc, 5, b"e", Items::new(alloc)?)?)?;
+    Ok(())
+}
+
+#[tactic(auto, unfolding(crate::specs::Examples::each_kind))]
+fn put_names(alloc: Global, list: &mut EventList) -> Result<(), Fail>
+    requires { list.old ≡ front ++ commits }
+    ensures { OnOk result (list.new ≡ each_kind) }
+{
+    let tagger = signed(alloc, 8)?;
+    let number = mark(80)?;
     list.push(reset(alloc, 2, b"side", Some(CommitId::new(3)))?)?;
     list.push(tag(alloc, 1, b"v1", 4, Some(tagger), b"t\n", Some(number))?)?;
     list.push(tag(alloc, 2, b"v2", 70, None, b"u", None)?)?;
@@ -269,10 +285,18 @@ fn put_each_kind(alloc: Global, list: &mut EventList) -> Result<(), Fail>
     Ok(())
 }
 
-fn each_kind(alloc: Global) -> Result<Events, Fail> {
+fn list(alloc: Global) -> Result<EventList, Fail>
+    ensures { IfOk result (λ list. list ≡ each_kind) }
+{
     let mut list = Items::new(alloc)?;
-    put_each_kind(alloc, &mut list)?;
-    Ok(Events::from_plain(alloc, list)?)
+    put_front(alloc, &mut list)?;
+    put_commits(alloc, &mut list)?;
+    put_names(alloc, &mut list)?;
+    Ok(list)
+}
+
+fn each_kind(alloc: Global) -> Result<Events, Fail> {
+    Ok(Events::from_plain(alloc, list(alloc)?)?)
 }
 
 // What is written to a sink where all goes well.
@@ -282,11 +306,8 @@ fn written(alloc: Global, events: &Events) -> Result<Text, Fail> {
     Ok(sink.written().copy()?)
 }
 
-#[test]
-fn events_and_operations_of_each_kind_are_written(rt: HostRuntime) -> Result<(), Fail> {
-    let alloc = rt.alloc();
-    let written = written(alloc, &each_kind(alloc)?)?;
-    let want: &[u8] = b"feature done
+fn each_kind_written() -> &'static [u8] {
+    b"feature done
 blob
 mark :4294967295
 data 0
@@ -371,41 +392,75 @@ data 1
 u
 progress half  way\x20
 done
-";
-    assert!(rt; written.as_slice() == want);
+"
+}
+
+#[test]
+fn events_and_operations_of_each_kind_are_written(rt: HostRuntime) -> Result<(), Fail> {
+    let alloc = rt.alloc();
+    let written = written(alloc, &each_kind(alloc)?)?;
+    assert!(rt; written.as_slice() == each_kind_written());
     Ok(())
 }
 
 // ---- a text of more than a piece
 
-fn three_blobs(alloc: Global) -> Result<Events, Fail> {
+// So many times the byte.
+fn repeated(alloc: Global, byte: u8, count: u64) -> Result<Text, Fail> {
+    let mut out = Items::new(alloc)?;
+    for _ in 0..count {
+        out.push(byte)?;
+    }
+    Ok(out)
+}
+
+fn blob_list(alloc: Global, first: Text, second: Text, third: Text) -> Result<EventList, Fail>
+    ensures { IfOk result (λ list. list ≡ three_blobs first second third) }
+{
     let mut list = Items::new(alloc)?;
-    list.push(blob(alloc, 1, 1, &[b'x'; 40000])?)?;
-    list.push(blob(alloc, 2, 2, &[b'y'; 40000])?)?;
-    list.push(blob(alloc, 3, 3, &[b'z'; 40000])?)?;
+    list.push(blob(1, 1, first)?)?;
+    list.push(blob(2, 2, second)?)?;
+    list.push(blob(3, 3, third)?)?;
+    Ok(list)
+}
+
+fn three_blobs(alloc: Global, first: Text, second: Text, third: Text) -> Result<Events, Fail> {
+    let list = blob_list(alloc, first, second, third)?;
     Ok(Events::from_plain(alloc, list)?)
 }
 
-// The lines of a blob of 40,000 bytes.
-fn put_blob(out: &mut Text, lines: &[u8], byte: u8) -> Result<(), Fail> {
+fn long_blobs(alloc: Global) -> Result<Events, Fail> {
+    let first = repeated(alloc, b'x', 40000)?;
+    let second = repeated(alloc, b'y', 40000)?;
+    let third = repeated(alloc, b'z', 40000)?;
+    three_blobs(alloc, first, second, third)
+}
+
+// The lines of a blob, which has 40,000 times the byte.
+fn put_blob(alloc: Global, out: &mut Text, lines: &[u8], byte: u8) -> Result<(), Fail> {
     out.push_all(lines)?;
-    out.push_all(&[byte; 40000])?;
+    out.push_all(repeated(alloc, byte, 40000)?.as_slice())?;
     out.push(b'\n')?;
     Ok(())
+}
+
+// Whether these bytes are written, and then a second call of the sink fails.
+fn is_broken_off(alloc: Global, events: &Events, bytes: &[u8]) -> Result<bool, Fail> {
+    let failing: NumberList = Items::of(alloc, &[2])?;
+    let mut sink = MemorySink::new(alloc, failing)?;
+    let end = write_stream(alloc, events, &mut sink);
+    Ok(end == Err(WriteEnd::SinkFault) && sink.written().as_slice() == bytes)
 }
 
 #[test]
 fn a_text_of_two_pieces_is_written_up_to_a_fault(rt: HostRuntime) -> Result<(), Fail> {
     let alloc = rt.alloc();
-    let events = three_blobs(alloc)?;
+    let events = long_blobs(alloc)?;
     let mut want = Items::new(alloc)?;
-    put_blob(&mut want, b"blob\nmark :1\ndata 40000\n", b'x')?;
-    put_blob(&mut want, b"blob\nmark :2\ndata 40000\n", b'y')?;
-    let failing: NumberList = Items::of(alloc, &[2])?;
-    let mut sink = MemorySink::new(alloc, failing)?;
-    assert!(rt; write_stream(alloc, &events, &mut sink) == Err(WriteEnd::SinkFault));
-    assert!(rt; sink.written().as_slice() == want.as_slice());
-    put_blob(&mut want, b"blob\nmark :3\ndata 40000\n", b'z')?;
+    put_blob(alloc, &mut want, b"blob\nmark :1\ndata 40000\n", b'x')?;
+    put_blob(alloc, &mut want, b"blob\nmark :2\ndata 40000\n", b'y')?;
+    assert!(rt; is_broken_off(alloc, &events, want.as_slice())?);
+    put_blob(alloc, &mut want, b"blob\nmark :3\ndata 40000\n", b'z')?;
     assert!(rt; written(alloc, &events)?.as_slice() == want.as_slice());
     Ok(())
 }

@@ -82,11 +82,7 @@ fn push_closing(out: &mut Text, promised: bool) -> Result<(), NoMemory>
 }
 
 // Sends what is gathered and the end of the stream.
-fn write_closing<W: Sink>(
-    promised: bool,
-    gathered: &mut Text,
-    sink: &mut W,
-) -> Result<(), WriteEnd>
+fn write_closing<W: Sink>(promised: bool, gathered: &mut Text, sink: &mut W) -> Result<(), WriteEnd>
     ensures ok { OnOk result
         (Puts (W.state sink.old) (gathered.old ++ closing promised []) (W.state sink.new)) }
     ensures part { PutsSome (W.state sink.old) (gathered.old ++ closing promised [])
@@ -101,11 +97,7 @@ fn write_closing<W: Sink>(
 }
 
 /// Writes the text of a history to the end of a sink, in pieces. After a refusal a first part of it is there.
-pub fn write_stream<W: Sink>(
-    alloc: Global,
-    events: &Events,
-    sink: &mut W,
-) -> Result<(), WriteEnd>
+pub fn write_stream<W: Sink>(alloc: Global, events: &Events, sink: &mut W) -> Result<(), WriteEnd>
     ensures ok { OnOk result (Puts (W.state sink.old) (text events.now.list) (W.state sink.new)) }
     ensures part { PutsSome (W.state sink.old) (text events.now.list) (W.state sink.new) }
     ensures failed { IsErrOf result WriteEnd.SinkFault
