@@ -1,3 +1,4 @@
+pub mod BlobLemmas
 pub mod Examples
 pub mod MarkLemmas
 pub mod SendingLemmas

@@ -1,7 +1,7 @@
 -- A text on its way to a sink: an event further, to its end, or broken off.
 use Rattle.std.proofs.Common.{◌≡◌, ℕ, ◌+◌, ◌≤◌, List, [], ◌∷◌, ◌++◌, suc, length, take, drop, drop-cons, Option, Some, None, Bool, false, min, refl, sym, ap, subst, ◌∙◌, arith, append_assoc, append-nil}
 use Rattle.std.proofs.Math.Bool.{or_assoc}
-use Rattle.std.proofs.Math.Seq.{take-append-add}
+use Rattle.std.proofs.Math.Seq.{take-append-add, take-length}
 use Rattle.std.proofs.lemmas.List.{drop_all, take-append-le, take_min}
 use Rattle.std.proofs.lemmas.Option.{slice_get_within, get_or_from_slice_get}
 use Rattle.std.specs.Prelude.{IfSome, slice_get, ◌||◌, codes, if◌then◌else◌}
@@ -85,3 +85,41 @@ module _ (old now new : SinkState) (text gathered next coming : Bytes) (way : Is
 pub ends_broken : (old now new : SinkState) (text gathered coming : Bytes) → IsOnItsWay old text now gathered coming → PutsSome now (gathered ++ coming) new → PutsSome old text new
 ends_broken old now new text gathered coming way part =
     breaks_off old now new text gathered coming [] (subst (λ (l : Bytes). IsOnItsWay old text now gathered l) (sym (append-nil coming)) way) part
+
+-- ---- bytes that are sent one after another
+
+module _ (old mid new : SinkState) (first second : Bytes) (put : Puts old first mid) where
+  pub puts_both : Puts mid second new → Puts old (first ++ second) new
+  puts_both last = at old.written put
+    where
+      at : (o : Option Bytes) → IfSome o (λ w. mid.written ≡ Some (w ++ first)) → IfSome o (λ w. new.written ≡ Some (w ++ (first ++ second)))
+      at None put = tt
+      at (Some before) put =
+          let more : new.written ≡ Some ((before ++ first) ++ second) = subst (λ (o : Option Bytes). IfSome o (λ w. new.written ≡ Some (w ++ second))) put last in
+          more ∙ ap (λ (l : Bytes). Some l) (append_assoc before first second)
+
+  pub puts_one_and_part : (more : Bytes) → PutsSome mid second new → PutsSome old ((first ++ second) ++ more) new
+  puts_one_and_part more last = at old.written put
+    where
+      at : (o : Option Bytes) → IfSome o (λ w. mid.written ≡ Some (w ++ first)) → IfSome o (λ w. (n : ℕ) × (new.written ≡ Some (w ++ take n ((first ++ second) ++ more))))
+      at None put = tt
+      at (Some before) put =
+          let part : (n : ℕ) × (new.written ≡ Some ((before ++ first) ++ take n second)) = subst (λ (o : Option Bytes). IfSome o (λ w. (n : ℕ) × (new.written ≡ Some (w ++ take n second)))) put last in
+          let all = first_of first second more part.0 in
+          (all.0, part.1 ∙ ap (λ (l : Bytes). Some l) (append_assoc before first (take part.0 second) ∙ ap (λ (l : Bytes). before ++ l) (all.1 ∙ ap (λ (l : Bytes). take all.0 l) (sym (append_assoc first second more)))))
+
+pub puts_front : (old new : SinkState) (first more : Bytes) → PutsSome old first new → PutsSome old (first ++ more) new
+puts_front old new first more part = at old.written part
+  where
+    at : (o : Option Bytes) → IfSome o (λ w. (n : ℕ) × (new.written ≡ Some (w ++ take n first))) → IfSome o (λ w. (n : ℕ) × (new.written ≡ Some (w ++ take n (first ++ more))))
+    at None part = tt
+    at (Some before) part =
+        let all = first_of [] first more part.0 in
+        (all.0, part.1 ∙ ap (λ (l : Bytes). Some (before ++ l)) all.1)
+
+pub puts_whole : (old new : SinkState) (bytes : Bytes) → Puts old bytes new → PutsSome old bytes new
+puts_whole old new bytes put = at old.written put
+  where
+    at : (o : Option Bytes) → IfSome o (λ w. new.written ≡ Some (w ++ bytes)) → IfSome o (λ w. (n : ℕ) × (new.written ≡ Some (w ++ take n bytes)))
+    at None put = tt
+    at (Some before) put = (length bytes, put ∙ ap (λ (l : Bytes). Some (before ++ l)) (sym (take-length bytes)))

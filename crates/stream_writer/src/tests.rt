@@ -429,17 +429,18 @@ fn three_blobs(alloc: Global, first: Text, second: Text, third: Text) -> Result<
     Ok(Events::from_plain(alloc, list)?)
 }
 
+// Two blobs that are a piece together, and one that is larger than a piece.
 fn long_blobs(alloc: Global) -> Result<Events, Fail> {
     let first = repeated(alloc, b'x', 40000)?;
     let second = repeated(alloc, b'y', 40000)?;
-    let third = repeated(alloc, b'z', 40000)?;
+    let third = repeated(alloc, b'z', 70000)?;
     three_blobs(alloc, first, second, third)
 }
 
-// The lines of a blob, which has 40,000 times the byte.
-fn put_blob(alloc: Global, out: &mut Text, lines: &[u8], byte: u8) -> Result<(), Fail> {
+// The lines of a blob, which has so many times the byte.
+fn put_blob(alloc: Global, out: &mut Text, lines: &[u8], byte: u8, count: u64) -> Result<(), Fail> {
     out.push_all(lines)?;
-    out.push_all(repeated(alloc, byte, 40000)?.as_slice())?;
+    out.push_all(repeated(alloc, byte, count)?.as_slice())?;
     out.push(b'\n')?;
     Ok(())
 }
@@ -453,14 +454,32 @@ fn is_broken_off(alloc: Global, events: &Events, bytes: &[u8]) -> Result<bool, F
 }
 
 #[test]
-fn a_text_of_two_pieces_is_written_up_to_a_fault(rt: HostRuntime) -> Result<(), Fail> {
+fn a_text_of_several_pieces_is_written_up_to_a_fault(rt: HostRuntime) -> Result<(), Fail> {
     let alloc = rt.alloc();
     let events = long_blobs(alloc)?;
     let mut want = Items::new(alloc)?;
-    put_blob(alloc, &mut want, b"blob\nmark :1\ndata 40000\n", b'x')?;
-    put_blob(alloc, &mut want, b"blob\nmark :2\ndata 40000\n", b'y')?;
+    put_blob(
+        alloc,
+        &mut want,
+        b"blob\nmark :1\ndata 40000\n",
+        b'x',
+        40000,
+    )?;
+    put_blob(
+        alloc,
+        &mut want,
+        b"blob\nmark :2\ndata 40000\n",
+        b'y',
+        40000,
+    )?;
     assert!(rt; is_broken_off(alloc, &events, want.as_slice())?);
-    put_blob(alloc, &mut want, b"blob\nmark :3\ndata 40000\n", b'z')?;
+    put_blob(
+        alloc,
+        &mut want,
+        b"blob\nmark :3\ndata 70000\n",
+        b'z',
+        70000,
+    )?;
     assert!(rt; written(alloc, &events)?.as_slice() == want.as_slice());
     Ok(())
 }

@@ -4,13 +4,15 @@ ghost use Rattle.plain_model.specs.Text.{text, event_text, is_feature_done};
 ghost use Rattle.plain_model.specs.Counts.{Rose};
 ghost use Rattle.plain_model.specs.Snapshots.{refs_after};
 ghost use Rattle.shown_laws.specs.Showing.{IsShownBy};
+ghost use Rattle.stream_writer.specs.Parts.{blob_head, blob_text};
 ghost use Rattle.stream_writer.specs.Sending.{SendsFirst, closing};
 ghost use Rattle.surgeon_store.specs.Outside.{Puts, PutsSome};
 
 use crate::events::push_event;
+use crate::fields::push_mark_line;
 use branch_tips::Tips;
 use event_arena::Events;
-use plain_model::{Items, NoMemory, PlainEvent, Text};
+use plain_model::{Items, Mark, NoMemory, PlainEvent, Text};
 use shown_laws::what_is_written_shows_the_history;
 use std::alloc::Global;
 use surgeon_store::{Sink, WriteEnd, write_all};
@@ -46,8 +48,44 @@ fn send_piece<W: Sink>(gathered: &mut Text, sink: &mut W) -> Result<(), WriteEnd
     Ok(())
 }
 
+// The lines of a blob before its bytes.
+fn push_blob_head(out: &mut Text, mark: Mark, size: usize) -> Result<(), NoMemory>
+    ensures { OnOk result (out.new ≡ out.old ++ blob_head mark size) }
+{
+    out.push_all(b"blob\n")?;
+    push_mark_line(out, b"mark ", mark.number())?;
+    out.push_all(b"data ")?;
+    out.push_number(size as u64)?;
+    out.push(b'\n')
+}
+
+// Sends what is gathered, the lines of a blob, and its bytes from where they are: so many would cost memory and time to
+// be gathered.
+fn send_blob<W: Sink>(
+    mark: Mark,
+    bytes: &[u8],
+    gathered: &mut Text,
+    sink: &mut W,
+) -> Result<(), WriteEnd>
+    ensures ok { OnOk result (SendsFirst (W.state sink.old)
+        (gathered.old ++ blob_text mark bytes.now) (W.state sink.new) gathered.new) }
+    ensures part { PutsSome (W.state sink.old) (gathered.old ++ blob_text mark bytes.now)
+        (W.state sink.new) }
+    ensures failed { IsErrOf result WriteEnd.SinkFault
+        → Rose (W.state sink.old).faults (W.state sink.new).faults }
+    ensures later { (W.state sink.old).faults ≤ (W.state sink.new).faults }
+    ensures around { (W.state sink.new).around ≡ (W.state sink.old).around }
+{
+    push_blob_head(gathered, mark, bytes.len())?;
+    write_all(sink, gathered.as_slice())?;
+    gathered.truncate(0);
+    write_all(sink, bytes)?;
+    gathered.push(b'\n')?;
+    Ok(())
+}
+
 // Puts an event after what is gathered, and sends that where it is a piece.
-fn write_event<W: Sink>(
+fn gather_event<W: Sink>(
     history: &Events,
     event: &PlainEvent,
     tips: &mut Tips,
@@ -68,6 +106,33 @@ fn write_event<W: Sink>(
     push_event(gathered, history, tips, event)?;
     tips.note(event)?;
     send_piece(gathered, sink)
+}
+
+// Writes an event: a large blob past what is gathered, and any other after it.
+fn write_event<W: Sink>(
+    history: &Events,
+    event: &PlainEvent,
+    tips: &mut Tips,
+    gathered: &mut Text,
+    sink: &mut W,
+) -> Result<(), WriteEnd>
+    ensures ok { OnOk result (SendsFirst (W.state sink.old)
+        (gathered.old ++ event_text history.now.list tips.old event.now) (W.state sink.new)
+        gathered.new) }
+    ensures tips { OnOk result (tips.new ≡ refs_after tips.old (event.now ∷ [])) }
+    ensures part { PutsSome (W.state sink.old)
+        (gathered.old ++ event_text history.now.list tips.old event.now) (W.state sink.new) }
+    ensures failed { IsErrOf result WriteEnd.SinkFault
+        → Rose (W.state sink.old).faults (W.state sink.new).faults }
+    ensures later { (W.state sink.old).faults ≤ (W.state sink.new).faults }
+    ensures around { (W.state sink.new).around ≡ (W.state sink.old).around }
+{
+    match event {
+        PlainEvent::Blob { mark, bytes, .. } if bytes.as_slice().len() >= PIECE => {
+            send_blob(*mark, bytes.as_slice(), gathered, sink)
+        }
+        _ => gather_event(history, event, tips, gathered, sink),
+    }
 }
 
 // The line that ends a stream which promised one.

@@ -32,8 +32,8 @@ ghost use Rattle.surgeon_store.specs.WholeFiles.{
 };
 ghost use Rattle.surgeon_store.specs.declared.whole_files.ReadEnd.TheVariants as ended;
 
-use crate::outside::{CreateFault, Failed, OpenFault, Store};
 use crate::output::Output;
+use crate::outside::{CreateFault, Failed, OpenFault, Store};
 use crate::store_sink::StoreSink;
 use crate::writing::WriteEnd;
 use plain_model::{Fault, Halt, Items, NoMemory, Text};
