@@ -1,5 +1,5 @@
 -- Parts of the written text, cut as the code puts them one after another.
-use Rattle.std.specs.Prelude.{ℕ, List, [], ◌++◌, length, codes, decimal, flat_map, Option}
+use Rattle.std.specs.Prelude.{ℕ, List, [], ◌++◌, codes, decimal, flat_map, Option}
 use Rattle.plain_model.specs.declared.event.PlainEvent.{PlainEvent}
 use Rattle.plain_model.specs.declared.operation.Mode.{Mode}
 use Rattle.plain_model.specs.declared.operation.Content.{Content}
