@@ -1,1 +1,4 @@
-pub mod TableLaws
+pub mod BlobLemmas
+pub mod Examples
+pub mod MarkLemmas
+pub mod SendingLemmas

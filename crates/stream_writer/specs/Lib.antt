@@ -1,2 +1,4 @@
+pub mod Examples
+pub mod Marks
 pub mod Parts
-pub mod Tables
+pub mod Sending

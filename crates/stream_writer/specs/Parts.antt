@@ -1,5 +1,5 @@
 -- Parts of the written text, cut as the code puts them one after another.
-use Rattle.std.specs.Prelude.{ℕ, List, [], ◌++◌, codes, flat_map, Option}
+use Rattle.std.specs.Prelude.{ℕ, List, [], ◌++◌, codes, decimal, flat_map, Option}
 use Rattle.plain_model.specs.declared.event.PlainEvent.{PlainEvent}
 use Rattle.plain_model.specs.declared.operation.Mode.{Mode}
 use Rattle.plain_model.specs.declared.operation.Content.{Content}
@@ -28,3 +28,10 @@ head_text branch mark author committer =
 abbrev pub body_text : List PlainEvent → Option Bytes → Bytes → List ℕ → List FileOp → Bytes
 body_text whole encoding comment parents ops =
     encoding_text whole encoding ++ data_block comment ++ parents_text whole parents ++ flat_map (op_text whole) ops ++ line []
+
+-- the lines of a blob before its bytes, of which there are so many
+abbrev pub blob_head : ℕ → ℕ → Bytes
+blob_head mark size = line (codes "blob") ++ line (codes "mark " ++ marked mark) ++ line (codes "data " ++ decimal size)
+
+abbrev pub blob_text : ℕ → Bytes → Bytes
+blob_text mark bytes = line (codes "blob") ++ line (codes "mark " ++ marked mark) ++ data_block bytes

@@ -13,18 +13,15 @@ ghost use Rattle.plain_model.specs.Text.{
 ghost use Rattle.stream_writer.specs.Parts.{head_text, body_text};
 
 use crate::fields::{push_line, push_mark_line, push_signed_line};
-use crate::marks::MarkedHistory;
+use crate::marks::commit_mark;
 use crate::operations::{push_ops, push_parents};
 use branch_tips::Tips;
+use event_arena::Events;
 use plain_model::{CommitId, FileOp, Mark, NoMemory, PlainEvent, Signed, Text};
 use stream_fields::write_data;
 
-fn push_encoding(
-    out: &mut Text,
-    history: &MarkedHistory,
-    encoding: &Option<Text>,
-) -> Result<(), NoMemory>
-    ensures { OnOk result (out.new ≡ out.old ++ encoding_text history.now encoding.now) }
+fn push_encoding(out: &mut Text, history: &Events, encoding: &Option<Text>) -> Result<(), NoMemory>
+    ensures { OnOk result (out.new ≡ out.old ++ encoding_text history.now.list encoding.now) }
 {
     match encoding {
         Some(encoding) => push_line(out, b"encoding ", encoding.as_slice()),
@@ -32,12 +29,8 @@ fn push_encoding(
     }
 }
 
-fn push_tagger(
-    out: &mut Text,
-    history: &MarkedHistory,
-    tagger: &Option<Signed>,
-) -> Result<(), NoMemory>
-    ensures { OnOk result (out.new ≡ out.old ++ tagger_text history.now tagger.now) }
+fn push_tagger(out: &mut Text, history: &Events, tagger: &Option<Signed>) -> Result<(), NoMemory>
+    ensures { OnOk result (out.new ≡ out.old ++ tagger_text history.now.list tagger.now) }
 {
     match tagger {
         Some(tagger) => push_signed_line(out, b"tagger ", tagger),
@@ -73,15 +66,11 @@ fn push_aliases(out: &mut Text, mark: Mark, aliases: &[Mark]) -> Result<(), NoMe
     Ok(())
 }
 
-fn push_target(
-    out: &mut Text,
-    history: &MarkedHistory,
-    target: Option<CommitId>,
-) -> Result<(), NoMemory>
-    ensures { OnOk result (out.new ≡ out.old ++ target_text history.now target) }
+fn push_target(out: &mut Text, history: &Events, target: Option<CommitId>) -> Result<(), NoMemory>
+    ensures { OnOk result (out.new ≡ out.old ++ target_text history.now.list target) }
 {
     match target {
-        Some(commit) => push_mark_line(out, b"from ", history.commit_mark(commit)),
+        Some(commit) => push_mark_line(out, b"from ", commit_mark(history, commit)),
         None => Ok(()),
     }
 }
@@ -89,13 +78,13 @@ fn push_target(
 // A root on a branch that has a tip needs the branch reset before it.
 fn push_reset(
     out: &mut Text,
-    history: &MarkedHistory,
+    history: &Events,
     tips: &Tips,
     branch: &[u8],
     parents: &[CommitId],
 ) -> Result<(), NoMemory>
     ensures { OnOk result
-        (out.new ≡ out.old ++ reset_text history.now tips.now branch.now parents.now) }
+        (out.new ≡ out.old ++ reset_text history.now.list tips.now branch.now parents.now) }
 {
     if parents.is_empty() && tips.has(branch) {
         push_line(out, b"reset ", branch)
@@ -124,14 +113,14 @@ fn push_head(
 // The lines of a commit after its people, and the empty one.
 fn push_body(
     out: &mut Text,
-    history: &MarkedHistory,
+    history: &Events,
     encoding: &Option<Text>,
     comment: &[u8],
     parents: &[CommitId],
     ops: &[FileOp],
 ) -> Result<(), NoMemory>
     ensures { OnOk result
-        (out.new ≡ out.old ++ body_text history.now encoding.now comment.now parents.now ops.now) }
+        (out.new ≡ out.old ++ body_text history.now.list encoding.now comment.now parents.now ops.now) }
 {
     push_encoding(out, history, encoding)?;
     write_data(comment, out)?;
@@ -143,11 +132,11 @@ fn push_body(
 /// Puts an event, where the branches are so before it.
 pub fn push_event(
     out: &mut Text,
-    history: &MarkedHistory,
+    history: &Events,
     tips: &Tips,
     event: &PlainEvent,
 ) -> Result<(), NoMemory>
-    ensures { OnOk result (out.new ≡ out.old ++ event_text history.now tips.now event.now) }
+    ensures { OnOk result (out.new ≡ out.old ++ event_text history.now.list tips.now event.now) }
 {
     match event {
         PlainEvent::Blob { mark, bytes, .. } => {

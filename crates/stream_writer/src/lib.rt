@@ -5,9 +5,11 @@ mod events;
 mod fields;
 mod marks;
 mod operations;
+mod stream;
 mod writer;
 
-pub use writer::{text_of, write_stream};
+pub use stream::Stream;
+pub use writer::write_stream;
 
 #[cfg(test)]
 mod tests;

@@ -14,27 +14,28 @@ ghost use Rattle.plain_model.specs.Text.{
 ghost use Rattle.stream_writer.specs.Parts.{modify_text, move_text, merges_text};
 
 use crate::fields::{push_mark_line, push_marked};
-use crate::marks::MarkedHistory;
+use crate::marks::{blob_mark, commit_mark};
+use event_arena::Events;
 use plain_model::{CommitId, Content, FileOp, Mode, NoMemory, Path, Place, Text};
 use stream_fields::{mode_digits, write_path};
 
-fn push_content(out: &mut Text, history: &MarkedHistory, content: Content) -> Result<(), NoMemory>
-    ensures { OnOk result (out.new ≡ out.old ++ raw_content_text (raw_content history.now content)) }
+fn push_content(out: &mut Text, history: &Events, content: Content) -> Result<(), NoMemory>
+    ensures { OnOk result (out.new ≡ out.old ++ raw_content_text (raw_content history.now.list content)) }
 {
     match content {
-        Content::Blob(id) => push_marked(out, history.blob_mark(id)),
+        Content::Blob(id) => push_marked(out, blob_mark(history, id)),
         Content::Object(id) => out.push_all(id.digits()),
     }
 }
 
 fn push_modify(
     out: &mut Text,
-    history: &MarkedHistory,
+    history: &Events,
     mode: Mode,
     content: Content,
     path: &Path,
 ) -> Result<(), NoMemory>
-    ensures { OnOk result (out.new ≡ out.old ++ modify_text history.now mode content path.now) }
+    ensures { OnOk result (out.new ≡ out.old ++ modify_text history.now.list mode content path.now) }
 {
     out.push_all(b"M ")?;
     out.push_all(mode_digits(mode))?;
@@ -61,8 +62,8 @@ fn push_delete(out: &mut Text, path: &Path) -> Result<(), NoMemory>
     write_path(path, Place::Last, out)
 }
 
-fn push_op_text(out: &mut Text, history: &MarkedHistory, op: &FileOp) -> Result<(), NoMemory>
-    ensures { OnOk result (out.new ++ codes "\n" ≡ out.old ++ op_text history.now op.now) }
+fn push_op_text(out: &mut Text, history: &Events, op: &FileOp) -> Result<(), NoMemory>
+    ensures { OnOk result (out.new ++ codes "\n" ≡ out.old ++ op_text history.now.list op.now) }
 {
     match op {
         FileOp::Modify {
@@ -78,16 +79,16 @@ fn push_op_text(out: &mut Text, history: &MarkedHistory, op: &FileOp) -> Result<
 }
 
 /// Puts the line of an operation.
-fn push_op(out: &mut Text, history: &MarkedHistory, op: &FileOp) -> Result<(), NoMemory>
-    ensures { OnOk result (out.new ≡ out.old ++ op_text history.now op.now) }
+fn push_op(out: &mut Text, history: &Events, op: &FileOp) -> Result<(), NoMemory>
+    ensures { OnOk result (out.new ≡ out.old ++ op_text history.now.list op.now) }
 {
     push_op_text(out, history, op)?;
     out.push(b'\n')
 }
 
 /// Puts the operations of a commit, a line each.
-pub fn push_ops(out: &mut Text, history: &MarkedHistory, ops: &[FileOp]) -> Result<(), NoMemory>
-    ensures { OnOk result (out.new ≡ out.old ++ flat_map (op_text history.now) ops.now) }
+pub fn push_ops(out: &mut Text, history: &Events, ops: &[FileOp]) -> Result<(), NoMemory>
+    ensures { OnOk result (out.new ≡ out.old ++ flat_map (op_text history.now.list) ops.now) }
 {
     for op in ops {
         push_op(out, history, op)?;
@@ -95,27 +96,23 @@ pub fn push_ops(out: &mut Text, history: &MarkedHistory, ops: &[FileOp]) -> Resu
     Ok(())
 }
 
-fn push_merges(out: &mut Text, history: &MarkedHistory, merges: &[CommitId]) -> Result<(), NoMemory>
-    ensures { OnOk result (out.new ≡ out.old ++ merges_text history.now merges.now) }
+fn push_merges(out: &mut Text, history: &Events, merges: &[CommitId]) -> Result<(), NoMemory>
+    ensures { OnOk result (out.new ≡ out.old ++ merges_text history.now.list merges.now) }
 {
     for merge in merges {
-        push_mark_line(out, b"merge ", history.commit_mark(*merge))?;
+        push_mark_line(out, b"merge ", commit_mark(history, *merge))?;
     }
     Ok(())
 }
 
 /// Puts the line of the first parent and those of the further ones.
-pub fn push_parents(
-    out: &mut Text,
-    history: &MarkedHistory,
-    parents: &[CommitId],
-) -> Result<(), NoMemory>
-    ensures { OnOk result (out.new ≡ out.old ++ parents_text history.now parents.now) }
+pub fn push_parents(out: &mut Text, history: &Events, parents: &[CommitId]) -> Result<(), NoMemory>
+    ensures { OnOk result (out.new ≡ out.old ++ parents_text history.now.list parents.now) }
 {
     match parents {
         [] => Ok(()),
         [first, further @ ..] => {
-            push_mark_line(out, b"from ", history.commit_mark(*first))?;
+            push_mark_line(out, b"from ", commit_mark(history, *first))?;
             push_merges(out, history, further)
         }
     }

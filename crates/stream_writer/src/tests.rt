@@ -1,122 +1,123 @@
+ghost use Rattle.std.specs.Prelude.{◌≡◌, ◌∷◌, ◌++◌, [], IfOk, OnOk};
+ghost use Rattle.plain_model.specs.declared.event.PlainEvent.TheVariants as a;
+ghost use Rattle.stream_writer.specs.Examples.{
+  commits,
+  each_kind,
+  front,
+  merge,
+  moves,
+  nobody,
+  put,
+  put_link,
+  puts,
+  root,
+  side,
+  signed,
+  three_blobs,
+};
+
 use crate::*;
+use event_arena::Events;
 use plain_model::{
-    BlobId, CommitId, Content, EventList, FileOp, Items, Mark, Mode, ObjectId, OpList, ParentList,
+    BlobId, CommitId, Content, EventList, FileOp, Items, Mark, Mode, NumberList, ObjectId, OpList,
     PassId, Path, Person, PlainEvent, ResetId, Signed, TagId, Text, When,
 };
 use std::alloc::Global;
 use std::test::*;
-use surgeon_store::SureSink;
+use surgeon_store::{MemorySink, WriteEnd};
 
-fn text(alloc: Global, bytes: &[u8]) -> Result<Text, Fail> {
+// ---- values
+
+fn text(alloc: Global, bytes: &[u8]) -> Result<Text, Fail>
+    ensures { IfOk result (λ text. text ≡ bytes.now) }
+{
     Ok(Items::of(alloc, bytes)?)
 }
 
-fn mark(number: u64) -> Result<Mark, Fail> {
+fn mark(number: u64) -> Result<Mark, Fail>
+    ensures { IfOk result (λ mark. mark ≡ number) }
+{
     Ok(Mark::new(number).ok_or("mark")?)
 }
 
-fn path(alloc: Global, bytes: &[u8]) -> Result<Path, Fail> {
-    Ok(Path::new(alloc, bytes)?)
+fn path(alloc: Global, bytes: &[u8]) -> Result<Path, Fail>
+    ensures { IfOk result (λ path. path ≡ bytes.now) }
+{
+    Ok(Path::new(alloc, bytes).ok().ok_or("path")?)
 }
 
-fn signed(alloc: Global, name: &[u8], email: &[u8], when: When) -> Result<Signed, Fail> {
+fn signed(alloc: Global, seconds: u64) -> Result<Signed, Fail>
+    ensures { IfOk result (λ made. made ≡ signed seconds) }
+{
     Ok(Signed {
         person: Person {
-            name: text(alloc, name)?,
-            email: text(alloc, email)?,
+            name: text(alloc, b"A")?,
+            email: text(alloc, b"a@x")?,
         },
-        when,
+        when: When {
+            seconds,
+            minus: false,
+            offset: 0,
+        },
     })
 }
 
-// A <a@x> at so many seconds, in the zone +0000.
-fn plain_signed(alloc: Global, seconds: u64) -> Result<Signed, Fail> {
-    let when = When {
-        seconds,
-        minus: false,
-        offset: 0,
-    };
-    signed(alloc, b"A", b"a@x", when)
+fn nobody(alloc: Global) -> Result<Signed, Fail>
+    ensures { IfOk result (λ made. made ≡ nobody) }
+{
+    Ok(Signed {
+        person: Person {
+            name: Items::new(alloc)?,
+            email: Items::new(alloc)?,
+        },
+        when: When {
+            seconds: 250000000000,
+            minus: true,
+            offset: 330,
+        },
+    })
 }
 
-fn blob(alloc: Global, id: u64, number: u64, bytes: &[u8]) -> Result<PlainEvent, Fail> {
+fn blob(id: u64, number: u64, bytes: Text) -> Result<PlainEvent, Fail>
+    ensures { IfOk result (λ event. event ≡ a.Blob id number bytes) }
+{
     Ok(PlainEvent::Blob {
         id: BlobId::new(id),
         mark: mark(number)?,
-        bytes: text(alloc, bytes)?,
+        bytes,
     })
 }
 
-// A commit by `plain_signed`, with the id as its mark.
-fn commit(
-    alloc: Global,
-    id: u64,
-    seconds: u64,
-    branch: &[u8],
-    comment: &[u8],
-    parents: &[u64],
-    ops: OpList,
-) -> Result<PlainEvent, Fail> {
-    let mut commits: ParentList = Items::new(alloc)?;
-    for parent in parents {
-        commits.push(CommitId::new(*parent))?;
-    }
+// A root on `main`, with its id as its mark.
+fn root(alloc: Global, id: u64, comment: &[u8], ops: OpList) -> Result<PlainEvent, Fail>
+    ensures { IfOk result (λ event. event ≡ root id comment.now ops) }
+{
     Ok(PlainEvent::Commit {
         id: CommitId::new(id),
         mark: mark(id)?,
-        branch: text(alloc, branch)?,
-        author: plain_signed(alloc, seconds)?,
-        committer: plain_signed(alloc, seconds)?,
+        branch: text(alloc, b"main")?,
+        author: signed(alloc, 100)?,
+        committer: signed(alloc, 100)?,
         encoding: None,
         comment: text(alloc, comment)?,
-        parents: commits,
+        parents: Items::new(alloc)?,
         ops,
         aliases: Items::new(alloc)?,
     })
 }
 
-fn put(alloc: Global, mode: Mode, blob: u64, bytes: &[u8]) -> Result<FileOp, Fail> {
-    Ok(FileOp::Modify {
-        mode,
-        content: Content::Blob(BlobId::new(blob)),
-        path: path(alloc, bytes)?,
-    })
-}
-
-fn gitlink(alloc: Global, digits: &[u8], bytes: &[u8]) -> Result<FileOp, Fail> {
-    let object = ObjectId::new(digits).ok_or("object")?;
-    Ok(FileOp::Modify {
-        mode: Mode::Gitlink,
-        content: Content::Object(object),
-        path: path(alloc, bytes)?,
-    })
-}
-
-fn delete(alloc: Global, bytes: &[u8]) -> Result<FileOp, Fail> {
-    Ok(FileOp::Delete {
-        path: path(alloc, bytes)?,
-    })
-}
-
-fn copy(alloc: Global, source: &[u8], target: &[u8]) -> Result<FileOp, Fail> {
-    Ok(FileOp::Copy {
-        source: path(alloc, source)?,
-        target: path(alloc, target)?,
-    })
-}
-
-fn rename(alloc: Global, source: &[u8], target: &[u8]) -> Result<FileOp, Fail> {
-    Ok(FileOp::Rename {
-        source: path(alloc, source)?,
-        target: path(alloc, target)?,
-    })
-}
-
-fn reset(alloc: Global, id: u64, branch: &[u8], target: Option<u64>) -> Result<PlainEvent, Fail> {
+fn reset(
+    alloc: Global,
+    id: u64,
+    branch: &[u8],
+    target: Option<CommitId>,
+) -> Result<PlainEvent, Fail>
+    ensures { IfOk result (λ event. event ≡ a.Reset id branch.now target) }
+{
     Ok(PlainEvent::Reset {
         id: ResetId::new(id),
         branch: text(alloc, branch)?,
-        target: target.map(CommitId::new),
+        target,
     })
 }
 
@@ -126,114 +127,188 @@ fn tag(
     name: &[u8],
     target: u64,
     tagger: Option<Signed>,
-    number: Option<u64>,
-) -> Result<PlainEvent, Fail> {
+    comment: &[u8],
+    mark: Option<Mark>,
+) -> Result<PlainEvent, Fail>
+    ensures { IfOk result (λ event. event ≡ a.Tag id name.now target tagger comment.now mark) }
+{
     Ok(PlainEvent::Tag {
         id: TagId::new(id),
         name: text(alloc, name)?,
         target: CommitId::new(target),
         tagger,
-        comment: text(alloc, b"t\n")?,
-        mark: number.map(mark).transpose()?,
+        comment: text(alloc, comment)?,
+        mark,
     })
 }
 
-fn pass(alloc: Global, id: u64, line: &[u8]) -> Result<PlainEvent, Fail> {
+fn pass(alloc: Global, id: u64, line: &[u8]) -> Result<PlainEvent, Fail>
+    ensures { IfOk result (λ event. event ≡ a.Pass id line.now) }
+{
     Ok(PlainEvent::Pass {
         id: PassId::new(id),
         line: text(alloc, line)?,
     })
 }
 
-// What `text_of` gives, and `write_stream` after bytes that are there.
-fn is_written(alloc: Global, events: &EventList, want: &[u8]) -> Result<bool, Fail> {
-    let text = text_of(alloc, events.as_slice())?;
-    let mut sink = SureSink::new(alloc)?;
-    write_stream(alloc, events, &mut sink)?;
-    Ok(text.as_slice() == want && sink.written().as_slice() == want)
+// ---- a history of each kind
+
+fn put(alloc: Global, mode: Mode, blob: u64, bytes: &[u8]) -> Result<FileOp, Fail>
+    ensures { IfOk result (λ op. op ≡ put mode blob bytes.now) }
+{
+    Ok(FileOp::Modify {
+        mode,
+        content: Content::Blob(BlobId::new(blob)),
+        path: path(alloc, bytes)?,
+    })
 }
 
-fn a_blob_and_two_commits(alloc: Global) -> Result<EventList, Fail> {
-    let mut puts = Items::new(alloc)?;
-    puts.push(put(alloc, Mode::Plain, 1, b"f")?)?;
-    let mut deletes = Items::new(alloc)?;
-    deletes.push(delete(alloc, b"f")?)?;
-    let mut events = Items::new(alloc)?;
-    events.push(blob(alloc, 1, 1, b"one")?)?;
-    events.push(commit(alloc, 2, 100, b"refs/heads/master", b"c1", &[], puts)?)?;
-    events.push(commit(alloc, 3, 200, b"refs/heads/master", b"c2", &[2], deletes)?)?;
-    Ok(events)
+fn put_link(alloc: Global) -> Result<FileOp, Fail>
+    ensures { IfOk result (λ op. op ≡ put_link) }
+{
+    let digits = b"0123456789abcdef0123456789abcdef01234567";
+    Ok(FileOp::Modify {
+        mode: Mode::Gitlink,
+        content: Content::Object(ObjectId::new(digits).ok_or("digits")?),
+        path: path(alloc, b"\"g\\h\"")?,
+    })
 }
 
-#[test]
-fn a_blob_and_two_commits_are_written(rt: HostRuntime) -> Result<(), Fail> {
-    let alloc = rt.alloc();
-    let want: &[u8] = b"blob
-mark :1
-data 3
-one
-commit refs/heads/master
-mark :2
-author A <a@x> 100 +0000
-committer A <a@x> 100 +0000
-data 2
-c1
-M 100644 :1 f
-
-commit refs/heads/master
-mark :3
-author A <a@x> 200 +0000
-committer A <a@x> 200 +0000
-data 2
-c2
-from :2
-D f
-
-";
-    assert!(rt; is_written(alloc, &a_blob_and_two_commits(alloc)?, want)?);
-    Ok(())
+fn puts(alloc: Global) -> Result<OpList, Fail>
+    ensures { IfOk result (λ ops. ops ≡ puts) }
+{
+    let mut ops = Items::new(alloc)?;
+    ops.push(put(alloc, Mode::Plain, 3, b"a b")?)?;
+    ops.push(put(alloc, Mode::Executable, 3, b"c\\d")?)?;
+    ops.push(put(alloc, Mode::Link, 4, b"e\nf")?)?;
+    ops.push(put_link(alloc)?)?;
+    Ok(ops)
 }
 
-// Two blobs, a root, a child with an encoding and another author, a merge, and a second root on the branch.
-fn commits_of_all_kinds(alloc: Global) -> Result<EventList, Fail> {
-    let mut events = Items::new(alloc)?;
-    events.push(blob(alloc, 91, 4294967295, b"")?)?;
-    events.push(blob(alloc, 92, 90, b"two\n\n")?)?;
-    events.push(commit(alloc, 1, 100, b"main", b"", &[], Items::new(alloc)?)?)?;
-    let west = When {
-        seconds: 250000000000,
-        minus: true,
-        offset: 330,
-    };
-    let east = When {
-        seconds: 0,
-        minus: false,
-        offset: 9070,
-    };
-    events.push(PlainEvent::Commit {
+fn moves(alloc: Global) -> Result<OpList, Fail>
+    ensures { IfOk result (λ ops. ops ≡ moves) }
+{
+    let mut ops = Items::new(alloc)?;
+    ops.push(FileOp::Copy {
+        source: path(alloc, b"a b")?,
+        target: path(alloc, b"i\"j")?,
+    })?;
+    ops.push(FileOp::Rename {
+        source: path(alloc, b"c\\d")?,
+        target: path(alloc, b"\"")?,
+    })?;
+    ops.push(FileOp::Delete {
+        path: path(alloc, b"\"")?,
+    })?;
+    ops.push(FileOp::Rename {
+        source: path(alloc, b"e\nf")?,
+        target: path(alloc, b"k\\\n")?,
+    })?;
+    ops.push(FileOp::Delete {
+        path: path(alloc, b"i\"j")?,
+    })?;
+    Ok(ops)
+}
+
+fn side(alloc: Global) -> Result<PlainEvent, Fail>
+    ensures { IfOk result (λ event. event ≡ side) }
+{
+    let parents = [CommitId::new(1)];
+    let aliases = [mark(1000)?, mark(6)?];
+    Ok(PlainEvent::Commit {
         id: CommitId::new(70),
         mark: mark(2)?,
         branch: text(alloc, b"side")?,
-        author: signed(alloc, b"", b"", west)?,
-        committer: signed(alloc, b"B C", b"b", east)?,
+        author: nobody(alloc)?,
+        committer: signed(alloc, 0)?,
         encoding: Some(text(alloc, b"latin1")?),
         comment: text(alloc, b"\xe9\n")?,
-        parents: Items::of(alloc, &[CommitId::new(1)])?,
-        ops: Items::new(alloc)?,
-        aliases: Items::of(alloc, &[mark(1000)?, mark(6)?])?,
-    })?;
-    let mut merged = Items::new(alloc)?;
-    merged.push(FileOp::DeleteAll)?;
-    events.push(commit(alloc, 3, 300, b"main", b"c\n", &[1, 70], merged)?)?;
-    events.push(commit(alloc, 4, 400, b"main", b"d", &[], Items::new(alloc)?)?)?;
-    events.push(commit(alloc, 5, 500, b"new", b"e", &[], Items::new(alloc)?)?)?;
-    Ok(events)
+        parents: Items::of(alloc, &parents)?,
+        ops: moves(alloc)?,
+        aliases: Items::of(alloc, &aliases)?,
+    })
 }
 
-#[test]
-fn commits_of_all_kinds_are_written(rt: HostRuntime) -> Result<(), Fail> {
-    let alloc = rt.alloc();
-    let want: &[u8] = b"blob
+fn merge(alloc: Global) -> Result<PlainEvent, Fail>
+    ensures { IfOk result (λ event. event ≡ merge) }
+{
+    let parents = [CommitId::new(1), CommitId::new(70)];
+    let ops = [FileOp::DeleteAll];
+    Ok(PlainEvent::Commit {
+        id: CommitId::new(3),
+        mark: mark(3)?,
+        branch: text(alloc, b"main")?,
+        author: signed(alloc, 300)?,
+        committer: signed(alloc, 300)?,
+        encoding: None,
+        comment: text(alloc, b"c\n")?,
+        parents: Items::of(alloc, &parents)?,
+        ops: Items::of(alloc, &ops)?,
+        aliases: Items::new(alloc)?,
+    })
+}
+
+fn put_front(alloc: Global, list: &mut EventList) -> Result<(), Fail>
+    requires { list.old ≡ [] }
+    ensures { OnOk result (list.new ≡ front) }
+{
+    list.push(pass(alloc, 1, b"feature done")?)?;
+    list.push(blob(3, 4294967295, Items::new(alloc)?)?)?;
+    list.push(blob(4, 90, text(alloc, b"two\n\n")?)?)?;
+    list.push(root(alloc, 1, b"", puts(alloc)?)?)?;
+    Ok(())
+}
+
+fn put_commits(alloc: Global, list: &mut EventList) -> Result<(), Fail>
+    requires { list.old ≡ front }
+    ensures { OnOk result (list.new ≡ front ++ commits) }
+{
+    list.push(side(alloc)?)?;
+    list.push(merge(alloc)?)?;
+    list.push(root(alloc, 4, b"d", Items::new(alloc)?)?)?;
+    list.push(reset(alloc, 1, b"main", None)?)?;
+    list.push(root(alloc, 5, b"e", Items::new(alloc)?)?)?;
+    Ok(())
+}
+
+#[tactic(auto, unfolding(crate::specs::Examples::each_kind))]
+fn put_names(alloc: Global, list: &mut EventList) -> Result<(), Fail>
+    requires { list.old ≡ front ++ commits }
+    ensures { OnOk result (list.new ≡ each_kind) }
+{
+    let tagger = signed(alloc, 8)?;
+    let number = mark(80)?;
+    list.push(reset(alloc, 2, b"side", Some(CommitId::new(3)))?)?;
+    list.push(tag(alloc, 1, b"v1", 4, Some(tagger), b"t\n", Some(number))?)?;
+    list.push(tag(alloc, 2, b"v2", 70, None, b"u", None)?)?;
+    list.push(pass(alloc, 2, b"progress half  way\x20")?)?;
+    Ok(())
+}
+
+fn list(alloc: Global) -> Result<EventList, Fail>
+    ensures { IfOk result (λ list. list ≡ each_kind) }
+{
+    let mut list = Items::new(alloc)?;
+    put_front(alloc, &mut list)?;
+    put_commits(alloc, &mut list)?;
+    put_names(alloc, &mut list)?;
+    Ok(list)
+}
+
+fn each_kind(alloc: Global) -> Result<Events, Fail> {
+    Ok(Events::from_plain(alloc, list(alloc)?)?)
+}
+
+// What is written to a sink where all goes well.
+fn written(alloc: Global, events: &Events) -> Result<Text, Fail> {
+    let mut sink = MemorySink::new(alloc, Items::new(alloc)?)?;
+    write_stream(alloc, events, &mut sink)?;
+    Ok(sink.written().copy()?)
+}
+
+fn each_kind_written() -> &'static [u8] {
+    b"feature done
+blob
 mark :4294967295
 data 0
 
@@ -249,16 +324,25 @@ author A <a@x> 100 +0000
 committer A <a@x> 100 +0000
 data 0
 
+M 100644 :4294967295 a b
+M 100755 :4294967295 c\\d
+M 120000 :90 \"e\\nf\"
+M 160000 0123456789abcdef0123456789abcdef01234567 \"\\\"g\\\\h\\\"\"
 
 commit side
 mark :2
 author <> 250000000000 -0330
-committer B C <b> 0 +9070
+committer A <a@x> 0 +0000
 encoding latin1
 data 2
 \xe9
 
 from :1
+C \"a b\" i\"j
+R c\\d \"\\\"\"
+D \"\\\"\"
+R \"e\\nf\" \"k\\\\\\n\"
+D i\"j
 
 alias
 mark :1000
@@ -280,143 +364,122 @@ deleteall
 reset main
 commit main
 mark :4
-author A <a@x> 400 +0000
-committer A <a@x> 400 +0000
-data 1
-d
-
-commit new
-mark :5
-author A <a@x> 500 +0000
-committer A <a@x> 500 +0000
-data 1
-e
-
-";
-    assert!(rt; is_written(alloc, &commits_of_all_kinds(alloc)?, want)?);
-    Ok(())
-}
-
-fn operations_of_all_kinds(alloc: Global) -> Result<EventList, Fail> {
-    let digits = b"0123456789abcdef0123456789abcdef01234567";
-    let mut ops = Items::new(alloc)?;
-    ops.push(FileOp::DeleteAll)?;
-    ops.push(put(alloc, Mode::Plain, 9, b"a b")?)?;
-    ops.push(put(alloc, Mode::Executable, 9, b"c\\d")?)?;
-    ops.push(put(alloc, Mode::Link, 9, b"e\nf")?)?;
-    ops.push(gitlink(alloc, digits, b"\"g\\h\"")?)?;
-    ops.push(delete(alloc, b"i\"j")?)?;
-    ops.push(delete(alloc, b"\"")?)?;
-    ops.push(copy(alloc, b"a b", b"k l")?)?;
-    ops.push(copy(alloc, b"m", b"n\\\n")?)?;
-    ops.push(rename(alloc, b"\"o", b"\xc3\xa9\t")?)?;
-    ops.push(rename(alloc, b"p\\q", b"r")?)?;
-    ops.push(rename(alloc, b"s\nt", b"u")?)?;
-    let mut events = Items::new(alloc)?;
-    events.push(blob(alloc, 9, 8, b"x")?)?;
-    events.push(commit(alloc, 1, 100, b"main", b"c", &[], ops)?)?;
-    Ok(events)
-}
-
-#[test]
-fn operations_of_all_kinds_are_written(rt: HostRuntime) -> Result<(), Fail> {
-    let alloc = rt.alloc();
-    let want: &[u8] = b"blob
-mark :8
-data 1
-x
-commit main
-mark :1
 author A <a@x> 100 +0000
 committer A <a@x> 100 +0000
-data 1
-c
-deleteall
-M 100644 :8 a b
-M 100755 :8 c\\d
-M 120000 :8 \"e\\nf\"
-M 160000 0123456789abcdef0123456789abcdef01234567 \"\\\"g\\\\h\\\"\"
-D i\"j
-D \"\\\"\"
-C \"a b\" k l
-C m \"n\\\\\\n\"
-R \"\\\"o\" \xc3\xa9\t
-R p\\q r
-R \"s\\nt\" u
-
-";
-    assert!(rt; is_written(alloc, &operations_of_all_kinds(alloc)?, want)?);
-    Ok(())
-}
-
-fn other_events_of_all_kinds(alloc: Global) -> Result<EventList, Fail> {
-    let mut events = Items::new(alloc)?;
-    events.push(pass(alloc, 1, b"feature done")?)?;
-    events.push(pass(alloc, 2, b"progress half  way\x20")?)?;
-    events.push(commit(alloc, 3, 300, b"main", b"c", &[], Items::new(alloc)?)?)?;
-    events.push(reset(alloc, 4, b"side", Some(3))?)?;
-    events.push(commit(alloc, 5, 500, b"side", b"d", &[], Items::new(alloc)?)?)?;
-    events.push(reset(alloc, 6, b"main", None)?)?;
-    events.push(commit(alloc, 7, 700, b"main", b"e", &[], Items::new(alloc)?)?)?;
-    let tagger = plain_signed(alloc, 8)?;
-    events.push(tag(alloc, 8, b"v1", 5, Some(tagger), Some(70))?)?;
-    events.push(tag(alloc, 9, b"v2", 3, None, None)?)?;
-    events.push(pass(alloc, 10, b"checkpoint")?)?;
-    Ok(events)
-}
-
-#[test]
-fn other_events_of_all_kinds_are_written(rt: HostRuntime) -> Result<(), Fail> {
-    let alloc = rt.alloc();
-    let want: &[u8] = b"feature done
-progress half  way\x20
-commit main
-mark :3
-author A <a@x> 300 +0000
-committer A <a@x> 300 +0000
-data 1
-c
-
-reset side
-from :3
-reset side
-commit side
-mark :5
-author A <a@x> 500 +0000
-committer A <a@x> 500 +0000
 data 1
 d
 
 reset main
 commit main
-mark :7
-author A <a@x> 700 +0000
-committer A <a@x> 700 +0000
+mark :5
+author A <a@x> 100 +0000
+committer A <a@x> 100 +0000
 data 1
 e
 
+reset side
+from :3
 tag v1
-mark :70
-from :5
+mark :80
+from :4
 tagger A <a@x> 8 +0000
 data 2
 t
 
 tag v2
-from :3
-data 2
-t
-
-checkpoint
+from :2
+data 1
+u
+progress half  way\x20
 done
-";
-    assert!(rt; is_written(alloc, &other_events_of_all_kinds(alloc)?, want)?);
-    Ok(())
+"
 }
 
 #[test]
-fn a_history_without_events_has_no_bytes(rt: HostRuntime) -> Result<(), Fail> {
+fn events_and_operations_of_each_kind_are_written(rt: HostRuntime) -> Result<(), Fail> {
     let alloc = rt.alloc();
-    assert!(rt; is_written(alloc, &Items::new(alloc)?, b"")?);
+    let written = written(alloc, &each_kind(alloc)?)?;
+    assert!(rt; written.as_slice() == each_kind_written());
+    Ok(())
+}
+
+// ---- a text of more than a piece
+
+// So many times the byte.
+fn repeated(alloc: Global, byte: u8, count: u64) -> Result<Text, Fail> {
+    let mut out = Items::new(alloc)?;
+    for _ in 0..count {
+        out.push(byte)?;
+    }
+    Ok(out)
+}
+
+fn blob_list(alloc: Global, first: Text, second: Text, third: Text) -> Result<EventList, Fail>
+    ensures { IfOk result (λ list. list ≡ three_blobs first second third) }
+{
+    let mut list = Items::new(alloc)?;
+    list.push(blob(1, 1, first)?)?;
+    list.push(blob(2, 2, second)?)?;
+    list.push(blob(3, 3, third)?)?;
+    Ok(list)
+}
+
+fn three_blobs(alloc: Global, first: Text, second: Text, third: Text) -> Result<Events, Fail> {
+    let list = blob_list(alloc, first, second, third)?;
+    Ok(Events::from_plain(alloc, list)?)
+}
+
+// Two blobs that are a piece together, and one that is larger than a piece.
+fn long_blobs(alloc: Global) -> Result<Events, Fail> {
+    let first = repeated(alloc, b'x', 40000)?;
+    let second = repeated(alloc, b'y', 40000)?;
+    let third = repeated(alloc, b'z', 70000)?;
+    three_blobs(alloc, first, second, third)
+}
+
+// The lines of a blob, which has so many times the byte.
+fn put_blob(alloc: Global, out: &mut Text, lines: &[u8], byte: u8, count: u64) -> Result<(), Fail> {
+    out.push_all(lines)?;
+    out.push_all(repeated(alloc, byte, count)?.as_slice())?;
+    out.push(b'\n')?;
+    Ok(())
+}
+
+// Whether these bytes are written, and then a second call of the sink fails.
+fn is_broken_off(alloc: Global, events: &Events, bytes: &[u8]) -> Result<bool, Fail> {
+    let failing: NumberList = Items::of(alloc, &[2])?;
+    let mut sink = MemorySink::new(alloc, failing)?;
+    let end = write_stream(alloc, events, &mut sink);
+    Ok(end == Err(WriteEnd::SinkFault) && sink.written().as_slice() == bytes)
+}
+
+#[test]
+fn a_text_of_several_pieces_is_written_up_to_a_fault(rt: HostRuntime) -> Result<(), Fail> {
+    let alloc = rt.alloc();
+    let events = long_blobs(alloc)?;
+    let mut want = Items::new(alloc)?;
+    put_blob(
+        alloc,
+        &mut want,
+        b"blob\nmark :1\ndata 40000\n",
+        b'x',
+        40000,
+    )?;
+    put_blob(
+        alloc,
+        &mut want,
+        b"blob\nmark :2\ndata 40000\n",
+        b'y',
+        40000,
+    )?;
+    assert!(rt; is_broken_off(alloc, &events, want.as_slice())?);
+    put_blob(
+        alloc,
+        &mut want,
+        b"blob\nmark :3\ndata 70000\n",
+        b'z',
+        70000,
+    )?;
+    assert!(rt; written(alloc, &events)?.as_slice() == want.as_slice());
     Ok(())
 }

@@ -1,19 +1,25 @@
-//! Whole histories.
-ghost use Rattle.std.specs.Prelude.{◌≡◌, ◌++◌, ◌≤◌, [], OnOk, IfOk, IsErrOf};
-ghost use Rattle.std.specs.List.{list_any};
-ghost use Rattle.plain_model.specs.Text.{text, text_from, end_text, is_feature_done};
-ghost use Rattle.shown_laws.specs.Showing.{IsShownBy};
+//! Whole histories. The texts of events are gathered, and sent in pieces.
+ghost use Rattle.std.specs.Prelude.{◌≡◌, ◌++◌, ◌∷◌, ◌≤◌, [], OnOk, IsErrOf};
+ghost use Rattle.plain_model.specs.Text.{text, event_text, is_feature_done};
 ghost use Rattle.plain_model.specs.Counts.{Rose};
+ghost use Rattle.plain_model.specs.Snapshots.{refs_after};
+ghost use Rattle.shown_laws.specs.Showing.{IsShownBy};
+ghost use Rattle.stream_writer.specs.Parts.{blob_head, blob_text};
+ghost use Rattle.stream_writer.specs.Sending.{SendsFirst, closing};
 ghost use Rattle.surgeon_store.specs.Outside.{Puts, PutsSome};
-ghost use Rattle.plain_model.specs.Soundness.{IsSound};
 
 use crate::events::push_event;
-use crate::marks::MarkedHistory;
+use crate::fields::push_mark_line;
 use branch_tips::Tips;
-use plain_model::{EventList, Items, NoMemory, PlainEvent, Text};
+use event_arena::Events;
+use plain_model::{Items, Mark, NoMemory, PlainEvent, Text};
 use shown_laws::what_is_written_shows_the_history;
 use std::alloc::Global;
 use surgeon_store::{Sink, WriteEnd, write_all};
+
+// How many bytes are gathered before they are sent: so many that the calls of the system cost little beside the making
+// of the bytes, and so few that they stay in a processor's cache. (own)
+const PIECE: usize = 61440;
 
 fn is_promise(event: &PlainEvent) -> bool
     ensures { result ≡ is_feature_done event.now }
@@ -24,70 +30,158 @@ fn is_promise(event: &PlainEvent) -> bool
     }
 }
 
-// Whether some event promises that the stream ends with `done`.
-fn promises_end(events: &[PlainEvent]) -> bool
-    ensures { result ≡ list_any is_feature_done events.now }
+// Sends what is gathered, where it is a piece. The room for it is kept.
+fn send_piece<W: Sink>(gathered: &mut Text, sink: &mut W) -> Result<(), WriteEnd>
+    ensures ok { OnOk result
+        (SendsFirst (W.state sink.old) gathered.old (W.state sink.new) gathered.new) }
+    ensures part { PutsSome (W.state sink.old) gathered.old (W.state sink.new) }
+    ensures failed { IsErrOf result WriteEnd.SinkFault
+        → Rose (W.state sink.old).faults (W.state sink.new).faults }
+    ensures later { (W.state sink.old).faults ≤ (W.state sink.new).faults }
+    ensures around { (W.state sink.new).around ≡ (W.state sink.old).around }
 {
-    for event in events {
-        if is_promise(event) {
-            return true;
-        }
+    if gathered.as_slice().len() < PIECE {
+        return Ok(());
     }
-    false
+    write_all(sink, gathered.as_slice())?;
+    gathered.truncate(0);
+    Ok(())
 }
 
-fn push_end(out: &mut Text, events: &[PlainEvent]) -> Result<(), NoMemory>
-    ensures { OnOk result (out.new ≡ out.old ++ end_text events.now) }
+// The lines of a blob before its bytes.
+fn push_blob_head(out: &mut Text, mark: Mark, size: usize) -> Result<(), NoMemory>
+    ensures { OnOk result (out.new ≡ out.old ++ blob_head mark size) }
 {
-    if promises_end(events) {
+    out.push_all(b"blob\n")?;
+    push_mark_line(out, b"mark ", mark.number())?;
+    out.push_all(b"data ")?;
+    out.push_number(size as u64)?;
+    out.push(b'\n')
+}
+
+// Sends what is gathered, the lines of a blob, and its bytes from where they are: so many would cost memory and time to
+// be gathered.
+fn send_blob<W: Sink>(
+    mark: Mark,
+    bytes: &[u8],
+    gathered: &mut Text,
+    sink: &mut W,
+) -> Result<(), WriteEnd>
+    ensures ok { OnOk result (SendsFirst (W.state sink.old)
+        (gathered.old ++ blob_text mark bytes.now) (W.state sink.new) gathered.new) }
+    ensures part { PutsSome (W.state sink.old) (gathered.old ++ blob_text mark bytes.now)
+        (W.state sink.new) }
+    ensures failed { IsErrOf result WriteEnd.SinkFault
+        → Rose (W.state sink.old).faults (W.state sink.new).faults }
+    ensures later { (W.state sink.old).faults ≤ (W.state sink.new).faults }
+    ensures around { (W.state sink.new).around ≡ (W.state sink.old).around }
+{
+    push_blob_head(gathered, mark, bytes.len())?;
+    write_all(sink, gathered.as_slice())?;
+    gathered.truncate(0);
+    write_all(sink, bytes)?;
+    gathered.push(b'\n')?;
+    Ok(())
+}
+
+// Puts an event after what is gathered, and sends that where it is a piece.
+fn gather_event<W: Sink>(
+    history: &Events,
+    event: &PlainEvent,
+    tips: &mut Tips,
+    gathered: &mut Text,
+    sink: &mut W,
+) -> Result<(), WriteEnd>
+    ensures ok { OnOk result (SendsFirst (W.state sink.old)
+        (gathered.old ++ event_text history.now.list tips.old event.now) (W.state sink.new)
+        gathered.new) }
+    ensures tips { OnOk result (tips.new ≡ refs_after tips.old (event.now ∷ [])) }
+    ensures part { PutsSome (W.state sink.old)
+        (gathered.old ++ event_text history.now.list tips.old event.now) (W.state sink.new) }
+    ensures failed { IsErrOf result WriteEnd.SinkFault
+        → Rose (W.state sink.old).faults (W.state sink.new).faults }
+    ensures later { (W.state sink.old).faults ≤ (W.state sink.new).faults }
+    ensures around { (W.state sink.new).around ≡ (W.state sink.old).around }
+{
+    push_event(gathered, history, tips, event)?;
+    tips.note(event)?;
+    send_piece(gathered, sink)
+}
+
+// Writes an event: a large blob past what is gathered, and any other after it.
+fn write_event<W: Sink>(
+    history: &Events,
+    event: &PlainEvent,
+    tips: &mut Tips,
+    gathered: &mut Text,
+    sink: &mut W,
+) -> Result<(), WriteEnd>
+    ensures ok { OnOk result (SendsFirst (W.state sink.old)
+        (gathered.old ++ event_text history.now.list tips.old event.now) (W.state sink.new)
+        gathered.new) }
+    ensures tips { OnOk result (tips.new ≡ refs_after tips.old (event.now ∷ [])) }
+    ensures part { PutsSome (W.state sink.old)
+        (gathered.old ++ event_text history.now.list tips.old event.now) (W.state sink.new) }
+    ensures failed { IsErrOf result WriteEnd.SinkFault
+        → Rose (W.state sink.old).faults (W.state sink.new).faults }
+    ensures later { (W.state sink.old).faults ≤ (W.state sink.new).faults }
+    ensures around { (W.state sink.new).around ≡ (W.state sink.old).around }
+{
+    match event {
+        PlainEvent::Blob { mark, bytes, .. } if bytes.as_slice().len() >= PIECE => {
+            send_blob(*mark, bytes.as_slice(), gathered, sink)
+        }
+        _ => gather_event(history, event, tips, gathered, sink),
+    }
+}
+
+// The line that ends a stream which promised one.
+fn push_closing(out: &mut Text, promised: bool) -> Result<(), NoMemory>
+    ensures { OnOk result (out.new ≡ out.old ++ closing promised []) }
+{
+    if promised {
         out.push_all(b"done\n")
     } else {
         Ok(())
     }
 }
 
-fn push_events(alloc: Global, out: &mut Text, history: &MarkedHistory) -> Result<(), NoMemory>
-    ensures { OnOk result (out.new ≡ out.old ++ text_from history.now [] history.now) }
+// Sends what is gathered and the end of the stream.
+fn write_closing<W: Sink>(promised: bool, gathered: &mut Text, sink: &mut W) -> Result<(), WriteEnd>
+    ensures ok { OnOk result
+        (Puts (W.state sink.old) (gathered.old ++ closing promised []) (W.state sink.new)) }
+    ensures part { PutsSome (W.state sink.old) (gathered.old ++ closing promised [])
+        (W.state sink.new) }
+    ensures failed { IsErrOf result WriteEnd.SinkFault
+        → Rose (W.state sink.old).faults (W.state sink.new).faults }
+    ensures later { (W.state sink.old).faults ≤ (W.state sink.new).faults }
+    ensures around { (W.state sink.new).around ≡ (W.state sink.old).around }
 {
-    let mut tips = Tips::new(alloc);
-    for event in history.events() {
-        push_event(out, history, &tips, event)?;
-        tips.note(event)?;
-    }
-    Ok(())
+    push_closing(gathered, promised)?;
+    write_all(sink, gathered.as_slice())
 }
 
-/// The text of a history.
-pub fn text_of(alloc: Global, events: &[PlainEvent]) -> Result<Text, NoMemory>
-    ensures { IfOk result (λ out. out ≡ text events.now) }
-{
-    let history = MarkedHistory::of(alloc, events)?;
-    let mut out = Items::new(alloc)?;
-    push_events(alloc, &mut out, &history)?;
-    push_end(&mut out, events)?;
-    Ok(out)
-}
-
-/// Writes the text of a history to the end of a sink. After a refusal a first part of it is there.
-pub fn write_stream<W: Sink>(
-    alloc: Global,
-    events: &EventList,
-    sink: &mut W,
-) -> Result<(), WriteEnd>
-    ensures ok { OnOk result (Puts (W.state sink.old) (text events.now) (W.state sink.new)) }
-    ensures part { PutsSome (W.state sink.old) (text events.now) (W.state sink.new) }
+/// Writes the text of a history to the end of a sink, in pieces. After a refusal a first part of it is there.
+pub fn write_stream<W: Sink>(alloc: Global, events: &Events, sink: &mut W) -> Result<(), WriteEnd>
+    ensures ok { OnOk result (Puts (W.state sink.old) (text events.now.list) (W.state sink.new)) }
+    ensures part { PutsSome (W.state sink.old) (text events.now.list) (W.state sink.new) }
     ensures failed { IsErrOf result WriteEnd.SinkFault
         → Rose (W.state sink.old).faults (W.state sink.new).faults }
     ensures later { (W.state sink.old).faults ≤ (W.state sink.new).faults }
     ensures around { (W.state sink.new).around ≡ (W.state sink.old).around }
 
-    // What is written of a history is a stream, what is read of that is written as the same text, and a replay of it
-    // by plain maps shows what the history shows.
-    ensures again { IsSound events.now → IsShownBy (text events.now) events.now }
+    // What is written is a stream, what is read of that is written as the same text, and a replay of it by plain maps
+    // shows what the history shows.
+    ensures again { IsShownBy (text events.now.list) events.now.list }
 {
     what_is_written_shows_the_history();
-    match text_of(alloc, events.as_slice()) {
-        Ok(text) => write_all(sink, text.as_slice()),
-        Err(NoMemory) => Err(WriteEnd::Memory),
+    let mut tips = Tips::new(alloc);
+    let mut gathered = Items::empty(alloc);
+    let mut promised = false;
+    for place in 0..events.count() {
+        let event = events.nth(place);
+        write_event(events, event, &mut tips, &mut gathered, sink)?;
+        promised |= is_promise(event);
     }
+    write_closing(promised, &mut gathered, sink)
 }

@@ -4,6 +4,7 @@
 mod disk;
 mod entry;
 mod memory;
+mod output;
 mod outside;
 mod store_sink;
 mod sure;
@@ -16,8 +17,9 @@ mod writing;
 pub use disk::{DiskStore, StdSink};
 pub use entry::{FileEntry, FileList};
 pub use memory::{MemorySink, MemoryStore};
+pub use output::Output;
 pub use outside::{CreateFault, Failed, OpenFault, Sink, Store, WriteFault};
 pub use store_sink::StoreSink;
 pub use sure::{SureSink, SureStore};
-pub use whole_files::{ReadEnd, open_file, read_file, read_front, write_text};
+pub use whole_files::{ReadEnd, open_file, read_file, read_front, write_file};
 pub use writing::{WriteEnd, write_all};

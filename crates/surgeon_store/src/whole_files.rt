@@ -1,4 +1,4 @@
-//! Whole files: all bytes of one, the first of them, or one that is made of some bytes.
+//! Whole files: all bytes of one, the first of them, or one that is made of what is sent to it.
 ghost use Rattle.std.specs.Prelude.{
   ◌≡◌,
   ◌+◌,
@@ -32,9 +32,10 @@ ghost use Rattle.surgeon_store.specs.WholeFiles.{
 };
 ghost use Rattle.surgeon_store.specs.declared.whole_files.ReadEnd.TheVariants as ended;
 
+use crate::output::Output;
 use crate::outside::{CreateFault, Failed, OpenFault, Store};
 use crate::store_sink::StoreSink;
-use crate::writing::{WriteEnd, write_all};
+use crate::writing::WriteEnd;
 use plain_model::{Fault, Halt, Items, NoMemory, Text};
 use std::alloc::Global;
 
@@ -168,11 +169,11 @@ pub fn read_file<S: Store>(
     Ok(text)
 }
 
-// Writes all of the bytes into the file that is begun.
-fn write_begun<S: Store>(store: &mut S, bytes: &[u8]) -> Result<(), WriteEnd>
+// Sends all of the bytes into the file that is begun.
+fn write_begun<S: Store, B: Output>(store: &mut S, output: &B) -> Result<(), WriteEnd>
     requires { IsSome (S.state store.old).writing }
-    ensures ok { OnOk result (Grows (S.state store.old) bytes.now (S.state store.new)) }
-    ensures part { GrowsSome (S.state store.old) bytes.now (S.state store.new) }
+    ensures ok { OnOk result (Grows (S.state store.old) (B.bytes output.now) (S.state store.new)) }
+    ensures part { GrowsSome (S.state store.old) (B.bytes output.now) (S.state store.new) }
     ensures beside { beside_of (S.state store.new) ≡ beside_of (S.state store.old) }
     ensures writing { (S.state store.new).writing ≡ (S.state store.old).writing }
     ensures read_faults { (S.state store.new).read_faults ≡ (S.state store.old).read_faults }
@@ -182,18 +183,22 @@ fn write_begun<S: Store>(store: &mut S, bytes: &[u8]) -> Result<(), WriteEnd>
         → Rose (S.state store.old).write_faults (S.state store.new).write_faults }
 {
     let mut sink = StoreSink::new(store);
-    write_all(&mut sink, bytes)
+    output.send(&mut sink)
 }
 
-/// Makes a file that has the bytes. After a fault it may have a first part of them, or be as it was. Whatever happens, no
-/// file is left begun.
-pub fn write_text<S: Store>(store: &mut S, name: &str, bytes: &[u8]) -> Result<(), WriteEnd>
+/// Makes a file that has the bytes. After a fault or out of memory it may have a first part of them, or be as it was.
+/// Whatever happens, no file is left begun.
+pub fn write_file<S: Store, B: Output>(
+    store: &mut S,
+    name: &str,
+    output: &B,
+) -> Result<(), WriteEnd>
     ensures ok { OnOk result
         (IfSome (S.state store.old).files
-        (λ files. (S.state store.new).files ≡ Some (insert files name.now bytes.now))) }
+        (λ files. (S.state store.new).files ≡ Some (insert files name.now (B.bytes output.now)))) }
     ensures part { OnErr result
         (IfSome (S.state store.old).files
-        (λ files. PartWritten name.now bytes.now files (S.state store.new).files)) }
+        (λ files. PartWritten name.now (B.bytes output.now) files (S.state store.new).files)) }
     ensures failed { IsErrOf result WriteEnd.SinkFault
         → Rose (S.state store.old).write_faults (S.state store.new).write_faults }
     ensures finished { (S.state store.new).writing ≡ None }
@@ -204,7 +209,7 @@ pub fn write_text<S: Store>(store: &mut S, name: &str, bytes: &[u8]) -> Result<(
         Err(CreateFault::Failed) => return Err(WriteEnd::SinkFault),
         Err(CreateFault::Memory) => return Err(WriteEnd::Memory),
     }
-    let written = write_begun(store, bytes);
+    let written = write_begun(store, output);
     let finished = store.finish_write();
     written?;
     match finished {

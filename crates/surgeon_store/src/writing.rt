@@ -2,14 +2,24 @@
 ghost use Rattle.std.specs.Prelude.{◌≡◌, ◌≤◌, OnOk, IsErrOf};
 ghost use Rattle.plain_model.specs.Counts.{Rose};
 ghost use Rattle.surgeon_store.specs.Outside.{Puts, PutsSome};
+ghost use Rattle.surgeon_store.specs.declared.writing.WriteEnd.TheVariants.{Memory};
 
 use crate::outside::{Sink, WriteFault};
+use plain_model::NoMemory;
 
 /// Why not all bytes are written.
 #[derive(Clone, Copy, Debug, PartialEq, Eq)]
 pub enum WriteEnd {
     SinkFault,
     Memory,
+}
+
+impl From<NoMemory> for WriteEnd {
+    ghost from_gives = { λ _ end. end ≡ Memory };
+
+    fn from(_error: NoMemory) -> WriteEnd {
+        WriteEnd::Memory
+    }
 }
 
 /// Writes all of the bytes, or after a fault a first part of them.

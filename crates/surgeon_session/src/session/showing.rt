@@ -19,7 +19,7 @@ use crate::sending::send;
 use listing::{all, index, list, names};
 use plain_model::{Halt, Items, NoMemory, Text};
 use script_reader::ScriptText;
-use stream_writer::text_of;
+use stream_writer::Stream;
 use surgeon_store::{Sink, Store};
 
 // Puts the line of a repository, by the name that is chosen.
@@ -42,12 +42,11 @@ fn push_repository(out: &mut Text, choice: &Option<Text>, name: &[u8]) -> Result
 
 impl Session {
     // The stream of the chosen history.
-    fn stream(&self) -> Result<Text, Halt>
+    fn stream(&self) -> Result<Stream<'_>, Halt>
         ensures { Returns (λ bytes. bytes) result (of_chosen self.now text) }
     {
         let events = self.chosen()?;
-        let history = events.plain()?;
-        Ok(text_of(self.alloc, history.as_slice())?)
+        Ok(Stream::of(self.alloc, events))
     }
 
     // The list of the chosen history.
@@ -105,8 +104,8 @@ impl Session {
         ensures { CarriesOut (S.state store.old) (T.state out.old) self.now (command.Write to.now)
             result self.now (S.state store.new) (T.state out.new) }
     {
-        let text = self.stream()?;
-        send(store, out, to, text.as_slice())
+        let stream = self.stream()?;
+        send(store, out, to, &stream)
     }
 
     // `list [>FILE]`
@@ -121,7 +120,7 @@ impl Session {
             result self.now (S.state store.new) (T.state out.new) }
     {
         let text = self.listed()?;
-        send(store, out, to, text.as_slice())
+        send(store, out, to, &text)
     }
 
     // `index [>FILE]`
@@ -136,7 +135,7 @@ impl Session {
             result self.now (S.state store.new) (T.state out.new) }
     {
         let text = self.indexed()?;
-        send(store, out, to, text.as_slice())
+        send(store, out, to, &text)
     }
 
     // `names [>FILE]`
@@ -151,7 +150,7 @@ impl Session {
             result self.now (S.state store.new) (T.state out.new) }
     {
         let text = self.named()?;
-        send(store, out, to, text.as_slice())
+        send(store, out, to, &text)
     }
 
     // `choose` alone
@@ -165,6 +164,6 @@ impl Session {
             self.now (S.state store.new) (T.state out.new) }
     {
         let text = self.loaded()?;
-        send(store, out, &None, text.as_slice())
+        send(store, out, &None, &text)
     }
 }
