@@ -1,11 +1,10 @@
 -- What `clap` makes of the words of the simple command, word by word.
-use Rattle.std.proofs.Common.{◌≡◌, ◌≢◌, ℕ, ◌+◌, Bool, true, false, cond, ◌⊎◌, inl, inr, List, [], ◌∷◌, ◌++◌, length, Option, None, Some, refl, sym, ap, subst, ◌∙◌, arith, true≢false, codes, drop}
-use Rattle.std.specs.Prelude.{◌==◌, MatchOption, option_map, fold}
-use Rattle.std.specs.Cmp.Lexicographic.{same_text}
+use Rattle.std.proofs.Common.{◌≡◌, ◌≢◌, ℕ, Bool, true, false, ◌⊎◌, inl, inr, List, [], ◌∷◌, length, Option, None, Some, refl, sym, ap, subst, ◌∙◌, arith, true≢false, codes, drop}
+use Rattle.std.specs.Prelude.{◌==◌, MatchOption, fold}
 use Rattle.std.specs.Str.{bytes_eq, chars, IsUtf8}
 use Rattle.std.specs.List.{list_any, before_first}
-use Rattle.std.specs.Prelude.{◌||◌, slice_get, if◌then◌else◌, is_some}
-use Rattle.std.proofs.Common.{zero, suc, ◌<◌}
+use Rattle.std.specs.Prelude.{◌||◌, slice_get, is_some}
+use Rattle.std.proofs.Common.{zero, suc}
 use Rattle.std.proofs.lemmas.Bool.Decides.{nat_tests}
 use Rattle.std.proofs.lemmas.Cmp.{nat_list_eq_equiv}
 use Rattle.clap.proofs.CutLemmas.{Lacks, before_first-Lacks}
@@ -18,15 +17,14 @@ use Rattle.std.proofs.lemmas.Bool.{cases_Bool, eqb-true}
 use Rattle.std.proofs.lemmas.Option.{none-some}
 use Rattle.clap.specs.declared.error.kind.ErrorKind.{ErrorKind}
 use Rattle.clap.specs.Lexer.{long_of, short_of, name_and_value}
-use Rattle.clap.specs.Walk.{Rule, Row, Held, Walk, Waiting, idle, walk_from, walked, walk, used, settled, finished, nothing_held, first_of, one_of}
-use Rattle.clap.specs.Simple.{App, Shape, new_app, new_rule, with_rule, on_top, built, is_simple, names_of, matches_of, entered}
+use Rattle.clap.specs.Walk.{Rule, Row, Held, Walk, idle, walked, walk, settled, finished, nothing_held}
+use Rattle.clap.specs.Simple.{App, Shape, new_app, new_rule, with_rule, on_top, built, is_simple, matches_of, entered}
 use Rattle.clap.specs.Faults.{walk_fault, settle_fault, defaults_fault, check_fault, level_fault, turn_fault, flags_fault, fault_of, entered_fault, is_simple_and_free}
 use Rattle.clap.specs.declared.parser.matches.ValueSource.TheVariants.{CommandLine}
 use Rattle.clap.specs.Walk.{reading_by}
 use Rattle.clap.specs.Simple.{filled}
 use Rattle.clap.specs.Kinds.{Kinds, or_else}
 use Rattle.clap.specs.declared.builder.action.ArgAction.TheVariants.{Set, SetTrue}
-use Rattle.clap.specs.declared.error.kind.ErrorKind.TheVariants as kind
 use Rattle.clap.proofs.OnLiterals.{clap_on_literals}
 use Rattle.command_line.specs.Rows.{Holds}
 use Rattle.plain_model.specs.Paths.{Bytes}
@@ -369,12 +367,10 @@ by_seen w ws (only_script x) Name (seen_name a b) utf8 later = stuck (only_scrip
 by_seen w ws (flag_first x) Name (seen_name a b) utf8 later = stuck (flag_first x) false w ws (second_name w x (flag_first x) refl a b)
 by_seen w ws (script_first x) Name (seen_name a b) utf8 later = stuck (script_first x) false w ws (second_name w x (script_first x) refl a b)
 
-
 agree : (ws : List Bytes) (m : Met) (after : Bool) → AllUtf8 ws → Agrees (asked_from ws after (keep m) (script m)) (fault_from m after ws) (rows_from m after ws)
 agree [] m after utf8 = at_end m after
 agree (w ∷ ws) m true utf8 = named_after w ws m (λ n later. agree ws n later utf8.1)
 agree (w ∷ ws) m false utf8 = by_seen w ws m (kind_of w) (seen w) utf8.0 (λ n later. agree ws n later utf8.1)
-
 
 -- the command has no subcommand to stop at
 no_stop : (ws : List Bytes) (stop : Option (Bytes × List Bytes)) →

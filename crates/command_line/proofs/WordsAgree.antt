@@ -6,7 +6,7 @@ use Rattle.std.specs.Cmp.Lexicographic.{same_text}
 use Rattle.std.proofs.lemmas.Bool.{cases_Bool}
 use Rattle.std.proofs.lemmas.Bool.Decides.{nat_tests}
 use Rattle.plain_model.specs.Paths.{Bytes}
-use Rattle.history_machine.specs.Words.{Asked, asked, asked_after, flag_count, front, is_dashes, is_fault, is_flag, is_option, scripts, with_script}
+use Rattle.history_machine.specs.Words.{Asked, asked, asked_after, flag_count, front, is_fault, is_flag, is_option, scripts, with_script}
 use Rattle.command_line.proofs.Seen.{Seen, seen, seen_dashes, seen_fault, seen_flag, seen_name}
 use Rattle.command_line.specs.WordByWord.{asked_from, by_kind, kind_of}
 use Rattle.command_line.specs.WordByWord.{Kind}

@@ -1,22 +1,18 @@
 //! The words of a command line.
 ghost use Rattle.std.specs.Prelude.{
   ◌≡◌,
-  ◌⊎◌,
   None,
-  Some,
   drop,
   false,
   map,
   option_map,
   string_bytes,
   IfOk,
-  MatchResult,
 };
-ghost use Rattle.clap.specs.Words.{found_of, kind_of, rows_of};
 ghost use Rattle.command_line.specs.AskedFor.{asked_for};
-ghost use Rattle.command_line.specs.Rows.{Holds};
+ghost use Rattle.command_line.specs.Rows.{Parses};
 ghost use Rattle.command_line.specs.WordByWord.{asked_from};
-ghost use Rattle.history_machine.specs.Words.{Asked, asked};
+ghost use Rattle.history_machine.specs.Words.{asked};
 
 use clap::error::ErrorKind;
 use clap::{Arg, ArgAction, ArgMatches, Command, Error};
@@ -33,10 +29,7 @@ pub struct Asked<'a> {
 
 // What `clap` finds in the words: help and version are switched off, so that they are options like any other that isn't there.
 fn parsed<'a>(alloc: Global, words: &'a [String]) -> Result<ArgMatches<'a>, Error>
-    ensures { let line = asked_from (drop 1 (map string_bytes words.entry.now)) false false None in
-        MatchResult result
-        (λ m. (r : Asked) × (line ≡ Some r) × Holds r (rows_of (found_of m)))
-        (λ e. (kind_of e ≡ ErrorKind.OutOfMemory) ⊎ (line ≡ None)) }
+    ensures { Parses (asked_from (drop 1 (map string_bytes words.entry.now)) false false None) result }
 {
     let flag = Arg::new(alloc, "keep-going")
         .long("keep-going")

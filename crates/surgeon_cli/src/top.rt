@@ -42,7 +42,7 @@ ghost use Rattle.surgeon_cli.specs.Headline.{
 };
 ghost use Rattle.plain_model.specs.Files.{Files};
 
-use crate::words::asked_in;
+use command_line::asked_in;
 use history_machine::{a_step_keeps_it, a_write_sends_the_stream, the_chosen_history_is_lawful};
 use plain_model::{Fault, Items, MAX_SCRIPT_BYTES, NoMemory, Status, Text};
 use script_reader::Script;
@@ -219,9 +219,10 @@ fn run_words<S: Store, T: Sink>(
         (S.state store.old) (T.state out.old) result (S.state store.new) (T.state out.new) }
     ensures words { AnswersWords (map string_bytes words.now) result }
 {
-    match asked_in(words) {
-        None => print_usage(alloc, out),
-        Some(asked) => run_file(alloc, asked.script.as_str(), asked.keep_going, store, out),
+    match asked_in(alloc, words) {
+        Ok(Some(asked)) => run_file(alloc, asked.script, asked.keep_going, store, out),
+        Ok(None) => print_usage(alloc, out),
+        Err(NoMemory) => Status::Memory,
     }
 }
 

@@ -1,4 +1,5 @@
-use Rattle.std.proofs.Common.{rules, ◌≡◌, Bool, None, Some, map, string_bytes, ◌∙◌, sym, ap, ap₂}
+use Rattle.std.proofs.Common.{rules, ◌≡◌, Bool, None, Some, drop, false, map, string_bytes, ◌∙◌, sym, ap₂}
+use Rattle.command_line.specs.WordByWord.{asked_from}
 use Rattle.std.proofs.lemmas.Option.{same_Some, none-some}
 use Rattle.clap.specs.Words.{found_of}
 use Rattle.plain_model.specs.Paths.{Bytes}
@@ -24,4 +25,7 @@ returns-in-Ok c =
     absurd (none-some found.0.script (c.in-None.ensures ∙ script_text (found_of c.in-Ok.matches) found.0 found.2))
 
 pub returns : goal.returns
-returns c = ?
+returns c =
+    let words = map string_bytes c.args.words.now in
+    let none : None ≡ asked_from (drop 1 words) false false None = search rules in
+    none ∙ all_words words

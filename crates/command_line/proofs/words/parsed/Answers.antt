@@ -1,5 +1,5 @@
-use Rattle.std.proofs.Common.{rules, ◌≡◌, ap, ap₂, ◌∙◌, refl, codes, List, map, string_bytes}
-use Rattle.clap.specs.Words.{App, Rule, app_of, rule_of, with_rule}
+use Rattle.std.proofs.Common.{rules, ◌≡◌, ap, ap₂, ◌∙◌, map, string_bytes}
+use Rattle.clap.specs.Words.{App, app_of, rule_of, with_rule}
 use Rattle.clap.specs.Simple.{app_of_fields}
 use Rattle.clap.specs.declared.builder.command.Command.{Command}
 use Rattle.clap.specs.declared.builder.command.Command.TheOpen.{Command-F}
@@ -16,7 +16,7 @@ returns c =
     let flag_is : rule_of c.action-flag.result ≡ flag_rule = search rules in
     let script_is : rule_of c.action-script.result ≡ script_rule = search rules in
     let base : app_of c.disable_version_flag.result ≡ quiet (app_of c.new-3.result) =
-        ap app_of_fields c.disable_version_flag.ensures ∙ ap quieter c.disable_help_flag.ensures in
+    ap app_of_fields c.disable_version_flag.ensures ∙ ap quieter c.disable_help_flag.ensures in
     let one : app_of c.in_ok-arg.field-0 ≡ with_rule (app_of c.disable_version_flag.result) (rule_of c.action-flag.result) = c.in_ok-arg.ensures.shape (search rules) in
     let two : app_of c.in_ok-command.command ≡ with_rule (app_of c.in_ok-arg.field-0) (rule_of c.action-script.result) = c.in_ok-command.ensures.shape (search rules) in
     let app : app_of c.in_ok-command.command ≡ surgeon = two ∙ ap₂ with_rule (one ∙ ap₂ with_rule (base ∙ ap quiet c.new-3.ensures.app) flag_is) script_is in
