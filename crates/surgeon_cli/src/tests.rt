@@ -500,7 +500,7 @@ fn marks_are_given_anew(rt: HostRuntime) -> Result<(), Fail> {
 #[test]
 fn a_listing_goes_into_a_file(rt: HostRuntime) -> Result<(), Fail> {
     let alloc = rt.alloc();
-    let rows: [(&str, &[u8], &[u8]); 3] = [
+    let rows: [(&str, &[u8], &[u8]); 4] = [
         (
             "the list",
             b"read <a.fi\nlist >b.fi\n",
@@ -514,6 +514,11 @@ fn a_listing_goes_into_a_file(rt: HostRuntime) -> Result<(), Fail> {
         (
             "the names",
             b"read <a.fi\nnames >b.fi\n",
+            b"branch refs/heads/master :3\n",
+        ),
+        (
+            "by a macro",
+            b"define show {\nread <{0}.fi\n# {1}\nnames >{1}.fi\n}\ndo show a b\n",
             b"branch refs/heads/master :3\n",
         ),
     ];
