@@ -3,7 +3,7 @@ use Rattle.std.proofs.Common.{◌≡◌, ◌≢◌, ℕ, Bool, true, false, ◌�
 use Rattle.std.specs.Prelude.{◌==◌, MatchOption, fold}
 use Rattle.std.specs.Str.{bytes_eq, chars, IsUtf8}
 use Rattle.std.specs.List.{list_any, before_first}
-use Rattle.std.specs.Prelude.{◌||◌, slice_get, is_some}
+use Rattle.std.specs.Prelude.{slice_get, is_some}
 use Rattle.std.proofs.Common.{zero, suc}
 use Rattle.std.proofs.lemmas.Bool.Decides.{nat_tests}
 use Rattle.std.proofs.lemmas.Cmp.{nat_list_eq_equiv}
@@ -13,7 +13,7 @@ use Rattle.std.specs.Char.{encode_utf8}
 use Rattle.clap.specs.Faults.{flag_word_fault, bundle_fault}
 use Rattle.std.proofs.lemmas.Str.{encodes-chars, IsUtf8-had}
 use Rattle.std.specs.Prelude.{String, string_bytes, map}
-use Rattle.std.proofs.lemmas.Bool.{cases_Bool, eqb-true}
+use Rattle.std.proofs.lemmas.Bool.{cases_Bool, eqb-true, or_parts}
 use Rattle.std.proofs.lemmas.Option.{none-some}
 use Rattle.clap.specs.declared.error.kind.ErrorKind.{ErrorKind}
 use Rattle.clap.specs.Lexer.{long_of, short_of, name_and_value}
@@ -219,14 +219,10 @@ or_else-fails : (a b : Kinds) → Fails a → Fails (or_else a b)
 or_else-fails [] b h = absurd (h refl)
 or_else-fails (k ∷ ks) b h = some_kind k ks
 
-first_false : (a b : Bool) → (a || b) ≡ false → (a ≡ false) × (b ≡ false)
-first_false false b h = (refl, h)
-first_false true b h = absurd (true≢false h)
-
 lacks : (xs : Bytes) → list_any (λ x. x == 61) xs ≡ false → Lacks 61 xs
 lacks [] h i lt e = absurd (omega arith)
-lacks (x ∷ xs) h zero lt e = let parts = first_false (x == 61) (list_any (λ y. y == 61) xs) h in grind (arith, nat_tests)
-lacks (x ∷ xs) h (suc i) lt e = lacks xs (first_false (x == 61) (list_any (λ y. y == 61) xs) h).1 i (omega arith) e
+lacks (x ∷ xs) h zero lt e = let parts = or_parts (x == 61) (list_any (λ y. y == 61) xs) h in grind (arith, nat_tests)
+lacks (x ∷ xs) h (suc i) lt e = lacks xs (or_parts (x == 61) (list_any (λ y. y == 61) xs) h).1 i (omega arith) e
 
 wrong_long : (e : ℕ) (es : Bytes) (h : Held) → bytes_eq (codes "keep-going") (e ∷ es) ≡ false → Fails (flag_word_fault rules false (Some (name_and_value (e ∷ es))) (45 ∷ 45 ∷ e ∷ es) h)
 wrong_long e es h not_flag =
