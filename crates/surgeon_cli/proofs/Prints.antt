@@ -2,7 +2,7 @@
 use Rattle.std.proofs.Common.{◌≡◌, ℕ, zero, List, [], ◌∷◌, Option, Some, None, Result, Err, refl, sym, subst}
 use Rattle.std.specs.Prelude.{IfSome}
 use Rattle.plain_model.specs.Files.{Files}
-use Rattle.history_machine.specs.Machine.{World, Turn, Run, EndsAs, BreaksAfter}
+use Rattle.history_machine.specs.Machine.{World, Turn, Run, EndsAs, BreaksAfter, SessionEndsAs}
 use Rattle.script_reader.specs.declared.script.ScriptItem.{ScriptItem}
 use Rattle.history_machine.specs.Words.{Asked}
 use Rattle.history_machine.specs.Whole.{run_read, unread}
@@ -18,6 +18,17 @@ use Rattle.surgeon_session.proofs.Rounds.{no_part, same_world}
 no_turn : {X : Type 0} (turns : List (Turn X)) (w : World) → BreaksAfter zero turns w w
 no_turn [] w = refl
 no_turn (t ∷ ts) w = no_part t.to t.bytes w
+
+-- how a run ends, without its session
+pub session_aside : {X : Type 0} (run : Run X) (r : Status) (s s' : X) (w now : World) → SessionEndsAs run r s w s' now → EndsAs run r w now
+session_aside run status.SourceFault s s' w now h = (h.0, h.2)
+session_aside run status.SinkFault s s' w now h = (h.0, h.2)
+session_aside run status.Memory s s' w now h = (h.0, h.2)
+session_aside run status.Done s s' w now h = h.1
+session_aside run status.Refused s s' w now h = h.1
+session_aside run status.Usage s s' w now h = h.1
+session_aside run status.NoScript s s' w now h = h.1
+session_aside run status.BadScript s s' w now h = h.1
 
 -- a run that hasn't begun
 pub not_begun : {X : Type 0} (run : Run X) (r : Status) (w : World) → IsBreak r → EndsAs run r w w

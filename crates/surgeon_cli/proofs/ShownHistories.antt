@@ -125,9 +125,11 @@ module _
         lines_shown keep (suc left) so_far s files (w ∷ lines) h =
             let r = line_step s files w.depth w.what in
             let t = turn_of s w.line r in
-            let rest : List Waiting = called_by w.line (w.depth + 1) t.calls ++ lines in
-            (line_shown s files w.line w.depth w.what h, go (goes_on keep r) (run_on line_step keep left (status_after so_far r) t.session (files_after t.to t.bytes files) rest)
-            (lines_shown keep left (status_after so_far r) t.session (files_after t.to t.bytes files) rest (turn_lawful s files w h)))
+            let rest : List Waiting = called_by w.line (w.depth + 1) t.calls ++ lines in (
+              line_shown s files w.line w.depth w.what h,
+              go (goes_on keep r) (run_on line_step keep left (status_after so_far r) t.session (files_after t.to t.bytes files) rest)
+                  (lines_shown keep left (status_after so_far r) t.session (files_after t.to t.bytes files) rest (turn_lawful s files w h)),
+            )
           where
             go : (b : Bool) (more : Run Session) → AreShownWrites more.ran more.turns → AreShownWrites (if b then more else ended status.Refused).ran (if b then more else ended status.Refused).turns
             go true more h = h

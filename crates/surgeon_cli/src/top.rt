@@ -45,7 +45,7 @@ ghost use Rattle.plain_model.specs.Files.{Files};
 use command_line::asked_in;
 use history_machine::{a_step_keeps_it, a_write_sends_the_stream, the_chosen_history_is_lawful};
 use plain_model::{Fault, Items, MAX_SCRIPT_BYTES, NoMemory, Status, Text};
-use script_reader::Script;
+use script_reader::{Script, a_script_is_never_absent};
 use shown_laws::what_is_written_shows_the_history;
 use std::alloc::Global;
 use surgeon_session::Session;
@@ -155,6 +155,7 @@ fn script_in<S: Store>(alloc: Global, store: &mut S, name: &str) -> Result<Scrip
         → Rose (S.state store.old).read_faults (S.state store.new).read_faults }
     ensures frame { Reads (S.state store.old) (S.state store.new) }
 {
+    a_script_is_never_absent();
     let bytes = match read_file(alloc, store, name, MAX_SCRIPT_BYTES) {
         Ok(bytes) => bytes,
         Err(end) => return Err(end),

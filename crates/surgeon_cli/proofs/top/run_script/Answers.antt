@@ -2,8 +2,8 @@ use Rattle.history_machine.specs.Sessions.{empty_session}
 use Rattle.history_machine.specs.Whole.{run_from}
 use Rattle.plain_model.specs.declared.status.Status.TheVariants as status
 use Rattle.surgeon_session.specs.Calls.{world}
-use Rattle.surgeon_session.proofs.Rounds.{same_later}
-use Rattle.surgeon_cli.proofs.Prints.{not_begun_worlds}
+use Rattle.surgeon_session.proofs.Rounds.{mapped, same_later}
+use Rattle.surgeon_cli.proofs.Prints.{not_begun_worlds, session_aside}
 use Rattle.surgeon_cli.proofs.top.run_script.Goals as goal
 
 pub returns-in-Err-clause-outcome : goal.returns-in-Err-clause-outcome
@@ -15,3 +15,15 @@ returns-in-Err-clause-outcome g c =
       caused = tt;
       later = same_later s k;
     }
+
+pub returns-in-Ok-clause-outcome : goal.returns-in-Ok-clause-outcome
+returns-in-Ok-clause-outcome g c =
+    let s = g.S.Store.state in
+    let k = g.T.Sink.state in
+    let ran = c.run.ensures.outcome in
+    rw (← c.in-Ok.ensures) (record {
+      prescribed = mapped (world (s c.args.store.now) (k c.args.out.now)) (world (s c.run.new.store) (k c.run.new.out))
+          (λ w now h. session_aside (run_from c.in-Ok.session w.files c.args.script.now c.args.keep_going) c.run.result c.in-Ok.session c.run.new.self w now h) ran.prescribed;
+      caused = ran.caused;
+      later = ran.later;
+    })
