@@ -2,7 +2,7 @@ use Rattle.std.proofs.Common.{◌∙◌, ap, sym, subst}
 use Rattle.plain_model.specs.Lookups.{AreIdsBelow, next_number}
 use Rattle.plain_model.specs.Soundness.{IsSound}
 use Rattle.event_arena.proofs.Examples.{pair-low, pair-next, pair-sound}
-use Rattle.event_arena.proofs.tests.pair_history.Goals as goal
+use Rattle.event_arena.proofs.tests.slots.pair_history.Goals as goal
 
 pub from_plain-requires-clause-sound : goal.from_plain-requires-clause-sound
 from_plain-requires-clause-sound c = subst IsSound (sym c.in_ok-pair_list.ensures) pair-sound

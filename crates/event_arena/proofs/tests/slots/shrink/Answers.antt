@@ -4,7 +4,7 @@ use Rattle.plain_model.specs.Soundness.{IsSound}
 use Rattle.event_arena.specs.Changes.{without}
 use Rattle.event_arena.specs.Graphs.{Change}
 use Rattle.event_arena.proofs.Examples.{grown-without, pair-sound}
-use Rattle.event_arena.proofs.tests.shrink.Goals as goal
+use Rattle.event_arena.proofs.tests.slots.shrink.Goals as goal
 
 pub carry-requires-clause-sound : goal.carry-requires-clause-sound
 carry-requires-clause-sound c =

@@ -3,7 +3,7 @@ use Rattle.plain_model.specs.Soundness.{IsSound}
 use Rattle.event_arena.specs.Examples.{commit}
 use Rattle.event_arena.specs.Graphs.{Change}
 use Rattle.event_arena.proofs.Examples.{grown-is, grown-sound}
-use Rattle.event_arena.proofs.tests.grow.Goals as goal
+use Rattle.event_arena.proofs.tests.slots.grow.Goals as goal
 
 pub carry-requires-clause-sound : goal.carry-requires-clause-sound
 carry-requires-clause-sound c =
