@@ -1,0 +1,4 @@
+pub mod Descent
+pub mod Pasts
+pub mod Paths
+mod Rows
