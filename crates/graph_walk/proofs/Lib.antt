@@ -1,0 +1,17 @@
+pub mod BetweenLemmas
+pub mod ClosureLemmas
+pub mod DescendantLemmas
+pub mod EarlierLemmas
+pub mod EntryLemmas
+pub mod ExpandingLemmas
+pub mod ExpansionLemmas
+pub mod FlagLemmas
+pub mod Histories
+pub mod OrderLemmas
+pub mod OutcomeLemmas
+pub mod ParentLemmas
+pub mod PlaceLemmas
+pub mod SlotLemmas
+pub mod StepLemmas
+pub mod TurnLemmas
+pub mod WaitingLemmas

@@ -1,0 +1,34 @@
+use Rattle.std.proofs.Common.{◌≡◌, ◌∙◌, ◌<◌, List, length, arith, add-one, false}
+use Rattle.std.proofs.lemmas.List.{get_or_read}
+use Rattle.event_arena.proofs.SoundLemmas.{sound-once}
+use Rattle.graph_walk.specs.Flags.{FlagsOf}
+use Rattle.plain_model.specs.Lookups.{id_of, is_listed}
+use Rattle.plain_model.specs.declared.id.AnyId.{AnyId}
+use Rattle.std.proofs.Common.{subst}
+use Rattle.graph_walk.proofs.ExpandingLemmas.{expanded_all, expanded_more}
+use Rattle.graph_walk.proofs.PlaceLemmas.{item_at}
+use Rattle.graph_walk.proofs.expansion.Expansions.of.Goals as goal
+
+pub loop-place-preserved : goal.loop-place-preserved
+loop-place-preserved c =
+    let events = c.args.events.now.list in
+    let sound = c.count-place-end.ensures.sound in
+    let once = (sound-once events sound).ids in
+    let place = c.loop-place.place in
+    let within : place < length events = let test = c.loop-place-test.true in let count = c.count-place-end.ensures.count in omega arith in
+    let item = item_at events place within in
+    let flags : FlagsOf events c.args.removed.now c.in_ok-flags.flags.items = subst (λ (ids : List AnyId). FlagsOf events ids c.in_ok-flags.flags.items) c.as_slice.ensures c.in_ok-flags.ensures in
+    let low : place < length c.in_ok-flags.flags.items = let n = flags.count in omega arith in
+    let flag : c.index.result.now ≡ is_listed (id_of item.0) c.args.removed.now = get_or_read c.in_ok-flags.flags.items place c.index.result.now low c.index.ensures false ∙ flags.flag place item.0 item.1 in
+    record {
+      bounded = c.in_ok-push_event.ensures.bounded ∙ c.loop-place.invariant.bounded;
+      so_far = rw add-one (expanded_more events sound once c.args.removed.now place item.0 c.loop-place.made c.push_event.new.self c.index.result.now item.1 flag c.loop-place.invariant.so_far c.in_ok-push_event.ensures.bounded (c.in_ok-push_event.ensures.entries item.0 item.1));
+    }
+
+pub returns-clause-expansions : goal.returns-clause-expansions
+returns-clause-expansions c =
+    let events = c.args.events.now.list in
+    let sound = c.count-place-end.ensures.sound in
+    let once = (sound-once events sound).ids in
+    let all : c.loop-place.place ≡ length events = let test = c.loop-place-test.false in let count = c.count-place-end.ensures.count in let end = c.loop-place.auto.place-end in omega arith in
+    expanded_all events sound once c.args.removed.now c.loop-place.place c.loop-place.made all c.loop-place.invariant.so_far

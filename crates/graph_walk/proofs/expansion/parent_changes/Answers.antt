@@ -1,0 +1,38 @@
+use Rattle.std.proofs.Common.{List, Bool, arith, add-one, subst, sym}
+use Rattle.std.proofs.lemmas.Result.{err_from_is_err_and}
+use Rattle.plain_model.specs.declared.id.AnyId.{AnyId}
+use Rattle.event_arena.proofs.SoundLemmas.{sound-once}
+use Rattle.graph_walk.specs.Expansions.{IsCauseOfMany, parent_changes}
+use Rattle.graph_walk.specs.Joined.{IsTooMany, PushesChange}
+use Rattle.graph_walk.specs.Flags.{FlagsOf}
+use Rattle.graph_walk.proofs.ParentLemmas.{cause_more, changes_more}
+use Rattle.graph_walk.proofs.PlaceLemmas.{item_at}
+use Rattle.graph_walk.proofs.expansion.parent_changes.Goals as goal
+
+pub returns-in_err-push_change-clause-cause : goal.returns-in_err-push_change-clause-cause
+returns-in_err-push_change-clause-cause c =
+    let events = c.args.events.now.list in
+    let removed = c.args.removed.now in
+    let sound = c.count-place-end.ensures.sound in
+    let once = (sound-once events sound).ids in
+    let place = c.loop-place.place in
+    let item = item_at events place (let test = c.loop-place-test.true in let count = c.count-place-end.ensures.count in omega arith) in
+    let items = c.in_ok-flags.flags.items in
+    let flags : FlagsOf events removed items = subst (λ (ids : List AnyId). FlagsOf events ids items) c.as_slice.ensures c.in_ok-flags.ensures in
+    let many = subst (λ (fs : List Bool). IsTooMany events fs c.in_ok-made.made place item.0 c.in_err-push_change.field-0.0) c.deref.ensures.value (c.in_err-push_change.ensures.cause item.0 item.1) in
+    let p = err_from_is_err_and c.from_residual-in_err-push_change.result c.from_residual-in_err-push_change.ensures.1 in
+    rw p.1 (subst (IsCauseOfMany (parent_changes events removed)) (sym p.2) (cause_more events sound once removed items c.in_ok-made.made flags c.in_ok-made.ensures.expansions c.in_ok-made.ensures.bounded place item.0 c.in_err-push_change.field-0.0 item.1 many))
+
+pub loop-place-preserved : goal.loop-place-preserved
+loop-place-preserved c =
+    let events = c.args.events.now.list in
+    let removed = c.args.removed.now in
+    let sound = c.count-place-end.ensures.sound in
+    let once = (sound-once events sound).ids in
+    let place = c.loop-place.place in
+    let item = item_at events place (let test = c.loop-place-test.true in let count = c.count-place-end.ensures.count in omega arith) in
+    let items = c.in_ok-flags.flags.items in
+    let flags : FlagsOf events removed items = subst (λ (ids : List AnyId). FlagsOf events ids items) c.as_slice.ensures c.in_ok-flags.ensures in
+    let push = subst (λ (fs : List Bool). PushesChange events fs c.in_ok-made.made place item.0 c.loop-place.changes c.push_change.new.changes) c.deref.ensures.value (c.in_ok-push_change.ensures.ok item.0 item.1) in
+    let more = changes_more events sound once removed items c.in_ok-made.made flags c.in_ok-made.ensures.expansions c.in_ok-made.ensures.bounded place item.0 c.loop-place.changes c.push_change.new.changes item.1 push c.loop-place.invariant.changes c.loop-place.invariant.few in
+    rw add-one (record { changes = more.0; few = more.1 })

@@ -1,0 +1,15 @@
+use Rattle.std.proofs.Common.{◌∙◌, List, ℕ, length, arith, ap, subst, sym}
+use Rattle.std.specs.List.{AllByRecursion}
+use Rattle.plain_model.specs.Lookups.{event_parents}
+use Rattle.graph_walk.specs.Joined.{IsBeforePlace}
+use Rattle.graph_walk.proofs.ExpansionLemmas.{parents_placed}
+use Rattle.graph_walk.proofs.ParentLemmas.{placed_within}
+use Rattle.graph_walk.proofs.expansion.push_change.Goals as goal
+
+pub join-requires : goal.join-requires
+join-requires c =
+    let events = c.args.events.now.list in
+    let e = c.nth.result.now in
+    let placed = parents_placed events c.args.place e c.count-count.ensures.sound c.nth.ensures.event in
+    let all = placed_within events c.args.place (length c.args.made.now.entries) (let low = c.requires.within in let count = c.requires.made in omega arith) (event_parents e) placed in
+    subst (λ (ps : List ℕ). AllByRecursion (IsBeforePlace events (length c.args.made.now.entries)) ps) (ap event_parents c.in-Commit.is ∙ sym c.as_slice-parents.ensures) all

@@ -1,0 +1,10 @@
+pub mod Entries
+pub mod Expansions
+pub mod Flags
+pub mod Joined
+pub mod Outcome
+pub mod Rows
+pub mod Slots
+pub mod Taking
+pub mod UnderWay
+pub mod Waiters
