@@ -1,0 +1,6 @@
+pub mod BitLemmas
+pub mod Histories
+pub mod LiveLemmas
+pub mod NearLemmas
+pub mod OnceLemmas
+pub mod SetLemmas
