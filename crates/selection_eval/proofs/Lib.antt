@@ -1,0 +1,17 @@
+mod Arms
+mod BigLaws
+mod Found
+mod DayTexts
+mod Examples
+mod Judged
+mod LiveLaws
+mod LiveParts
+mod Marks
+mod NameSteps
+mod OnceLaws
+mod OnceParts
+mod PathMarks
+mod Powers
+mod SoundLaws
+mod Steps
+mod TipSteps

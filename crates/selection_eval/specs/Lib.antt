@@ -1,0 +1,10 @@
+pub mod Days
+pub mod Denoted
+pub mod Examples
+pub mod Fields
+pub mod Given
+pub mod Moments
+pub mod Names
+pub mod Paths
+pub mod Spots
+pub mod Turning
