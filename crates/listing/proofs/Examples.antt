@@ -2,7 +2,6 @@
 use Rattle.std.proofs.Common.{ℕ, ◌≤◌, inl, inr, refl, sym, subst, eqb, lit≤, rules}
 use Rattle.std.proofs.lemmas.Bool.{cases_Bool, eqb-true, true≢false}
 use Rattle.std.specs.Prelude.{IsSome}
-use Rattle.plain_model.specs.declared.id.AnyId.TheVariants as any
 use Rattle.plain_model.specs.Histories.{tree}
 use Rattle.plain_model.specs.Lookups.{AreIdsBelow}
 use Rattle.plain_model.specs.Soundness.{IsCommitOf, IsFormedSigned, IsSound}

@@ -8,11 +8,12 @@ use Rattle.plain_model.specs.declared.event.PlainEvent.{PlainEvent}
 use Rattle.plain_model.specs.declared.event.PlainEvent.TheVariants as plain
 use Rattle.plain_model.specs.Lookups.{find_event, id_of, same_id}
 use Rattle.plain_model.specs.Snapshots.{commit_mark}
+use Rattle.plain_model.specs.Text.{blob_mark_in}
 use Rattle.plain_model.specs.declared.limit.TheConstants.{MAX_SECONDS}
 use Rattle.plain_model.specs.declared.person.Signed.{Signed}
 use Rattle.plain_model.specs.Soundness.{AreSoundAfter, IsFormedSigned, IsSoundEvent}
 use Rattle.plain_model.proofs.Numbers.{eqb_turned}
-use Rattle.listing.specs.Finding.{IsDated, own_commit_mark}
+use Rattle.listing.specs.Finding.{IsDated, own_blob_mark, own_commit_mark}
 
 -- ---- dates and marks
 
@@ -47,6 +48,19 @@ mark_found (plain.Blob id mark bytes ∷ es) c = mark_found es c
 mark_found (plain.Tag id name target tagger comment mark ∷ es) c = mark_found es c
 mark_found (plain.Reset id branch target ∷ es) c = mark_found es c
 mark_found (plain.Pass id line ∷ es) c = mark_found es c
+
+-- the mark of a blob is that of the event with its id
+pub blob_mark_found : (whole events : List PlainEvent) (b : ℕ)
+    → blob_mark_in whole events b ≡ unwrap_or (option_map own_blob_mark (find_event (any.Blob b) events)) 0
+blob_mark_found whole [] b = refl
+blob_mark_found whole (plain.Blob id mark bytes ∷ es) b = elim (cases_Bool (eqb b id)) [
+  | inl it ↦ rw (eqb_turned id b, it) refl
+  | inr no_it ↦ rw (eqb_turned id b, no_it) (blob_mark_found whole es b)
+]
+blob_mark_found whole (plain.Commit id mark branch author committer encoding comment parents ops aliases ∷ es) b = blob_mark_found whole es b
+blob_mark_found whole (plain.Tag id name target tagger comment mark ∷ es) b = blob_mark_found whole es b
+blob_mark_found whole (plain.Reset id branch target ∷ es) b = blob_mark_found whole es b
+blob_mark_found whole (plain.Pass id line ∷ es) b = blob_mark_found whole es b
 
 -- ---- options seen through a function
 

@@ -1,3 +1,6 @@
 pub mod Examples
 pub mod Found
+pub mod KindCounts
 pub mod Lines
+pub mod ManifestLemmas
+pub mod StampLemmas

@@ -1,17 +1,21 @@
--- Worked histories with their lists: an export of a small repository, and one of rarer events. (own)
+-- Worked histories with their lists: an export of a small repository, one of rarer events, and one with stamps that are
+-- shared. (own)
 use Rattle.std.specs.Prelude.{◌≡◌, ℕ, List, [], ◌∷◌, ◌++◌, map, Some, None, codes, false}
 use Rattle.plain_model.specs.declared.id.AnyId.{AnyId}
 use Rattle.plain_model.specs.declared.id.AnyId.TheVariants as any
-use Rattle.plain_model.specs.declared.operation.Mode.TheVariants.{Plain, Gitlink}
+use Rattle.plain_model.specs.declared.operation.Mode.TheVariants.{Plain, Executable, Gitlink}
 use Rattle.plain_model.specs.declared.operation.Content.TheVariants.{Blob as OfBlob, Object}
 use Rattle.plain_model.specs.declared.operation.FileOp.{FileOp}
-use Rattle.plain_model.specs.declared.operation.FileOp.TheVariants.{Modify}
+use Rattle.plain_model.specs.declared.operation.FileOp.TheVariants.{Modify, Delete}
 use Rattle.plain_model.specs.declared.person.Signed.{Signed}
 use Rattle.plain_model.specs.declared.event.PlainEvent.{PlainEvent}
 use Rattle.plain_model.specs.declared.event.PlainEvent.TheVariants.{Blob, Commit, Tag, Reset, Pass}
 use Rattle.plain_model.specs.Lookups.{id_of}
 use Rattle.plain_model.specs.Paths.{Bytes}
 use Rattle.listing.specs.Listings.{index_text, list_text, names_text}
+use Rattle.listing.specs.Stamps.{stamp_text}
+use Rattle.listing.specs.Summaries.{resolve_text, summary_text}
+use Rattle.listing.specs.TreeListings.{manifest_text}
 
 -- Ann, at so many seconds
 abbrev pub by_ann : ℕ → Signed
@@ -72,6 +76,23 @@ pub record ExportedLists : Type 0 where
       ++ codes "branch refs/heads/topic :4\n"
       ++ codes "branch refs/tags/light :6\n"
       ++ codes "tag v1.0 :6\n"
+  pub stamp : stamp_text exported (map id_of exported) ≡
+      codes "2011-05-25T00:00:00Z!ann@example.com\n"
+      ++ codes "2011-05-25T00:10:00Z!ann@example.com\n"
+      ++ codes "2011-05-25T00:20:00Z!ann@example.com\n"
+      ++ codes "2011-05-25T00:30:00Z!ann@example.com\n"
+  pub resolve : resolve_text exported (any.Commit 5 ∷ any.Blob 1 ∷ []) ≡ codes "5 1\n"
+  pub nothing_resolved : resolve_text exported [] ≡ codes "\n"
+  pub summary : summary_text (codes "git") exported ≡
+      codes "git: 9 events, 2 blobs, 4 commits, 1 tags, 2 resets, 0 passthroughs\n"
+  pub manifest : manifest_text exported (any.Commit 5 ∷ any.Blob 4 ∷ any.Commit 7 ∷ []) ≡
+      codes "commit :4\n"
+      ++ codes "100644 :1 README\n"
+      ++ codes "100644 :3 lib.c\n"
+      ++ codes "commit :6\n"
+      ++ codes "100644 :1 README\n"
+      ++ codes "100644 :3 lib.c\n"
+      ++ codes "160000 0123456789abcdef0123456789abcdef01234567 sub\n"
 
 -- ---- rarer events
 
@@ -127,3 +148,52 @@ pub record RarerLists : Type 0 where
       ++ codes "     2 commit :70 main\n"
       ++ codes "     7 reset - side\n"
       ++ codes "     5 tag :8 a\n"
+  pub summary : summary_text (codes "r") rarer ≡
+      codes "r: 8 events, 0 blobs, 2 commits, 2 tags, 3 resets, 1 passthroughs\n"
+  pub resolve : resolve_text rarer chosen ≡ codes "5 2 7 5\n"
+
+-- ---- stamps that are shared
+
+-- a person known by an email, at so many seconds
+abbrev pub by : Bytes → ℕ → Signed
+by email seconds = record {
+  person = record { name = []; email = email };
+  when = record { seconds = seconds; minus = false; offset = 0 };
+}
+
+abbrev pub commit_by : ℕ → Bytes → ℕ → List ℕ → FileOp → PlainEvent
+commit_by id email seconds parents op = Commit id id master (by email 5) (by email seconds) None [] parents (op ∷ []) []
+
+abbrev pub ann : Bytes
+ann = codes "ann@x"
+
+abbrev pub bob : Bytes
+bob = codes "bob@x"
+
+-- two commits in one second by one person, two in one second by two; a path that is written in quotes, and one with a
+-- space
+unfoldable pub shared : List PlainEvent
+shared =
+    Blob 1 1 (codes "1")
+    ∷ commit_by 2 ann 150 [] (put_file 1 (codes "\"q"))
+    ∷ commit_by 3 bob 200 (2 ∷ []) put_link
+    ∷ commit_by 4 bob 150 (3 ∷ []) (Modify Executable (OfBlob 1) (codes "a b"))
+    ∷ commit_by 5 bob 200 (4 ∷ []) (Delete (codes "sub"))
+    ∷ []
+
+pub record SharedLists : Type 0 where
+  pub stamp : stamp_text shared (map id_of shared) ≡
+      codes "1970-01-01T00:02:30Z!ann@x\n"
+      ++ codes "1970-01-01T00:03:20Z!bob@x#1\n"
+      ++ codes "1970-01-01T00:02:30Z!bob@x\n"
+      ++ codes "1970-01-01T00:03:20Z!bob@x#2\n"
+  -- the number counts all commits of the history, and not those that are chosen
+  pub last_stamp : stamp_text shared (any.Commit 5 ∷ []) ≡ codes "1970-01-01T00:03:20Z!bob@x#2\n"
+  pub manifest : manifest_text shared (any.Commit 5 ∷ any.Commit 4 ∷ any.Commit 9 ∷ []) ≡
+      codes "commit :5\n"
+      ++ codes "100644 :1 \"\\\"q\"\n"
+      ++ codes "100755 :1 a b\n"
+      ++ codes "commit :4\n"
+      ++ codes "100644 :1 \"\\\"q\"\n"
+      ++ codes "100755 :1 a b\n"
+      ++ codes "160000 0123456789abcdef0123456789abcdef01234567 sub\n"

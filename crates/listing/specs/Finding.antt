@@ -19,3 +19,11 @@ own_commit_mark (Blob id mark bytes) = 0
 own_commit_mark (Tag id name target tagger comment mark) = 0
 own_commit_mark (Reset id branch target) = 0
 own_commit_mark (Pass id line) = 0
+
+-- the mark of a blob; of other events 0
+abbrev pub own_blob_mark : PlainEvent → ℕ
+own_blob_mark (Blob id mark bytes) = mark
+own_blob_mark (Commit id mark branch author committer encoding comment parents ops aliases) = 0
+own_blob_mark (Tag id name target tagger comment mark) = 0
+own_blob_mark (Reset id branch target) = 0
+own_blob_mark (Pass id line) = 0

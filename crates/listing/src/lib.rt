@@ -5,10 +5,16 @@ mod events;
 mod fields;
 mod finding;
 mod lists;
+mod stamps;
+mod summaries;
+mod trees;
 mod worked;
 
 pub use finding::all;
 pub use lists::{index, list, names};
+pub use stamps::stamp;
+pub use summaries::{resolve, summary};
+pub use trees::manifest;
 pub use worked::worked_lists;
 
 #[cfg(test)]

@@ -13,6 +13,7 @@ ghost use Rattle.listing.specs.Examples.{
 
 use crate::*;
 use event_arena::Events;
+use manifest_cache::Manifests;
 use plain_model::{
     AnyId, BlobId, CommitId, Content, EventList, FileOp, Items, Mark, Mode, ObjectId, PassId, Path,
     Person, PlainEvent, ResetId, Signed, TagId, Text, When,
@@ -391,5 +392,51 @@ fn chosen_events_stand_in_the_order_of_the_choice(rt: HostRuntime) -> Result<(),
      5 tag :8 a
 ";
     assert_eq!(rt; indexed.as_slice(), want);
+    Ok(())
+}
+
+#[test]
+fn stamps_and_trees_of_an_export_are_printed_byte_for_byte(rt: HostRuntime) -> Result<(), Fail> {
+    let alloc = rt.alloc();
+    let events = exported_history(alloc)?;
+    let ids = all(alloc, &events)?;
+    let mut out = text(alloc, b"stamp\n")?;
+    stamp(&events, ids.as_slice(), &mut out)?;
+    let want: &[u8] = b"stamp
+2011-05-25T00:00:00Z!ann@example.com
+2011-05-25T00:10:00Z!ann@example.com
+2011-05-25T00:20:00Z!ann@example.com
+2011-05-25T00:30:00Z!ann@example.com
+";
+    assert_eq!(rt; out.as_slice(), want);
+    let mut manifests = Manifests::new(alloc)?;
+    let mut out = text(alloc, b"manifest\n")?;
+    let chosen = [AnyId::Commit(CommitId::new(7)), AnyId::Blob(BlobId::new(4))];
+    manifest(&events, &mut manifests, &chosen, &mut out)?;
+    let want: &[u8] = b"manifest
+commit :6
+100644 :1 README
+100644 :3 lib.c
+160000 0123456789abcdef0123456789abcdef01234567 sub
+";
+    assert_eq!(rt; out.as_slice(), want);
+    Ok(())
+}
+
+#[test]
+fn an_export_is_summed_up_byte_for_byte(rt: HostRuntime) -> Result<(), Fail> {
+    let alloc = rt.alloc();
+    let events = exported_history(alloc)?;
+    let mut out = text(alloc, b"lines\n")?;
+    let chosen = [AnyId::Commit(CommitId::new(5)), AnyId::Blob(BlobId::new(1))];
+    resolve(&events, &chosen, &mut out)?;
+    resolve(&events, &[], &mut out)?;
+    summary(b"git", &events, &mut out)?;
+    let want: &[u8] = b"lines
+5 1
+
+git: 9 events, 2 blobs, 4 commits, 1 tags, 2 resets, 0 passthroughs
+";
+    assert_eq!(rt; out.as_slice(), want);
     Ok(())
 }
