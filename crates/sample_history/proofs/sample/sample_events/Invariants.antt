@@ -1,0 +1,7 @@
+use Rattle.std.proofs.Common.{◌≡◌, ◌+◌, ◌-◌, ◌++◌}
+use Rattle.sample_history.specs.Sample.{sample_from}
+use Rattle.sample_history.proofs.sample.sample_events.Given as goal
+
+abbrev pub invariant-loop-before : goal.invariant-loop-before
+invariant-loop-before l =
+    l.list ++ sample_from (l.count - l.before) (l.before + 1) l.state ≡ sample_from l.count 1 l.fn.start

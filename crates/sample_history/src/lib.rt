@@ -1,0 +1,12 @@
+//! A history of any size that a number determines, for trials of what takes much time or memory.
+#![tactic(auto)]
+
+mod parts;
+mod sample;
+mod worked;
+
+pub use sample::sample_events;
+pub use worked::worked_samples;
+
+#[cfg(test)]
+mod tests;
