@@ -6,12 +6,16 @@ use Rattle.plain_model.specs.declared.fault.Fault.TheVariants as fault
 use Rattle.plain_model.specs.declared.fault.Which.TheVariants as limit
 use Rattle.plain_model.specs.declared.limit.TheConstants.{MAX_LINE_BYTES}
 use Rattle.script_reader.specs.Answering.{◌>>=◌}
-use Rattle.script_reader.specs.Names.{repo_name, is_repo_name}
+use Rattle.script_reader.specs.Keywords.{keyword_of}
+use Rattle.script_reader.specs.Names.{repo_name, is_given_name, is_repo_name}
 use Rattle.script_reader.specs.Redirections.{begins_with_sign, redirected}
+use Rattle.script_reader.specs.Selecting.{Front, front_of, is_superfluous}
 use Rattle.script_reader.specs.Words.{head_of, after_head, words_of, text_of}
 use Rattle.script_reader.specs.declared.command.Command.{Command}
 use Rattle.script_reader.specs.declared.command.Command.TheVariants as command
 use Rattle.script_reader.specs.declared.command.Call.{Call}
+use Rattle.script_reader.specs.declared.command.Listing.{Listing}
+use Rattle.script_reader.specs.declared.command.Listing.TheVariants as listing
 use Rattle.script_reader.specs.declared.command.Order.{Order}
 use Rattle.script_reader.specs.declared.command.Order.TheVariants as order
 use Rattle.script_reader.specs.declared.keyword.Keyword.{Keyword}
@@ -111,68 +115,79 @@ drop_form words = name_within words >>= λ name. Ok (drop_of name)
 unfoldable pub renumber_form : List Word → Result Command Fault
 renumber_form words = alone command.Renumber words
 
--- `list [>FILE]`
-unfoldable pub list_form : List Word → Result Command Fault
-list_form words = output_in words >>= λ to. Ok (command.List to)
+-- a text of some events: `[sel] list [>FILE]`, and so on
+unfoldable pub show_form : Option Bytes → Listing → List Word → Result Command Fault
+show_form selection what words = output_in words >>= λ to. Ok (command.Show selection what to)
 
--- `index [>FILE]`
-unfoldable pub index_form : List Word → Result Command Fault
-index_form words = output_in words >>= λ to. Ok (command.Index to)
+-- a name that a script gives
+abbrev pub if_given : Option Bytes → Option Bytes
+if_given None = None
+if_given (Some text) = if is_given_name text then Some text else None
+
+-- `sel assign NAME`
+unfoldable pub assign_form : Option Bytes → List Word → Result Command Fault
+assign_form None words = Err (fault.BadWords (codes "assign"))
+assign_form (Some selection) [] = Err (fault.BadWords (codes "assign"))
+assign_form (Some selection) (word ∷ words) =
+    or_at_fault word (if_given (whole_in word)) >>= λ name. alone (command.Assign selection name) words
 
 -- `names [>FILE]`
 unfoldable pub names_form : List Word → Result Command Fault
 names_form words = output_in words >>= λ to. Ok (command.Names to)
 
--- `do NAME [WORD ..]`
-unfoldable pub do_form : List Word → Result Call Fault
-do_form [] = Err (fault.BadWords (codes "do"))
-do_form (word ∷ words) =
-    or_at_fault word (text_before words word) >>= λ name. texts_in words >>= λ texts. Ok (record { name = name; words = texts })
+-- `summary [>FILE]`
+unfoldable pub summary_form : List Word → Result Command Fault
+summary_form words = output_in words >>= λ to. Ok (command.Summary to)
+
+-- `[sel] do NAME [WORD ..]`
+unfoldable pub do_form : Option Bytes → List Word → Result Call Fault
+do_form selection [] = Err (fault.BadWords (codes "do"))
+do_form selection (word ∷ words) =
+    or_at_fault word (text_before words word) >>= λ name. texts_in words >>= λ texts.
+    Ok (record { selection = selection; name = name; words = texts })
 
 abbrev pub steps : Result Command Fault → Result Order Fault
 steps command = command >>= λ what. Ok (order.Step what)
 
--- the order of a command word and the words after it; a `define` that is run is no definition
-abbrev pub form_of : Keyword → List Word → Result Order Fault
-form_of keyword.Read words = steps (read_form words)
-form_of keyword.Write words = steps (write_form words)
-form_of keyword.Choose words = steps (choose_form words)
-form_of keyword.Drop words = steps (drop_form words)
-form_of keyword.Renumber words = steps (renumber_form words)
-form_of keyword.List words = steps (list_form words)
-form_of keyword.Index words = steps (index_form words)
-form_of keyword.Names words = steps (names_form words)
-form_of keyword.Do words = do_form words >>= λ call. Ok (order.Do call)
-form_of keyword.Define words = Err (fault.BadWords (codes "define"))
+-- the order of a command word with the selection before it and the words after it; a `define` that is run is no definition
+abbrev pub form_of : Option Bytes → Keyword → List Word → Result Order Fault
+form_of selection keyword.Read words = steps (read_form words)
+form_of selection keyword.Write words = steps (write_form words)
+form_of selection keyword.Choose words = steps (choose_form words)
+form_of selection keyword.Drop words = steps (drop_form words)
+form_of selection keyword.Renumber words = steps (renumber_form words)
+form_of selection keyword.List words = steps (show_form selection listing.List words)
+form_of selection keyword.Index words = steps (show_form selection listing.Index words)
+form_of selection keyword.Stamp words = steps (show_form selection listing.Stamp words)
+form_of selection keyword.Resolve words = steps (show_form selection listing.Resolve words)
+form_of selection keyword.Manifest words = steps (show_form selection listing.Manifest words)
+form_of selection keyword.Assign words = steps (assign_form selection words)
+form_of selection keyword.Names words = steps (names_form words)
+form_of selection keyword.Summary words = steps (summary_form words)
+form_of selection keyword.Do words = do_form selection words >>= λ call. Ok (order.Do call)
+form_of selection keyword.Define words = Err (fault.BadWords (codes "define"))
 
 -- ---- a line
 
--- the command word that bytes are; case counts
-unfoldable pub keyword_of : Bytes → Option Keyword
-keyword_of word =
-    if bytes_eq word (codes "read") then Some keyword.Read else
-    if bytes_eq word (codes "write") then Some keyword.Write else
-    if bytes_eq word (codes "choose") then Some keyword.Choose else
-    if bytes_eq word (codes "drop") then Some keyword.Drop else
-    if bytes_eq word (codes "renumber") then Some keyword.Renumber else
-    if bytes_eq word (codes "list") then Some keyword.List else
-    if bytes_eq word (codes "index") then Some keyword.Index else
-    if bytes_eq word (codes "names") then Some keyword.Names else
-    if bytes_eq word (codes "do") then Some keyword.Do else
-    if bytes_eq word (codes "define") then Some keyword.Define else None
-
--- the order of such a word, if it is one
-abbrev pub order_in : Bytes → Option Keyword → List Word → Result Order Fault
-order_in head None words = Err (fault.UnknownCommand head)
-order_in head (Some word) words = form_of word words
+-- the order of a command word, if it is one; a selection that it doesn't take is at fault before its words
+abbrev pub order_in : Option Bytes → Bytes → Option Keyword → List Word → Result Order Fault
+order_in selection head None words = Err (fault.UnknownCommand head)
+order_in selection head (Some word) words =
+    if is_superfluous selection word then Err (fault.BadWords head) else form_of selection word words
 
 -- more bytes than a line may have
 abbrev pub is_long : Bytes → Bool
 is_long line = nat_lt MAX_LINE_BYTES (length line)
 
--- The order of a line that was trimmed, if it isn't too long: its command word goes up to the first blank. A line that doesn't
--- begin with a letter has none of these words.
+-- what is reported of such a line
+abbrev pub too_long : Fault
+too_long = fault.ExpansionLimit limit.LineBytes MAX_LINE_BYTES
+
+-- the order that is after a line's selection: its command word goes up to the first blank
+abbrev pub order_after : Front → Result Order Fault
+order_after front =
+    order_in front.selection (head_of front.rest) (keyword_of (head_of front.rest)) (words_of (after_head front.rest))
+
+-- the order of a line that was trimmed, if it isn't too long
 unfoldable pub order_of : Bytes → Result Order Fault
-order_of line =
-    if is_long line then Err (fault.ExpansionLimit limit.LineBytes MAX_LINE_BYTES)
-    else order_in (head_of line) (keyword_of (head_of line)) (words_of (after_head line))
+order_of line = if is_long line then Err too_long else front_of line >>= order_after

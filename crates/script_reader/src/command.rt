@@ -2,13 +2,14 @@
 ghost use Rattle.std.specs.Prelude.{◌≡◌};
 ghost use Rattle.plain_model.specs.Faults.{Returns};
 ghost use Rattle.script_reader.specs.Answering.{Refuses};
-ghost use Rattle.script_reader.specs.Commands.{is_long, order_of};
+ghost use Rattle.script_reader.specs.Commands.{is_long, order_after, order_of, too_long};
 ghost use Rattle.plain_model.specs.declared.fault.Fault.TheVariants.{UnknownCommand};
 
-use crate::form::form;
+use crate::form::{bad_words, form};
 use crate::keyword::Keyword;
 use crate::script::LineList;
 use crate::script_text::ScriptText;
+use crate::selecting::{WrittenSelection, cut_front, is_superfluous};
 use crate::words::{cut_head, words_in};
 use plain_model::{Fault, Halt, Items, MAX_LINE_BYTES, NoMemory, Text, Which};
 use std::alloc::Global;
@@ -18,30 +19,68 @@ use std::alloc::Global;
 #[derive(Drop)]
 pub enum Command {
     /// Loads the history of a file, as a repository of that name.
-    Read { file: ScriptText, name: Text },
+    Read {
+        file: ScriptText,
+        name: Text,
+    },
     /// Writes the chosen history into a file, or prints it.
-    Write { to: Option<ScriptText> },
+    Write {
+        to: Option<ScriptText>,
+    },
     /// Chooses the repository of that name.
-    Choose { name: Text },
+    Choose {
+        name: Text,
+    },
     /// Prints the names of the repositories: the word `choose` alone.
     ShowRepos,
     /// Forgets the repository of that name.
-    Drop { name: Text },
+    Drop {
+        name: Text,
+    },
     /// Forgets the chosen repository: the word `drop` alone.
     DropChosen,
     /// Gives the marks anew, in the list's order.
     Renumber,
-    /// Prints a line for each commit and tag.
-    List { to: Option<ScriptText> },
-    /// Prints a line for each event.
-    Index { to: Option<ScriptText> },
+    /// Prints a text of the selected events, or of all where none is written.
+    Show {
+        selection: Option<WrittenSelection>,
+        what: Listing,
+        to: Option<ScriptText>,
+    },
+    /// Keeps the selected events under a name.
+    Assign {
+        selection: WrittenSelection,
+        name: Text,
+    },
     /// Prints a line for each branch and tag.
-    Names { to: Option<ScriptText> },
+    Names {
+        to: Option<ScriptText>,
+    },
+    /// Prints a line with the counts of the events.
+    Summary {
+        to: Option<ScriptText>,
+    },
 }
 
-/// A macro that is to be run, and the words for its places.
+/// What is printed of events.
+#[derive(Clone, Copy)]
+pub enum Listing {
+    /// A line for each commit and tag.
+    List,
+    /// A line for each event.
+    Index,
+    /// The stamp of each commit.
+    Stamp,
+    /// The numbers of the events.
+    Resolve,
+    /// The files of each commit.
+    Manifest,
+}
+
+/// A macro that is to be run, the words for its places, and the selection for those of its lines that take one.
 #[derive(Drop)]
 pub struct Call {
+    pub selection: Option<WrittenSelection>,
     pub name: ScriptText,
     pub words: LineList,
 }
@@ -72,26 +111,51 @@ pub fn is_long(line: &str) -> bool
     line.len() as u64 > MAX_LINE_BYTES
 }
 
+/// What is reported of such a line.
+pub fn too_long() -> Fault
+    ensures { result ≡ too_long }
+{
+    Fault::ExpansionLimit {
+        which: Which::LineBytes,
+        number: MAX_LINE_BYTES,
+    }
+}
+
+// The order that is after a line's selection.
+fn order_after(
+    alloc: Global,
+    selection: Option<WrittenSelection>,
+    rest: &str,
+) -> Result<Order, Halt>
+    ensures { Returns (λ order. order) result
+        (order_after (record { selection = selection; rest = rest.now })) }
+{
+    let (head, after) = cut_head(rest);
+    match Keyword::of(head.as_bytes()) {
+        Some(keyword) if is_superfluous(&selection, keyword) => {
+            Err(bad_words(alloc, head.as_bytes()))
+        }
+        Some(keyword) => {
+            let words = words_in(alloc, after)?;
+            form(alloc, selection, keyword, words.as_slice())
+        }
+        None => Err(unknown(alloc, head)),
+    }
+}
+
 impl Order {
-    /// Reads a line without blanks and CR at its ends. Refused where it is too long, with its command word where there is no
-    /// such command, else with its first word that doesn't fit.
+    /// Reads a line without blanks and CR at its ends. Refused where it is too long, where it begins with neither a letter nor a
+    /// selection, with its command word where there is no such command, else with its first word that doesn't fit.
     #[tactic(auto, unfolding(crate::specs::Commands::order_of))]
     pub fn read(alloc: Global, line: &str) -> Result<Order, Halt>
         ensures { Returns (λ order. order) result (order_of line.now) }
     {
         if is_long(line) {
-            return Err(Halt::Refused(Fault::ExpansionLimit {
-                which: Which::LineBytes,
-                number: MAX_LINE_BYTES,
-            }));
+            return Err(Halt::Refused(too_long()));
         }
-        let (head, after) = cut_head(line);
-        match Keyword::of(head.as_bytes()) {
-            Some(keyword) => {
-                let words = words_in(alloc, after)?;
-                form(alloc, keyword, words.as_slice())
-            }
-            None => Err(unknown(alloc, head)),
+        match cut_front(alloc, line) {
+            Ok(front) => order_after(alloc, front.selection, front.rest),
+            Err(halt) => Err(halt),
         }
     }
 }

@@ -4,12 +4,12 @@ ghost use Rattle.plain_model.specs.declared.fault.Fault.TheVariants.{BadWords};
 ghost use Rattle.plain_model.specs.Faults.{Returns};
 ghost use Rattle.script_reader.specs.Answering.{Refuses};
 ghost use Rattle.script_reader.specs.Commands.{
+  assign_form,
   choose_form,
   do_form,
   drop_form,
   form_of,
-  index_form,
-  list_form,
+  if_given,
   name_in,
   name_within,
   names_form,
@@ -18,25 +18,31 @@ ghost use Rattle.script_reader.specs.Commands.{
   read_form,
   read_of,
   renumber_form,
+  show_form,
+  steps,
+  summary_form,
   text_before,
   texts_in,
+  whole_in,
   write_form,
 };
 ghost use Rattle.script_reader.specs.Redirections.{redirected};
 ghost use Rattle.script_reader.specs.Words.{text_of};
 
-use crate::command::{Call, Command, Order};
+use crate::command::{Call, Command, Listing, Order};
+use crate::definition::is_given_name;
 use crate::keyword::Keyword;
 use crate::redirection::{Direction, begins_with_sign, redirected};
 use crate::repo_name::{is_repo_name, repo_name};
 use crate::script::LineList;
 use crate::script_text::ScriptText;
+use crate::selecting::WrittenSelection;
 use crate::word::Word;
 use plain_model::{Fault, Halt, Items, NoMemory, Text};
 use std::alloc::Global;
 
-// The refusal of a line with this word, which is the first at fault.
-fn bad_words(alloc: Global, word: &[u8]) -> Halt
+/// The refusal of a line with this word, which is the first at fault.
+pub fn bad_words(alloc: Global, word: &[u8]) -> Halt
     ensures { Refuses result (BadWords word.now) }
 {
     match Items::of(alloc, word) {
@@ -171,22 +177,60 @@ fn renumber(alloc: Global, words: &[Word]) -> Result<Command, Halt>
     }
 }
 
-// `list [>FILE]`
-#[tactic(auto, unfolding(crate::specs::Commands::list_form))]
-fn list(alloc: Global, words: &[Word]) -> Result<Command, Halt>
-    ensures { Returns (λ command. command) result (list_form words.now) }
+// `[sel] list [>FILE]`, and so on
+#[tactic(auto, unfolding(crate::specs::Commands::show_form))]
+fn show(
+    alloc: Global,
+    selection: Option<WrittenSelection>,
+    what: Listing,
+    words: &[Word],
+) -> Result<Command, Halt>
+    ensures { Returns (λ command. command) result (show_form selection what words.now) }
 {
     let to = output(alloc, words)?;
-    Ok(Command::List { to })
+    Ok(Command::Show {
+        selection,
+        what,
+        to,
+    })
 }
 
-// `index [>FILE]`
-#[tactic(auto, unfolding(crate::specs::Commands::index_form))]
-fn index(alloc: Global, words: &[Word]) -> Result<Command, Halt>
-    ensures { Returns (λ command. command) result (index_form words.now) }
+// The name that a word gives, if a script may give it.
+fn given_name(alloc: Global, word: &Word) -> Result<Text, Halt>
+    ensures { Returns (λ name. name) result
+        (or_at_fault word.now (if_given (whole_in word.now))) }
 {
-    let to = output(alloc, words)?;
-    Ok(Command::Index { to })
+    match word {
+        Word::Plain(text) | Word::Quoted(text) if is_given_name(text.as_bytes()) => {
+            Ok(Items::of(alloc, text.as_bytes())?)
+        }
+        _ => Err(at_fault(alloc, word)),
+    }
+}
+
+// `sel assign NAME`
+#[tactic(auto, unfolding(crate::specs::Commands::assign_form))]
+fn assign(
+    alloc: Global,
+    selection: Option<WrittenSelection>,
+    words: &[Word],
+) -> Result<Command, Halt>
+    ensures { Returns (λ command. command) result (assign_form selection words.now) }
+{
+    let Some(selection) = selection else {
+        return Err(bad_words(alloc, b"assign"));
+    };
+    match words {
+        [] => Err(bad_words(alloc, b"assign")),
+        [word] => Ok(Command::Assign {
+            selection,
+            name: given_name(alloc, word)?,
+        }),
+        [word, next, ..] => {
+            let _ = given_name(alloc, word)?;
+            Err(at_fault(alloc, next))
+        }
+    }
 }
 
 // `names [>FILE]`
@@ -196,6 +240,15 @@ fn names(alloc: Global, words: &[Word]) -> Result<Command, Halt>
 {
     let to = output(alloc, words)?;
     Ok(Command::Names { to })
+}
+
+// `summary [>FILE]`
+#[tactic(auto, unfolding(crate::specs::Commands::summary_form))]
+fn summary(alloc: Global, words: &[Word]) -> Result<Command, Halt>
+    ensures { Returns (λ command. command) result (summary_form words.now) }
+{
+    let to = output(alloc, words)?;
+    Ok(Command::Summary { to })
 }
 
 // A word as a text, before such others. Only the last word can be a redirection.
@@ -223,35 +276,56 @@ fn texts_in(alloc: Global, words: &[Word]) -> Result<LineList, Halt>
     Ok(texts)
 }
 
-// `do NAME [WORD ..]`
+// `[sel] do NAME [WORD ..]`
 #[tactic(auto, unfolding(crate::specs::Commands::do_form))]
-fn call(alloc: Global, words: &[Word]) -> Result<Call, Halt>
-    ensures { Returns (λ call. call) result (do_form words.now) }
+fn call(alloc: Global, selection: Option<WrittenSelection>, words: &[Word]) -> Result<Call, Halt>
+    ensures { Returns (λ call. call) result (do_form selection words.now) }
 {
     match words {
         [] => Err(bad_words(alloc, b"do")),
         [word, others @ ..] => Ok(Call {
+            selection,
             name: text_before(alloc, others, word)?,
             words: texts_in(alloc, others)?,
         }),
     }
 }
 
-/// The order of a command word and the words after it.
-pub fn form(alloc: Global, keyword: Keyword, words: &[Word]) -> Result<Order, Halt>
-    ensures { Returns (λ order. order) result (form_of keyword words.now) }
+// What a line orders that has a command of a session.
+fn steps(command: Result<Command, Halt>) -> Result<Order, Halt>
+    ensures { (expected : _) → Returns (λ command. command) command expected
+        → Returns (λ order. order) result (steps expected) }
 {
-    let command = match keyword {
-        Keyword::Read => read(alloc, words)?,
-        Keyword::Write => write(alloc, words)?,
-        Keyword::Choose => choose(alloc, words)?,
-        Keyword::Drop => forget(alloc, words)?,
-        Keyword::Renumber => renumber(alloc, words)?,
-        Keyword::List => list(alloc, words)?,
-        Keyword::Index => index(alloc, words)?,
-        Keyword::Names => names(alloc, words)?,
-        Keyword::Do => return Ok(Order::Do(call(alloc, words)?)),
-        Keyword::Define => return Err(bad_words(alloc, b"define")),
-    };
-    Ok(Order::Step(command))
+    match command {
+        Ok(command) => Ok(Order::Step(command)),
+        Err(halt) => Err(halt),
+    }
+}
+
+/// The order of a command word with the selection before it and the words after it.
+pub fn form(
+    alloc: Global,
+    selection: Option<WrittenSelection>,
+    keyword: Keyword,
+    words: &[Word],
+) -> Result<Order, Halt>
+    ensures { Returns (λ order. order) result (form_of selection keyword words.now) }
+{
+    match keyword {
+        Keyword::Read => steps(read(alloc, words)),
+        Keyword::Write => steps(write(alloc, words)),
+        Keyword::Choose => steps(choose(alloc, words)),
+        Keyword::Drop => steps(forget(alloc, words)),
+        Keyword::Renumber => steps(renumber(alloc, words)),
+        Keyword::List => steps(show(alloc, selection, Listing::List, words)),
+        Keyword::Index => steps(show(alloc, selection, Listing::Index, words)),
+        Keyword::Stamp => steps(show(alloc, selection, Listing::Stamp, words)),
+        Keyword::Resolve => steps(show(alloc, selection, Listing::Resolve, words)),
+        Keyword::Manifest => steps(show(alloc, selection, Listing::Manifest, words)),
+        Keyword::Assign => steps(assign(alloc, selection, words)),
+        Keyword::Names => steps(names(alloc, words)),
+        Keyword::Summary => steps(summary(alloc, words)),
+        Keyword::Do => Ok(Order::Do(call(alloc, selection, words)?)),
+        Keyword::Define => Err(bad_words(alloc, b"define")),
+    }
 }

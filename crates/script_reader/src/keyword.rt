@@ -1,6 +1,7 @@
 //! Command words.
 ghost use Rattle.std.specs.Prelude.{◌≡◌};
-ghost use Rattle.script_reader.specs.Commands.{keyword_of};
+ghost use Rattle.script_reader.specs.Keywords.{keyword_of};
+ghost use Rattle.script_reader.specs.Selecting.{takes_selection};
 
 /// A command word. (reposurgeon manual)
 #[derive(Clone, Copy)]
@@ -12,14 +13,19 @@ pub enum Keyword {
     Renumber,
     List,
     Index,
+    Stamp,
+    Resolve,
+    Manifest,
+    Assign,
     Names,
+    Summary,
     Do,
     Define,
 }
 
 impl Keyword {
     /// The command word that these bytes are; case counts.
-    #[tactic(auto, unfolding(crate::specs::Commands::keyword_of))]
+    #[tactic(auto, unfolding(crate::specs::Keywords::keyword_of))]
     pub fn of(word: &[u8]) -> Option<Keyword>
         ensures { result ≡ keyword_of word.now }
     {
@@ -37,14 +43,40 @@ impl Keyword {
             Some(Keyword::List)
         } else if word == b"index".as_slice() {
             Some(Keyword::Index)
+        } else if word == b"stamp".as_slice() {
+            Some(Keyword::Stamp)
+        } else if word == b"resolve".as_slice() {
+            Some(Keyword::Resolve)
+        } else if word == b"manifest".as_slice() {
+            Some(Keyword::Manifest)
+        } else if word == b"assign".as_slice() {
+            Some(Keyword::Assign)
         } else if word == b"names".as_slice() {
             Some(Keyword::Names)
+        } else if word == b"summary".as_slice() {
+            Some(Keyword::Summary)
         } else if word == b"do".as_slice() {
             Some(Keyword::Do)
         } else if word == b"define".as_slice() {
             Some(Keyword::Define)
         } else {
             None
+        }
+    }
+
+    /// Whether a selection may be before it.
+    pub fn takes_selection(self) -> bool
+        ensures { result ≡ takes_selection self }
+    {
+        match self {
+            Keyword::List
+            | Keyword::Index
+            | Keyword::Stamp
+            | Keyword::Resolve
+            | Keyword::Manifest
+            | Keyword::Assign
+            | Keyword::Do => true,
+            _ => false,
         }
     }
 }

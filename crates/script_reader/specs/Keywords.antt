@@ -1,0 +1,24 @@
+-- The command words. (reposurgeon manual)
+use Rattle.std.specs.Prelude.{Option, Some, None, bytes_eq, codes, if◌then◌else◌}
+use Rattle.plain_model.specs.Paths.{Bytes}
+use Rattle.script_reader.specs.declared.keyword.Keyword.{Keyword}
+use Rattle.script_reader.specs.declared.keyword.Keyword.TheVariants as keyword
+
+-- the command word that bytes are; case counts
+unfoldable pub keyword_of : Bytes → Option Keyword
+keyword_of word =
+    if bytes_eq word (codes "read") then Some keyword.Read else
+    if bytes_eq word (codes "write") then Some keyword.Write else
+    if bytes_eq word (codes "choose") then Some keyword.Choose else
+    if bytes_eq word (codes "drop") then Some keyword.Drop else
+    if bytes_eq word (codes "renumber") then Some keyword.Renumber else
+    if bytes_eq word (codes "list") then Some keyword.List else
+    if bytes_eq word (codes "index") then Some keyword.Index else
+    if bytes_eq word (codes "stamp") then Some keyword.Stamp else
+    if bytes_eq word (codes "resolve") then Some keyword.Resolve else
+    if bytes_eq word (codes "manifest") then Some keyword.Manifest else
+    if bytes_eq word (codes "assign") then Some keyword.Assign else
+    if bytes_eq word (codes "names") then Some keyword.Names else
+    if bytes_eq word (codes "summary") then Some keyword.Summary else
+    if bytes_eq word (codes "do") then Some keyword.Do else
+    if bytes_eq word (codes "define") then Some keyword.Define else None
