@@ -1,22 +1,32 @@
--- Each command leaves sound histories within the limits.
-use Rattle.std.proofs.Common.{◌≡◌, ℕ, ◌+◌, ◌≤◌, Bool, true, false, List, [], ◌∷◌, ◌++◌, length, map, take, Option, Some, None, Result, Ok, Err, refl, sym, ap, subst, ◌∙◌, nat_lt}
-use Rattle.std.specs.Prelude.{if◌then◌else◌, bytes_eq}
-use Rattle.std.specs.List.{AllByRecursion}
+-- Each command leaves lawful repositories.
+use Rattle.std.proofs.Common.{◌≡◌, ℕ, zero, suc, ◌+◌, ◌≤◌, Bool, true, false, List, [], ◌∷◌, ◌++◌, length, map, take, max, Option, Some, None, Result, Ok, Err, refl, sym, ap, subst, ◌∙◌, nat_lt, arith}
+use Rattle.std.specs.Prelude.{if◌then◌else◌, bytes_eq, slice_get}
+use Rattle.std.specs.List.{AllByRecursion, fold}
 use Rattle.std.specs.FinMap.{get}
 use Rattle.std.proofs.lemmas.List.{length-map}
 use Rattle.plain_model.specs.declared.event.PlainEvent.{PlainEvent}
 use Rattle.plain_model.specs.declared.event.PlainEvent.TheVariants.{Blob, Commit, Tag, Reset, Pass}
 use Rattle.plain_model.specs.declared.fault.Fault.{Fault}
 use Rattle.plain_model.specs.declared.fault.Fault.TheVariants as fault
+use Rattle.plain_model.specs.declared.id.AnyId.{AnyId}
 use Rattle.plain_model.specs.declared.limit.TheConstants.{MAX_ALIASES, MAX_EVENTS, MAX_OPERATIONS, MAX_REPOSITORIES, MAX_STREAM_BYTES}
 use Rattle.plain_model.specs.Files.{Files}
 use Rattle.plain_model.specs.Paths.{Bytes}
 use Rattle.plain_model.specs.Soundness.{IsSound}
 use Rattle.round_trip_laws.specs.AsRead.{IsAsRead}
-use Rattle.plain_model.specs.Lookups.{alias_count}
+use Rattle.plain_model.specs.Lookups.{alias_count, id_number, id_of, next_number}
 use Rattle.line_automaton.specs.Machine.{all, begun, run}
 use Rattle.stream_grammar.specs.Limits.{ops_in, stream_of, stream_within}
 use Rattle.renumbering.specs.Renumbered.{all_marked, renumbered}
+use Rattle.byte_patterns.specs.Judging.{Denial, Judged, Reason, ◌>>>◌, next_of, plainly, under, with_built, without, unless_deep}
+use Rattle.byte_patterns.specs.Searching.{is_too_deep}
+use Rattle.event_sets.specs.Once.{IsOnce}
+use Rattle.event_sets.specs.Sets.{Ids}
+use Rattle.selection_eval.specs.Denoted.{denote}
+use Rattle.selection_eval.specs.Given.{AreNamesOnce, GivesOnce, HaveOwnIds}
+use Rattle.selection_eval.specs.Names.{Names, assigned}
+use Rattle.selection_parser.specs.Plain.{PlainSelection}
+use Rattle.selection_parser.specs.Reading.{selection_at}
 use Rattle.script_reader.specs.Commands.{order_of}
 use Rattle.script_reader.specs.Macros.{called}
 use Rattle.script_reader.specs.declared.command.Command.{Command}
@@ -25,15 +35,15 @@ use Rattle.script_reader.specs.declared.command.Order.{Order}
 use Rattle.script_reader.specs.declared.command.Order.TheVariants as order
 use Rattle.script_reader.specs.declared.script.ScriptLine.{ScriptLine}
 use Rattle.script_reader.specs.declared.script.ScriptLine.TheVariants.{Define, Plain}
-use Rattle.history_machine.specs.Lawful.{IsLawful, IsLawfulHistory}
+use Rattle.history_machine.specs.Lawful.{IsLawful, IsLawfulHistory, IsLawfulRepo}
 use Rattle.script_reader.specs.Answering.{◌>>=◌}
 use Rattle.history_machine.specs.Loading.{loaded, over, read_of}
 use Rattle.history_machine.specs.Machine.{Turn}
-use Rattle.history_machine.specs.Sessions.{Repo, Session, calling, changes, after_choose, chosen, after_drop_chosen, after_drop, find_repo, line_step, ordered, after_read, after_renumber, room, step, reports, there, unless, unused, with_history, without_repo}
+use Rattle.history_machine.specs.Sessions.{Repo, Scope, Session, after_assign, after_choose, after_drop, after_drop_chosen, after_read, after_renumber, all_events, calling, carried, changes, chosen, find_repo, in_scope, line_step, no_events, ordered, read_repo, ready, reports, room, scope_of, selected, stands_for, step, there, unassigned, unless, unused, with_repo, without_repo}
 use Rattle.history_machine.proofs.Steps.{found}
 
 abbrev AreLawful : List Repo → Type 0
-AreLawful repos = AllByRecursion (λ r. IsLawfulHistory r.history) repos
+AreLawful repos = AllByRecursion IsLawfulRepo repos
 
 -- a command that is done leaves such histories
 abbrev GoesWell : Result (Turn Session) Fault → Type 0
@@ -62,40 +72,67 @@ well_after (Err why) f h = tt
 -- ---- the load list
 
 -- with one more, which is chosen
-abbrev with_repo : Session → List Repo → Bytes → List PlainEvent → Session
-with_repo s repos name history = record s { repos = repos ++ record { name = name; history = history } ∷ []; choice = Some name }
+abbrev with_read : Session → List Repo → Bytes → List PlainEvent → Session
+with_read s repos name history = record s { repos = repos ++ read_repo name history ∷ []; choice = Some name }
 
-more : (repos : List Repo) (r : Repo) → AreLawful repos → IsLawfulHistory r.history → AreLawful (repos ++ r ∷ [])
+more : (repos : List Repo) (r : Repo) → AreLawful repos → IsLawfulRepo r → AreLawful (repos ++ r ∷ [])
 more [] r h k = (k, tt)
 more (q ∷ repos) r h k = (h.0, more repos r h.1 k)
 
-without : (name : Bytes) (repos : List Repo) → AreLawful repos → AreLawful (without_repo name repos)
-without name [] h = tt
-without name (r ∷ repos) h = go (bytes_eq name r.name) (without name repos h.1)
+fewer : (name : Bytes) (repos : List Repo) → AreLawful repos → AreLawful (without_repo name repos)
+fewer name [] h = tt
+fewer name (r ∷ repos) h = go (bytes_eq name r.name) (fewer name repos h.1)
   where
     go : (b : Bool) → AreLawful (without_repo name repos) → AreLawful (if b then repos else r ∷ without_repo name repos)
     go true rec = h.1
     go false rec = (h.0, rec)
 
-with_new : (name : Bytes) (new : List PlainEvent) (repos : List Repo) → AreLawful repos → IsLawfulHistory new → AreLawful (with_history name new repos)
-with_new name new [] h k = tt
-with_new name new (r ∷ repos) h k = go (bytes_eq name r.name) (with_new name new repos h.1 k)
+with_new : (new : Repo) (repos : List Repo) → AreLawful repos → IsLawfulRepo new → AreLawful (with_repo new repos)
+with_new new [] h k = tt
+with_new new (r ∷ repos) h k = go (bytes_eq new.name r.name) (with_new new repos h.1 k)
   where
-    go : (b : Bool) → AreLawful (with_history name new repos) → AreLawful (if b then record { name = r.name; history = new } ∷ repos else r ∷ with_history name new repos)
+    go : (b : Bool) → AreLawful (with_repo new repos) → AreLawful (if b then new ∷ repos else r ∷ with_repo new repos)
     go true rec = (k, h.1)
     go false rec = (h.0, rec)
 
-one_found : (name : Bytes) (history : List PlainEvent) (repos : List Repo) → AreLawful repos → find_repo name repos ≡ Some history → IsLawfulHistory history
-one_found name history [] h e = absurd cc
-one_found name history (r ∷ repos) h e = go (bytes_eq name r.name) e (one_found name history repos h.1)
+one_found : (name : Bytes) (repo : Repo) (repos : List Repo) → AreLawful repos → find_repo name repos ≡ Some repo → IsLawfulRepo repo
+one_found name repo [] h e = absurd cc
+one_found name repo (r ∷ repos) h e = go (bytes_eq name r.name) e (one_found name repo repos h.1)
   where
-    go : (b : Bool) → (if b then Some r.history else find_repo name repos) ≡ Some history → (find_repo name repos ≡ Some history → IsLawfulHistory history) → IsLawfulHistory history
-    go true e rec = let is : r.history ≡ history = cc in subst IsLawfulHistory is h.0
+    go : (b : Bool) → (if b then Some r else find_repo name repos) ≡ Some repo → (find_repo name repos ≡ Some repo → IsLawfulRepo repo) → IsLawfulRepo repo
+    go true e rec = let is : r ≡ repo = cc in subst IsLawfulRepo is h.0
     go false e rec = rec e
 
 -- the chosen one
-pub chosen_lawful : (s : Session) (repo : Repo) → chosen s ≡ Ok repo → IsLawful s → IsLawfulHistory repo.history
-chosen_lawful s repo is h = one_found repo.name repo.history s.repos h (found s repo is)
+pub chosen_lawful : (s : Session) (repo : Repo) → chosen s ≡ Ok repo → IsLawful s → IsLawfulRepo repo
+chosen_lawful s repo is h = one_found repo.name repo s.repos h (found s repo is)
+
+-- ---- numbers
+
+-- the next number depends on the ids alone
+next_of_ids : (n : ℕ) (events : List PlainEvent)
+    → fold (λ m e. max m (id_number (id_of e) + 1)) n events ≡ fold (λ m id. max m (id_number id + 1)) n (map id_of events)
+next_of_ids n [] = refl
+next_of_ids n (e ∷ events) = next_of_ids (max n (id_number (id_of e) + 1)) events
+
+same_next : (old new : List PlainEvent) → map id_of new ≡ map id_of old → next_number new ≡ next_number old
+same_next old new is = next_of_ids 1 new ∙ ap (fold (λ m id. max m (id_number id + 1)) 1) is ∙ sym (next_of_ids 1 old)
+
+-- ---- the events of which a command speaks
+
+-- a value that stays though a pattern may be refused is the value
+value_under : {A : Type 0} (denial : Option Denial) (judged : Judged A) (x : A) → under denial judged ≡ Ok x → judged.value ≡ Ok x
+value_under None judged x h = h
+value_under (Some d) judged x h = go d.reason (slice_get judged.built d.place) h
+  where
+    go : (why : Reason) (text : Option Bytes) → without why text judged.value ≡ Ok x → judged.value ≡ Ok x
+    go why None h = h
+    go Reason.its_size (Some text) h = absurd cc
+    go Reason.its_nesting (Some text) h = deep (is_too_deep text) h
+      where
+        deep : (b : Bool) → unless_deep text b judged.value ≡ Ok x → judged.value ≡ Ok x
+        deep true h = absurd cc
+        deep false h = h
 
 -- ---- counts
 
@@ -123,6 +160,10 @@ module _
     (numbered : (events : List PlainEvent) → IsSound events → IsSound (renumbered events))
     (as_many : (events : List PlainEvent) → length (renumbered events) ≡ length events)
     (others : (events : List PlainEvent) (mark : ℕ) → map (all_marked mark) (renumbered events) ≡ map (all_marked mark) events)
+    (same_ids : (events : List PlainEvent) → map id_of (renumbered events) ≡ map id_of events)
+    (own_ids : (events : List PlainEvent) → IsSound events → HaveOwnIds events)
+    (once : (events : List PlainEvent) → HaveOwnIds events → (names : Names) → AreNamesOnce names
+    → (selection : PlainSelection) → GivesOnce (denote selection events names).value)
   where
     read_lawful : (name : Bytes) (file : Option Bytes) (events : List PlainEvent) → read_of name file ≡ Ok events → IsLawfulHistory events
     read_lawful name None events h = absurd cc
@@ -146,6 +187,29 @@ module _
       few_aliases = subst (λ n. n ≤ MAX_ALIASES) (sym (aliases_marked 0 events) ∙ ap alias_count (sym (others events 0)) ∙ aliases_marked 0 (renumbered events)) h.few_aliases;
     }
 
+    -- ---- the events of which a command speaks
+
+    denoted_once : (repo : Repo) (read : Result (PlainSelection × ℕ) ℕ) → IsLawfulRepo repo → GivesOnce (stands_for repo read).value
+    denoted_once repo (Ok read) h = once repo.history (own_ids repo.history h.history.sound) repo.names h.names read.0
+    denoted_once repo (Err column) h = tt
+
+    scope_once : (s : Session) (scope : Scope) → IsLawful s → GivesOnce (in_scope s scope).value
+    scope_once s no_events h = refl
+    scope_once s all_events h = go (chosen s) refl
+      where
+        go : (r : Result Repo Fault) → chosen s ≡ r → GivesOnce (r >>= λ repo. Ok (map id_of repo.history))
+        go (Ok repo) is = own_ids repo.history (chosen_lawful s repo is h).history.sound
+        go (Err why) is = tt
+    scope_once s (selected text) h = go (chosen s) refl
+      where
+        go : (r : Result Repo Fault) → chosen s ≡ r → GivesOnce (plainly r >>> λ repo. stands_for repo (selection_at text)).value
+        go (Ok repo) is = denoted_once repo (selection_at text) (chosen_lawful s repo is h)
+        go (Err why) is = tt
+
+    ready_once : (denial : Option Denial) (s : Session) (what : Command) (ids : Ids) → IsLawful s → under denial (ready s what) ≡ Ok ids → IsOnce ids
+    unfolding ready
+    ready_once denial s what ids h is = subst GivesOnce (value_under denial (in_scope s (scope_of what)) ids is) (scope_once s (scope_of what) h)
+
     -- ---- the commands
 
     room_same : (repos given : List Repo) → room repos ≡ Ok given → repos ≡ given
@@ -158,63 +222,98 @@ module _
     read_well : (s : Session) (files : Files) (file name : Bytes) → IsLawful s → ChangesWell (after_read s files file name)
     unfolding after_read
     read_well s files file name h =
-        well_after (room s.repos) (λ repos. unused name (find_repo name repos) >>= λ free. loaded files file >>= λ history. Ok (with_repo s repos free history)) (λ repos is.
-        well_after (unused name (find_repo name repos)) (λ free. loaded files file >>= λ history. Ok (with_repo s repos free history)) (λ free is_free.
-        well_after (loaded files file) (λ history. Ok (with_repo s repos free history)) (λ history is_read.
-        more repos (record { name = free; history = history }) (subst AreLawful (room_same s.repos repos is) h) (loaded_lawful files file history is_read))))
+        well_after (room s.repos) (λ repos. unused name (find_repo name repos) >>= λ free. loaded files file >>= λ history. Ok (with_read s repos free history)) (λ repos is.
+        well_after (unused name (find_repo name repos)) (λ free. loaded files file >>= λ history. Ok (with_read s repos free history)) (λ free is_free.
+        well_after (loaded files file) (λ history. Ok (with_read s repos free history)) (λ history is_read.
+        more repos (read_repo free history) (subst AreLawful (room_same s.repos repos is) h)
+        (record { history = loaded_lawful files file history is_read; names = tt; spent = omega arith }))))
 
     choose_well : (s : Session) (name : Bytes) → IsLawful s → ChangesWell (after_choose s name)
     unfolding after_choose
-    choose_well s name h = well_after (there name (find_repo name s.repos)) (λ history. Ok (record s { choice = Some name })) (λ history is. h)
+    choose_well s name h = well_after (there name (find_repo name s.repos)) (λ repo. Ok (record s { choice = Some name })) (λ repo is. h)
 
     drop_well : (s : Session) (name : Bytes) → IsLawful s → ChangesWell (after_drop s name)
     unfolding after_drop
     drop_well s name h =
-        well_after (there name (find_repo name s.repos)) (λ history. Ok (record s { repos = without_repo name s.repos; choice = unless name s.choice })) (λ history is. without name s.repos h)
+        well_after (there name (find_repo name s.repos)) (λ repo. Ok (record s { repos = without_repo name s.repos; choice = unless name s.choice })) (λ repo is. fewer name s.repos h)
 
     drop_chosen_well : (s : Session) → IsLawful s → ChangesWell (after_drop_chosen s)
     unfolding after_drop_chosen
     drop_chosen_well s h = well_after (chosen s) (λ repo. after_drop s repo.name) (λ repo is. drop_well s repo.name h)
 
+    abbrev with_marks : Repo → Repo
+    with_marks repo = record repo { history = renumbered repo.history }
+
+    marks_well : (repo : Repo) → IsLawfulRepo repo → IsLawfulRepo (with_marks repo)
+    marks_well repo h = record {
+      history = renumbered_lawful repo.history h.history;
+      names = h.names;
+      spent = subst (λ n. n ≤ repo.next) (sym (same_next repo.history (renumbered repo.history) (same_ids repo.history))) h.spent;
+    }
+
     renumber_well : (s : Session) → IsLawful s → ChangesWell (after_renumber s)
     unfolding after_renumber
     renumber_well s h =
-        well_after (chosen s) (λ repo. Ok (record s { repos = with_history repo.name (renumbered repo.history) s.repos }))
-        (λ repo is. with_new repo.name (renumbered repo.history) s.repos h (renumbered_lawful repo.history (chosen_lawful s repo is h)))
+        well_after (chosen s) (λ repo. Ok (record s { repos = with_repo (with_marks repo) s.repos }))
+        (λ repo is. with_new (with_marks repo) s.repos h (marks_well repo (chosen_lawful s repo is h)))
 
-    step_well : (s : Session) (files : Files) (what : Command) → IsLawful s → GoesWell (step s files what)
+    names_more : (names : Names) (name : Bytes) (ids : Ids) → AreNamesOnce names → IsOnce ids → AreNamesOnce (names ++ (name, ids) ∷ [])
+    names_more [] name ids h k = (k, tt)
+    names_more (n ∷ names) name ids h k = (h.0, names_more names name ids h.1 k)
+
+    abbrev with_name : Repo → Bytes → Ids → Repo
+    with_name repo name ids = record repo { names = repo.names ++ (name, ids) ∷ [] }
+
+    assign_well : (s : Session) (ids : Ids) (name : Bytes) → IsLawful s → IsOnce ids → ChangesWell (after_assign s ids name)
+    unfolding after_assign
+    assign_well s ids name h k =
+        well_after (chosen s) (λ repo. unassigned name (assigned name repo.names) >>= λ free. Ok (record s { repos = with_repo (with_name repo free ids) s.repos })) (λ repo is.
+        well_after (unassigned name (assigned name repo.names)) (λ free. Ok (record s { repos = with_repo (with_name repo free ids) s.repos })) (λ free is_free.
+        let was = chosen_lawful s repo is h in
+        with_new (with_name repo free ids) s.repos h (record { history = was.history; names = names_more repo.names free ids was.names k; spent = was.spent })))
+
+    carried_well : (s : Session) (files : Files) (ids : Ids) (what : Command) → IsLawful s → IsOnce ids → GoesWell (carried s files ids what)
+    unfolding carried
+    carried_well s files ids (command.Read file name) h k = changes_well (after_read s files file name) (read_well s files file name h)
+    carried_well s files ids (command.Write to) h k = reports_well s to _ h
+    carried_well s files ids (command.Choose name) h k = changes_well (after_choose s name) (choose_well s name h)
+    carried_well s files ids command.ShowRepos h k = h
+    carried_well s files ids (command.Drop name) h k = changes_well (after_drop s name) (drop_well s name h)
+    carried_well s files ids command.DropChosen h k = changes_well (after_drop_chosen s) (drop_chosen_well s h)
+    carried_well s files ids command.Renumber h k = changes_well (after_renumber s) (renumber_well s h)
+    carried_well s files ids (command.Show selection what to) h k = reports_well s to _ h
+    carried_well s files ids (command.Assign selection name) h k = changes_well (after_assign s ids name) (assign_well s ids name h k)
+    carried_well s files ids (command.Names to) h k = reports_well s to _ h
+    carried_well s files ids (command.Summary to) h k = reports_well s to _ h
+
+    step_well : (denial : Option Denial) (s : Session) (files : Files) (what : Command) → IsLawful s → GoesWell (step denial s files what)
     unfolding step
-    step_well s files (command.Read file name) h = changes_well (after_read s files file name) (read_well s files file name h)
-    step_well s files (command.Write to) h = reports_well s to _ h
-    step_well s files (command.Choose name) h = changes_well (after_choose s name) (choose_well s name h)
-    step_well s files command.ShowRepos h = h
-    step_well s files (command.Drop name) h = changes_well (after_drop s name) (drop_well s name h)
-    step_well s files command.DropChosen h = changes_well (after_drop_chosen s) (drop_chosen_well s h)
-    step_well s files command.Renumber h = changes_well (after_renumber s) (renumber_well s h)
-    step_well s files (command.List to) h = reports_well s to _ h
-    step_well s files (command.Index to) h = reports_well s to _ h
-    step_well s files (command.Names to) h = reports_well s to _ h
+    step_well denial s files what h = go (under denial (ready s what)) refl
+      where
+        go : (r : Result Ids Fault) → under denial (ready s what) ≡ r → GoesWell (r >>= λ ids. carried s files ids what)
+        go (Ok ids) is = carried_well s files ids what h (ready_once denial s what ids h is)
+        go (Err why) is = tt
 
-    ordered_well : (s : Session) (files : Files) (depth : ℕ) (what : Order) → IsLawful s → GoesWell (ordered s files depth what)
-    ordered_well s files depth (order.Step what) h = step_well s files what h
-    ordered_well s files depth (order.Do call) h = go (called s.macros call.name call.words (depth + 1))
+    ordered_well : (denial : Option Denial) (s : Session) (files : Files) (depth : ℕ) (what : Order) → IsLawful s → GoesWell (ordered denial s files depth what)
+    ordered_well denial s files depth (order.Step what) h = step_well denial s files what h
+    ordered_well denial s files depth (order.Do call) h = go (called s.macros call (depth + 1))
       where
         go : (r : Result (List Bytes) Fault) → GoesWell (r >>= λ lines. Ok (calling s lines))
         go (Ok lines) = h
         go (Err why) = tt
 
-    line_well : (s : Session) (files : Files) (depth : ℕ) (what : ScriptLine) → IsLawful s → GoesWell (line_step s files depth what)
+    line_well : (denial : Option Denial) (s : Session) (files : Files) (depth : ℕ) (what : ScriptLine) → IsLawful s → GoesWell (line_step denial s files depth what)
     unfolding line_step
-    line_well s files depth (Define name body) h = h
-    line_well s files depth (Plain text) h = go (order_of text)
+    line_well denial s files depth (Define name body) h = h
+    line_well denial s files depth (Plain text) h = go (order_of text)
       where
-        go : (r : Result Order Fault) → GoesWell (r >>= ordered s files depth)
-        go (Ok what) = ordered_well s files depth what h
+        go : (r : Result Order Fault) → GoesWell (r >>= ordered denial s files depth)
+        go (Ok what) = ordered_well denial s files depth what h
         go (Err why) = tt
 
-    pub step_keeps : (s : Session) (files : Files) (what : Command) (t : Turn Session) → step s files what ≡ Ok t → IsLawful s → IsLawful t.session
-    step_keeps s files what t is h = subst GoesWell is (step_well s files what h)
+    pub step_keeps : (denial : Option Denial) (s : Session) (files : Files) (what : Command) (t : Turn Session) → step denial s files what ≡ Ok t → IsLawful s → IsLawful t.session
+    step_keeps denial s files what t is h = subst GoesWell is (step_well denial s files what h)
 
-    pub line_keeps : (s : Session) (files : Files) (depth : ℕ) (what : ScriptLine) (t : Turn Session) → line_step s files depth what ≡ Ok t
+    pub line_keeps : (denial : Option Denial) (s : Session) (files : Files) (depth : ℕ) (what : ScriptLine) (t : Turn Session) → line_step denial s files depth what ≡ Ok t
         → IsLawful s → IsLawful t.session
-    line_keeps s files depth what t is h = subst GoesWell is (line_well s files depth what h)
+    line_keeps denial s files depth what t is h = subst GoesWell is (line_well denial s files depth what h)

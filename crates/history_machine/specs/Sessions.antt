@@ -2,33 +2,46 @@
 -- vague: own).
 use Rattle.std.specs.Prelude.{ℕ, ◌+◌, List, [], ◌∷◌, ◌++◌, length, map, flat_map, codes, bytes_eq, nat_lt, Option, Some, None, Result, Ok, Err, if◌then◌else◌}
 use Rattle.plain_model.specs.Files.{Files}
-use Rattle.plain_model.specs.Lookups.{id_of}
+use Rattle.plain_model.specs.Lookups.{id_of, next_number}
 use Rattle.plain_model.specs.Paths.{Bytes}
 use Rattle.plain_model.specs.Text.{line, text}
 use Rattle.plain_model.specs.declared.event.PlainEvent.{PlainEvent}
 use Rattle.plain_model.specs.declared.limit.TheConstants.{MAX_REPOSITORIES}
 use Rattle.plain_model.specs.declared.fault.Fault.{Fault}
 use Rattle.plain_model.specs.declared.fault.Fault.TheVariants as fault
+use Rattle.byte_patterns.specs.Judging.{Denial, Judged, ◌>>>◌, plainly, under}
+use Rattle.event_sets.specs.Sets.{Ids}
 use Rattle.listing.specs.Listings.{list_text, index_text, names_text}
+use Rattle.listing.specs.Stamps.{stamp_text}
+use Rattle.listing.specs.Summaries.{resolve_text, summary_text}
+use Rattle.listing.specs.TreeListings.{manifest_text}
 use Rattle.renumbering.specs.Renumbered.{renumbered}
 use Rattle.script_reader.specs.Answering.{◌>>=◌}
 use Rattle.script_reader.specs.Commands.{order_of}
 use Rattle.script_reader.specs.Macros.{Macro, called, with_macro}
 use Rattle.script_reader.specs.declared.command.Command.{Command}
 use Rattle.script_reader.specs.declared.command.Command.TheVariants as command
+use Rattle.script_reader.specs.declared.command.Listing.{Listing}
+use Rattle.script_reader.specs.declared.command.Listing.TheVariants as listing
 use Rattle.script_reader.specs.declared.command.Order.{Order}
 use Rattle.script_reader.specs.declared.command.Order.TheVariants as order
 use Rattle.script_reader.specs.declared.script.ScriptLine.{ScriptLine}
 use Rattle.script_reader.specs.declared.script.ScriptLine.TheVariants.{Define, Plain}
+use Rattle.selection_eval.specs.Denoted.{denote}
+use Rattle.selection_eval.specs.Names.{Names, assigned}
+use Rattle.selection_parser.specs.Plain.{PlainSelection}
+use Rattle.selection_parser.specs.Reading.{selection_at}
 use Rattle.history_machine.specs.Loading.{loaded}
 use Rattle.history_machine.specs.Machine.{Turn}
 
 -- ---- what a session holds
 
--- a loaded history, under its name
+-- a loaded history under its name, the number that the next new event has, and lists of events under names
 pub record Repo : Type 0 where
   pub name : Bytes
   pub history : List PlainEvent
+  pub next : ℕ
+  pub names : Names
 
 -- the load list in its order, the name of the repository that is chosen, if one is, and the macros
 pub record Session : Type 0 where
@@ -42,21 +55,24 @@ empty_session = record { repos = []; choice = None; macros = [] }
 
 -- ---- the load list
 
--- the history of the repository with the name
-abbrev pub find_repo : Bytes → List Repo → Option (List PlainEvent)
+-- the repository with the name
+abbrev pub find_repo : Bytes → List Repo → Option Repo
 find_repo name [] = None
-find_repo name (r ∷ repos) = if bytes_eq name r.name then Some r.history else find_repo name repos
+find_repo name (r ∷ repos) = if bytes_eq name r.name then Some r else find_repo name repos
 
 -- without the repository of the name
 abbrev pub without_repo : Bytes → List Repo → List Repo
 without_repo name [] = []
 without_repo name (r ∷ repos) = if bytes_eq name r.name then repos else r ∷ without_repo name repos
 
--- with another history in the repository of the name
-abbrev pub with_history : Bytes → List PlainEvent → List Repo → List Repo
-with_history name new [] = []
-with_history name new (r ∷ repos) =
-    if bytes_eq name r.name then record { name = r.name; history = new } ∷ repos else r ∷ with_history name new repos
+-- with another in the place of the one with its name
+abbrev pub with_repo : Repo → List Repo → List Repo
+with_repo new [] = []
+with_repo new (r ∷ repos) = if bytes_eq new.name r.name then new ∷ repos else r ∷ with_repo new repos
+
+-- a history that has just been read: no list has a name
+abbrev pub read_repo : Bytes → List PlainEvent → Repo
+read_repo name history = record { name = name; history = history; next = next_number history; names = [] }
 
 -- ---- what a command asks for
 
@@ -65,27 +81,64 @@ abbrev pub room : List Repo → Result (List Repo) Fault
 room repos = if nat_lt (length repos) MAX_REPOSITORIES then Ok repos else Err (fault.TooManyRepos MAX_REPOSITORIES)
 
 -- that no repository has the name, by what is found under it
-abbrev pub unused : Bytes → Option (List PlainEvent) → Result Bytes Fault
+abbrev pub unused : Bytes → Option Repo → Result Bytes Fault
 unused name None = Ok name
-unused name (Some history) = Err (fault.RepoTaken name)
+unused name (Some repo) = Err (fault.RepoTaken name)
 
 -- that a repository has the name
-abbrev pub there : Bytes → Option (List PlainEvent) → Result (List PlainEvent) Fault
+abbrev pub there : Bytes → Option Repo → Result Repo Fault
 there name None = Err (fault.NoSuchRepo name)
-there name (Some history) = Ok history
+there name (Some repo) = Ok repo
 
--- the repository of a name, by what is found under it
-abbrev pub or_no_repo : Bytes → Option (List PlainEvent) → Result Repo Fault
-or_no_repo name None = Err fault.NoRepo
-or_no_repo name (Some history) = Ok (record { name = name; history = history })
+-- the repository that is found
+abbrev pub or_no_repo : Option Repo → Result Repo Fault
+or_no_repo None = Err fault.NoRepo
+or_no_repo (Some repo) = Ok repo
 
 abbrev pub chosen_by : List Repo → Option Bytes → Result Repo Fault
 chosen_by repos None = Err fault.NoRepo
-chosen_by repos (Some name) = or_no_repo name (find_repo name repos)
+chosen_by repos (Some name) = or_no_repo (find_repo name repos)
 
 -- the chosen repository, which most commands need
 unfoldable pub chosen : Session → Result Repo Fault
 chosen s = chosen_by s.repos s.choice
+
+-- that a list of a repository has no such name yet
+abbrev pub unassigned : Bytes → Option Ids → Result Bytes Fault
+unassigned name None = Ok name
+unassigned name (Some ids) = Err (fault.NameAssigned name)
+
+-- ---- the events of which a command speaks
+
+-- of none, of all, or of those that a selection of this text stands for
+pub data Scope : Type 0 where
+  no_events : Scope
+  all_events : Scope
+  selected : Bytes → Scope
+
+-- without a selection that may be written, all
+abbrev pub or_all : Option Bytes → Scope
+or_all None = all_events
+or_all (Some text) = selected text
+
+abbrev pub scope_of : Command → Scope
+scope_of (command.Show selection what to) = or_all selection
+scope_of (command.Assign selection name) = selected selection
+scope_of other = no_events
+
+-- the events in a repository for which the whole of a text stands, by what is read in it
+abbrev pub stands_for : Repo → Result (PlainSelection × ℕ) ℕ → Judged Ids
+stands_for repo (Ok read) = denote read.0 repo.history repo.names
+stands_for repo (Err column) = plainly (Err (fault.BadSelection column))
+
+abbrev pub in_scope : Session → Scope → Judged Ids
+in_scope s no_events = plainly (Ok [])
+in_scope s all_events = plainly (chosen s >>= λ repo. Ok (map id_of repo.history))
+in_scope s (selected text) = plainly (chosen s) >>> λ repo. stands_for repo (selection_at text)
+
+-- What comes before a command's own faults, for all commands: if it speaks of events, that a repository is chosen, and then the events.
+unfoldable pub ready : Session → Command → Judged Ids
+ready s what = in_scope s (scope_of what)
 
 -- ---- what each command does
 
@@ -93,11 +146,11 @@ chosen s = chosen_by s.repos s.choice
 unfoldable pub after_read : Session → Files → Bytes → Bytes → Result Session Fault
 after_read s files file name =
     room s.repos >>= λ repos. unused name (find_repo name repos) >>= λ free. loaded files file >>= λ history.
-    Ok (record s { repos = repos ++ record { name = free; history = history } ∷ []; choice = Some free })
+    Ok (record s { repos = repos ++ read_repo free history ∷ []; choice = Some free })
 
 -- `choose NAME`
 unfoldable pub after_choose : Session → Bytes → Result Session Fault
-after_choose s name = there name (find_repo name s.repos) >>= λ history. Ok (record s { choice = Some name })
+after_choose s name = there name (find_repo name s.repos) >>= λ repo. Ok (record s { choice = Some name })
 
 -- the choice, unless it is of this name
 abbrev pub unless : Bytes → Option Bytes → Option Bytes
@@ -107,7 +160,7 @@ unless name (Some choice) = if bytes_eq name choice then None else Some choice
 -- `drop NAME`: the repository is forgotten; if it was chosen, none is from then on
 unfoldable pub after_drop : Session → Bytes → Result Session Fault
 after_drop s name =
-    there name (find_repo name s.repos) >>= λ history. Ok (record s { repos = without_repo name s.repos; choice = unless name s.choice })
+    there name (find_repo name s.repos) >>= λ repo. Ok (record s { repos = without_repo name s.repos; choice = unless name s.choice })
 
 -- `drop`: the same of the chosen repository
 unfoldable pub after_drop_chosen : Session → Result Session Fault
@@ -116,27 +169,34 @@ after_drop_chosen s = chosen s >>= λ repo. after_drop s repo.name
 -- `renumber`: blobs and commits have the marks 1, 2, 3 and so on
 unfoldable pub after_renumber : Session → Result Session Fault
 after_renumber s =
-    chosen s >>= λ repo. Ok (record s { repos = with_history repo.name (renumbered repo.history) s.repos })
+    chosen s >>= λ repo. Ok (record s { repos = with_repo (record repo { history = renumbered repo.history }) s.repos })
+
+-- `sel assign NAME`: the events have the name, unless others have it already
+unfoldable pub after_assign : Session → Ids → Bytes → Result Session Fault
+after_assign s ids name =
+    chosen s >>= λ repo. unassigned name (assigned name repo.names) >>= λ free.
+    Ok (record s { repos = with_repo (record repo { names = repo.names ++ (free, ids) ∷ [] }) s.repos })
 
 -- the line of a repository, by the name that is chosen
-abbrev pub repo_line : Option Bytes → Repo → Bytes
-repo_line None r = line (codes "  " ++ r.name)
-repo_line (Some choice) r = line ((if bytes_eq choice r.name then codes "* " else codes "  ") ++ r.name)
+abbrev pub repo_line : Option Bytes → Bytes → Bytes
+repo_line None name = line (codes "  " ++ name)
+repo_line (Some choice) name = line ((if bytes_eq choice name then codes "* " else codes "  ") ++ name)
 
 -- `choose` alone: the names in the order of the load list, the chosen one with a star
 unfoldable pub repos_text : Session → Bytes
-repos_text s = flat_map (repo_line s.choice) s.repos
+repos_text s = flat_map (λ r. repo_line s.choice r.name) s.repos
 
--- a command that tells a text of the chosen history
-abbrev pub of_chosen : Session → (List PlainEvent → Bytes) → Result Bytes Fault
-of_chosen s text_of = chosen s >>= λ repo. Ok (text_of repo.history)
+-- a text of the chosen repository
+abbrev pub of_chosen : Session → (Repo → Bytes) → Result Bytes Fault
+of_chosen s text_of = chosen s >>= λ repo. Ok (text_of repo)
 
--- `list` and `index` tell of all events
-abbrev pub list_all : List PlainEvent → Bytes
-list_all events = list_text events (map id_of events)
-
-abbrev pub index_all : List PlainEvent → Bytes
-index_all events = index_text events (map id_of events)
+-- a text of some of its events
+abbrev pub shown : Listing → Ids → Repo → Bytes
+shown listing.List ids repo = list_text repo.history ids
+shown listing.Index ids repo = index_text repo.history ids
+shown listing.Stamp ids repo = stamp_text repo.history ids
+shown listing.Resolve ids repo = resolve_text repo.history ids
+shown listing.Manifest ids repo = manifest_text repo.history ids
 
 -- ---- one command
 
@@ -156,17 +216,23 @@ changes expected = expected >>= λ after. Ok (quiet after)
 abbrev pub reports : Session → Option Bytes → Result Bytes Fault → Result (Turn Session) Fault
 reports s to expected = expected >>= λ bytes. Ok (sends s to bytes)
 
-unfoldable pub step : Session → Files → Command → Result (Turn Session) Fault
-step s files (command.Read file name) = changes (after_read s files file name)
-step s files (command.Write to) = reports s to (of_chosen s text)
-step s files (command.Choose name) = changes (after_choose s name)
-step s files command.ShowRepos = reports s None (Ok (repos_text s))
-step s files (command.Drop name) = changes (after_drop s name)
-step s files command.DropChosen = changes (after_drop_chosen s)
-step s files command.Renumber = changes (after_renumber s)
-step s files (command.List to) = reports s to (of_chosen s list_all)
-step s files (command.Index to) = reports s to (of_chosen s index_all)
-step s files (command.Names to) = reports s to (of_chosen s names_text)
+-- what a command does with the events of which it speaks
+unfoldable pub carried : Session → Files → Ids → Command → Result (Turn Session) Fault
+carried s files ids (command.Read file name) = changes (after_read s files file name)
+carried s files ids (command.Write to) = reports s to (of_chosen s (λ repo. text repo.history))
+carried s files ids (command.Choose name) = changes (after_choose s name)
+carried s files ids command.ShowRepos = reports s None (Ok (repos_text s))
+carried s files ids (command.Drop name) = changes (after_drop s name)
+carried s files ids command.DropChosen = changes (after_drop_chosen s)
+carried s files ids command.Renumber = changes (after_renumber s)
+carried s files ids (command.Show selection what to) = reports s to (of_chosen s (shown what ids))
+carried s files ids (command.Assign selection name) = changes (after_assign s ids name)
+carried s files ids (command.Names to) = reports s to (of_chosen s (λ repo. names_text repo.history))
+carried s files ids (command.Summary to) = reports s to (of_chosen s (λ repo. summary_text repo.name repo.history))
+
+-- a command, of whose patterns one may be refused that the grammar reads
+unfoldable pub step : Option Denial → Session → Files → Command → Result (Turn Session) Fault
+step denial s files what = under denial (ready s what) >>= λ ids. carried s files ids what
 
 -- ---- one line
 
@@ -179,11 +245,11 @@ abbrev pub defining : Session → Bytes → List Bytes → Session
 defining s name body = record s { macros = with_macro name body s.macros }
 
 -- an order, inside so many macros: the body of one more is one deeper
-abbrev pub ordered : Session → Files → ℕ → Order → Result (Turn Session) Fault
-ordered s files depth (order.Step what) = step s files what
-ordered s files depth (order.Do call) = called s.macros call.name call.words (depth + 1) >>= λ lines. Ok (calling s lines)
+abbrev pub ordered : Option Denial → Session → Files → ℕ → Order → Result (Turn Session) Fault
+ordered denial s files depth (order.Step what) = step denial s files what
+ordered denial s files depth (order.Do call) = called s.macros call (depth + 1) >>= λ lines. Ok (calling s lines)
 
 -- one line that is run, inside so many macros: a definition, or its order, or why it is none
-unfoldable pub line_step : Session → Files → ℕ → ScriptLine → Result (Turn Session) Fault
-line_step s files depth (Define name body) = Ok (quiet (defining s name body))
-line_step s files depth (Plain text) = order_of text >>= ordered s files depth
+unfoldable pub line_step : Option Denial → Session → Files → ℕ → ScriptLine → Result (Turn Session) Fault
+line_step denial s files depth (Define name body) = Ok (quiet (defining s name body))
+line_step denial s files depth (Plain text) = order_of text >>= ordered denial s files depth

@@ -4,6 +4,7 @@ ghost use Rattle.plain_model.specs.declared.event.PlainEvent.{PlainEvent};
 ghost use Rattle.plain_model.specs.declared.fault.Fault.{Fault};
 ghost use Rattle.plain_model.specs.Faults.{refusal};
 ghost use Rattle.plain_model.specs.Files.{Files};
+ghost use Rattle.byte_patterns.specs.Judging.{Denial};
 ghost use Rattle.plain_model.specs.Text.{text};
 ghost use Rattle.script_reader.specs.declared.command.Command.TheVariants as command;
 ghost use Rattle.script_reader.specs.declared.command.Command.{Command};
@@ -16,6 +17,7 @@ ghost use Rattle.history_machine.specs.Sessions.{Repo, Session, chosen, line_ste
 use renumbering::{
     ids_stay, nothing_else_changes, renumbering_keeps_soundness, renumbering_keeps_trees,
 };
+use selection_eval::{selections_are_without_repeats, sound_histories_are_such};
 use soundness_laws::{what_is_read_is_sound, what_is_read_passes_no_limit};
 
 /// A line that is refused leaves the session and the files as they were, one line is printed, and nothing is run in its place.
@@ -32,36 +34,40 @@ pub fn a_refused_line_changes_nothing()
 
 /// A `write` is done where a repository is chosen. It sends the text of that history, and changes nothing else.
 pub fn a_write_sends_the_stream()
-    ensures sent { (s : Session) (files : Files) (to : Option (List ℕ)) (t : Turn Session) →
-        step s files (command.Write to) ≡ Ok t →
+    ensures sent { (denial : Option Denial) (s : Session) (files : Files) (to : Option (List ℕ))
+        (t : Turn Session) → step denial s files (command.Write to) ≡ Ok t →
         (repo : Repo) × (chosen s ≡ Ok repo) × (t ≡ sends s to (text repo.history)) }
-    ensures done { (s : Session) (files : Files) (to : Option (List ℕ)) (repo : Repo) →
-        chosen s ≡ Ok repo →
-        step s files (command.Write to) ≡ Ok (sends s to (text repo.history)) }
+    ensures done { (denial : Option Denial) (s : Session) (files : Files) (to : Option (List ℕ))
+        (repo : Repo) → chosen s ≡ Ok repo →
+        step denial s files (command.Write to) ≡ Ok (sends s to (text repo.history)) }
 {}
 
-/// A `renumber` that is done leaves every loaded repository its name, and each of its commits its id and its tree.
+/// A `renumber` that is done leaves every loaded repository its name and the names in it, and each of its commits its id and
+/// its tree.
 pub fn a_renumber_keeps_trees()
-    ensures { (s : Session) (files : Files) (t : Turn Session) →
-        step s files command.Renumber ≡ Ok t → KeepTrees s.repos t.session.repos }
+    ensures { (denial : Option Denial) (s : Session) (files : Files) (t : Turn Session) →
+        step denial s files command.Renumber ≡ Ok t → KeepTrees s.repos t.session.repos }
 {
     ids_stay();
     renumbering_keeps_trees();
 }
 
-/// A session whose histories are sound and within the limits stays one by every command that is done. So it does by
+/// A lawful session, whose histories are sound and within the limits, stays one by every command that is done. So it does by
 /// every line.
 pub fn a_step_keeps_it()
-    ensures command { (s : Session) (files : Files) (what : Command) (t : Turn Session) →
-        step s files what ≡ Ok t → IsLawful s → IsLawful t.session }
-    ensures line { (s : Session) (files : Files) (depth : ℕ) (what : ScriptLine) (t : Turn Session) →
-        line_step s files depth what ≡ Ok t → IsLawful s → IsLawful t.session }
+    ensures command { (denial : Option Denial) (s : Session) (files : Files) (what : Command)
+        (t : Turn Session) → step denial s files what ≡ Ok t → IsLawful s → IsLawful t.session }
+    ensures line { (denial : Option Denial) (s : Session) (files : Files) (depth : ℕ)
+        (what : ScriptLine) (t : Turn Session) → line_step denial s files depth what ≡ Ok t →
+        IsLawful s → IsLawful t.session }
 {
     what_is_read_is_sound();
     what_is_read_passes_no_limit();
     renumbering_keeps_soundness();
     ids_stay();
     nothing_else_changes();
+    selections_are_without_repeats();
+    sound_histories_are_such();
 }
 
 /// The chosen history of such a session is sound and within the limits.
