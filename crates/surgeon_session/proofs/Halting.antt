@@ -8,15 +8,13 @@ use Rattle.plain_model.specs.Paths.{Bytes}
 use Rattle.plain_model.specs.declared.fault.Fault.{Fault}
 use Rattle.plain_model.specs.declared.fault.Halt.{Halt}
 use Rattle.plain_model.specs.declared.fault.Halt.TheVariants as halt
-use Rattle.script_reader.specs.declared.command.Command.{Command}
-use Rattle.script_reader.specs.declared.command.Command.TheVariants as command
 use Rattle.surgeon_store.specs.Outside.{StoreState, SinkState, Reads}
 use Rattle.surgeon_store.specs.WholeFiles.{ReturnsOrBreaks}
 use Rattle.surgeon_store.specs.declared.whole_files.ReadEnd.{ReadEnd}
 use Rattle.surgeon_store.specs.declared.whole_files.ReadEnd.TheVariants as read
 use Rattle.script_reader.specs.Answering.{◌>>=◌}
 use Rattle.history_machine.specs.Machine.{World, Turn}
-use Rattle.history_machine.specs.Sessions.{Session, after_read, changes, step}
+use Rattle.history_machine.specs.Sessions.{Session, after_read, changes}
 use Rattle.surgeon_session.specs.Calls.{Outcome, world, world_of}
 use Rattle.surgeon_session.specs.Commands.{Agrees, CarriesOut, PartOf, Steps, no_calls}
 use Rattle.plain_model.specs.Faults.{Returns}
@@ -80,13 +78,14 @@ module _ {X Y : Type 0} (calls : Y → List Bytes) (s : StoreState) (k : SinkSta
   halted_keeps (Ok y) = tt
   halted_keeps (Err e) = same
 
--- a command that meets nothing outside
-pub halted_alone : (s : StoreState) (k : SinkState) (old new : Session) (what : Command) (h : Halt) (r : Result (Unit {0}) Halted) → IsErrAnd r (λ e. e ≡ of_halt h)
-    → ((files : Files) → Halts h (step old files what)) → new ≡ old → CarriesOut s k old what r new s k
-halted_alone s k old new what h r is halts same = record {
-  outcome = halted_outcome no_calls s k old new (λ files. step old files what) same h r is halts;
-  exact = λ _ files. halted_agrees no_calls s k old new (λ files. step old files what) same h r is files (halts files);
-  kept = halted_keeps no_calls s k old new (λ files. step old files what) same r;
+-- a command or a line that meets nothing outside
+pub halted_alone : {Y : Type 0} (calls : Y → List Bytes) (s : StoreState) (k : SinkState) (old new : Session) (reads_no_file : Type 0) (specified : Files → Result (Turn Session) Fault) (h : Halt)
+    (r : Result Y Halted) → IsErrAnd r (λ e. e ≡ of_halt h) → ((files : Files) → Halts h (specified files)) → new ≡ old
+    → CarriesOut calls s k old reads_no_file specified r new s k
+halted_alone calls s k old new reads_no_file specified h r is halts same = record {
+  outcome = halted_outcome calls s k old new specified same h r is halts;
+  exact = λ _ files. halted_agrees calls s k old new specified same h r is files (halts files);
+  kept = halted_keeps calls s k old new specified same r;
 }
 
 -- ---- `read`
@@ -103,11 +102,10 @@ module _ (s s' : StoreState) (k : SinkState) (old new : Session) (file name : By
 
   by_end : (e : ReadEnd) → IfSome s.files (λ files. ReturnsOrBreaks {X = Unit {0}} (λ _. new) (Err e) (after_read old files file name))
       → (IsErrOf {T = Unit {0}} (Err e) read.SourceFault → Rose s.read_faults s'.read_faults)
-      → CarriesOut s k old (command.Read file name) (Err (of_read_end e)) new s' k
-  unfolding step
+      → CarriesOut {Y = Unit {0}} no_calls s k old ⊥ (λ files. changes (after_read old files file name)) (Err (of_read_end e)) new s' k
   by_end (read.Refused fault) returns failed = record {
     outcome = record {
-      prescribed = read_worlds (λ w now. Steps {Y = Unit {0}} no_calls (Err (halted.Refused fault)) old w (step old w.files (command.Read file name)) new now)
+      prescribed = read_worlds (λ w now. Steps {Y = Unit {0}} no_calls (Err (halted.Refused fault)) old w (changes (after_read old w.files file name)) new now)
           (λ f is w its. (ap changes (subst (λ (g : Files). after_read old g file name ≡ Err fault) (sym its) (rw is at returns)), same, refl));
       caused = tt;
       later = read_later s s' k frame;
@@ -117,8 +115,8 @@ module _ (s s' : StoreState) (k : SinkState) (old new : Session) (file name : By
   }
   by_end read.SourceFault returns failed = record {
     outcome = record {
-      prescribed = read_worlds (λ w now. Steps {Y = Unit {0}} no_calls (Err halted.SourceFault) old w (step old w.files (command.Read file name)) new now)
-          (λ f is w its. (same, part_none w (step old w.files (command.Read file name))));
+      prescribed = read_worlds (λ w now. Steps {Y = Unit {0}} no_calls (Err halted.SourceFault) old w (changes (after_read old w.files file name)) new now)
+          (λ f is w its. (same, part_none w (changes (after_read old w.files file name))));
       caused = failed refl;
       later = read_later s s' k frame;
     };
@@ -127,8 +125,8 @@ module _ (s s' : StoreState) (k : SinkState) (old new : Session) (file name : By
   }
   by_end read.Memory returns failed = record {
     outcome = record {
-      prescribed = read_worlds (λ w now. Steps {Y = Unit {0}} no_calls (Err halted.Memory) old w (step old w.files (command.Read file name)) new now)
-          (λ f is w its. (same, part_none w (step old w.files (command.Read file name))));
+      prescribed = read_worlds (λ w now. Steps {Y = Unit {0}} no_calls (Err halted.Memory) old w (changes (after_read old w.files file name)) new now)
+          (λ f is w its. (same, part_none w (changes (after_read old w.files file name))));
       caused = tt;
       later = read_later s s' k frame;
     };
@@ -140,6 +138,6 @@ module _ (s s' : StoreState) (k : SinkState) (old new : Session) (file name : By
   pub halted_read : (e : ReadEnd) (r : Result (Unit {0}) Halted) → IsErrAnd r (λ x. x ≡ of_read_end e)
       → IfSome s.files (λ files. ReturnsOrBreaks {X = Unit {0}} (λ _. new) (Err e) (after_read old files file name))
       → (IsErrOf {T = Unit {0}} (Err e) read.SourceFault → Rose s.read_faults s'.read_faults)
-      → CarriesOut s k old (command.Read file name) r new s' k
+      → CarriesOut no_calls s k old ⊥ (λ files. changes (after_read old files file name)) r new s' k
   halted_read e (Ok y) is returns failed = absurd is
   halted_read e (Err x) is returns failed = rw is (by_end e returns failed)

@@ -3,6 +3,9 @@ mod Entries
 mod Pieces
 mod Halting
 mod Ids
+mod Changing
+mod Denying
+mod Readying
 pub mod Rounds
 pub mod SessionRounds
 mod Sessions

@@ -1,5 +1,5 @@
 -- One line of a run over a session, and what is after it.
-use Rattle.std.proofs.Common.{◌≡◌, ℕ, zero, suc, ◌+◌, ◌≤◌, List, [], ◌∷◌, ◌++◌, Bool, true, false, inl, inr, Result, Ok, Err, refl, sym, subst, arith}
+use Rattle.std.proofs.Common.{◌≡◌, ℕ, zero, suc, ◌+◌, ◌≤◌, List, [], ◌∷◌, ◌++◌, Bool, true, false, inl, inr, Option, Result, Ok, Err, refl, sym, subst, arith}
 use Rattle.std.proofs.lemmas.Bool.{cases_Bool}
 use Rattle.std.specs.Prelude.{◌&&◌, ◌||◌, not, map, if◌then◌else◌}
 use Rattle.plain_model.specs.Files.{Files}
@@ -76,7 +76,7 @@ caused_quiet s s' k k' status.NoScript q = absurd q
 caused_quiet s s' k k' status.BadScript q = absurd q
 
 -- nothing of what comes next is sent
-breaks_here : {X : Type 0} (ts : List (Turn X)) (w : World) → BreaksAfter zero ts w w
+pub breaks_here : {X : Type 0} (ts : List (Turn X)) (w : World) → BreaksAfter zero ts w w
 breaks_here [] w = refl
 breaks_here (t ∷ ts) w = no_part t.to t.bytes w
 
@@ -87,105 +87,107 @@ off_refused true true is_last same stop = refl
 off_refused true false true same stop = absurd cc
 off_refused true false false same stop = absurd cc
 
--- A run from here on, of which a first line is taken out, where so many more may be run.
-module _ {X : Type 0} (step : X → Files → ℕ → ScriptLine → Result (Turn X) Fault) (keep : Bool) (left : ℕ) (so_far : Status) (s s' : X) (w now : World) (next : Waiting) (lines : List Waiting) where
-  abbrev does : Result (Turn X) Fault
-  does = step s w.files next.depth next.what
+-- A run from here on, of which a first line is taken out that this befalls, where so many more may be run.
+module _ {X C : Type 0} (step : Option C → X → Files → ℕ → ScriptLine → Result (Turn X) Fault) (keep : Bool) (left : ℕ) (here : Option C) (more : List (Option C)) (so_far : Status) (s s' : X) (w now : World)
+    (next : Waiting) (lines : List Waiting)
+  where
+    abbrev does : Result (Turn X) Fault
+    does = step here s w.files next.depth next.what
 
-  -- the run, by what the first line does
-  abbrev from : Result (Turn X) Fault → Run X
-  from specified =
-      let t = turn_of s next.line specified in
-      with_first next.what t (
-      if goes_on keep specified
-      then run_on step keep left (status_after so_far specified) t.session (files_after t.to t.bytes w.files) (called_by next.line (next.depth + 1) t.calls ++ lines)
-      else ended status.Refused)
+    -- the run, by what the first line does
+    abbrev from : Result (Turn X) Fault → Run X
+    from specified =
+        let t = turn_of s next.line specified in
+        with_first next.what t (
+        if goes_on keep specified
+        then run_on step keep left more (status_after so_far specified) t.session (files_after t.to t.bytes w.files) (called_by next.line (next.depth + 1) t.calls ++ lines)
+        else ended status.Refused)
 
-  abbrev whole : Run X
-  whole = run_on step keep (suc left) so_far s w.files (next ∷ lines)
+    abbrev whole : Run X
+    whole = run_on step keep (suc left) (here ∷ more) so_far s w.files (next ∷ lines)
 
-  -- it goes on after a line that is done
-  pub done_goes_on : (calls : List Bytes) → Carries calls w does s' now
-      → (r : Status) (s'' : X) (last : World)
-      → SessionEndsAs (run_on step keep left so_far s' now.files (called_by next.line (next.depth + 1) calls ++ lines)) r s' now s'' last
-      → SessionEndsAs whole r s w s'' last
-  done_goes_on calls carried r s'' last h = at does refl carried
-    where
-      at : (specified : Result (Turn X) Fault) → does ≡ specified → Carries calls w specified s' now → SessionEndsAs whole r s w s'' last
-      at (Ok t) e c =
-          let rest : List Bytes → List Waiting = λ texts. called_by next.line (next.depth + 1) texts ++ lines in
-          subst (λ specified. SessionEndsAs (from specified) r s w s'' last) (sym e)
-          (session_first next.what t (run_on step keep left so_far t.session (after w t).files (rest t.calls)) r s s'' w last
-          (subst (λ (x : X). SessionEndsAs (run_on step keep left so_far x (after w t).files (rest t.calls)) r x (after w t) s'' last) c.0
-          (subst (λ (v : World). SessionEndsAs (run_on step keep left so_far s' v.files (rest t.calls)) r s' v s'' last) c.1
-          (subst (λ (texts : List Bytes). SessionEndsAs (run_on step keep left so_far s' now.files (rest texts)) r s' now s'' last) (sym c.2) h))))
-      at (Err fault) e c = absurd c
+    -- it goes on after a line that is done
+    pub done_goes_on : (calls : List Bytes) → Carries calls w does s' now
+        → (r : Status) (s'' : X) (last : World)
+        → SessionEndsAs (run_on step keep left more so_far s' now.files (called_by next.line (next.depth + 1) calls ++ lines)) r s' now s'' last
+        → SessionEndsAs whole r s w s'' last
+    done_goes_on calls carried r s'' last h = at does refl carried
+      where
+        at : (specified : Result (Turn X) Fault) → does ≡ specified → Carries calls w specified s' now → SessionEndsAs whole r s w s'' last
+        at (Ok t) e c =
+            let rest : List Bytes → List Waiting = λ texts. called_by next.line (next.depth + 1) texts ++ lines in
+            subst (λ specified. SessionEndsAs (from specified) r s w s'' last) (sym e)
+            (session_first next.what t (run_on step keep left more so_far t.session (after w t).files (rest t.calls)) r s s'' w last
+            (subst (λ (x : X). SessionEndsAs (run_on step keep left more so_far x (after w t).files (rest t.calls)) r x (after w t) s'' last) c.0
+            (subst (λ (v : World). SessionEndsAs (run_on step keep left more so_far s' v.files (rest t.calls)) r s' v s'' last) c.1
+            (subst (λ (texts : List Bytes). SessionEndsAs (run_on step keep left more so_far s' now.files (rest texts)) r s' now s'' last) (sym c.2) h))))
+        at (Err fault) e c = absurd c
 
-  -- it goes on after a refusal
-  pub refused_goes_on : (is_last : Bool) → (is_last || not keep) ≡ false → (s' ≡ s) × Refuses w next.line is_last does now
-      → (r : Status) (s'' : X) (last : World) → SessionEndsAs (run_on step keep left status.Refused s' now.files lines) r s' now s'' last
-      → SessionEndsAs whole r s w s'' last
-  refused_goes_on is_last goes refused r s'' last h = at does refl refused.1
-    where
-      on : (k l limit : Bool) → (l || not k) ≡ false → l ≡ limit → (k && not limit) ≡ true
-      on true false false g e = refl
-      on true false true g e = absurd cc
-      on true true limit g e = absurd cc
-      on false true limit g e = absurd cc
-      on false false limit g e = absurd cc
+    -- it goes on after a refusal
+    pub refused_goes_on : (is_last : Bool) → (is_last || not keep) ≡ false → (s' ≡ s) × Refuses w next.line is_last does now
+        → (r : Status) (s'' : X) (last : World) → SessionEndsAs (run_on step keep left more status.Refused s' now.files lines) r s' now s'' last
+        → SessionEndsAs whole r s w s'' last
+    refused_goes_on is_last goes refused r s'' last h = at does refl refused.1
+      where
+        on : (k l limit : Bool) → (l || not k) ≡ false → l ≡ limit → (k && not limit) ≡ true
+        on true false false g e = refl
+        on true false true g e = absurd cc
+        on true true limit g e = absurd cc
+        on false true limit g e = absurd cc
+        on false false limit g e = absurd cc
 
-      at : (specified : Result (Turn X) Fault) → does ≡ specified → Refuses w next.line is_last specified now → SessionEndsAs whole r s w s'' last
-      at (Ok t) e c = absurd c
-      at (Err fault) e c =
-          let t = turn_of s next.line (Err fault) in
-          subst (λ specified. SessionEndsAs (from specified) r s w s'' last) (sym e)
-          (subst (λ b. SessionEndsAs (with_first next.what t (if b then run_on step keep left status.Refused s w.files lines else ended status.Refused)) r s w s'' last) (sym (on keep is_last (passes_limit fault) goes c.0))
-          (session_first next.what t (run_on step keep left status.Refused s w.files lines) r s s'' w last
-          (subst (λ (x : X). SessionEndsAs (run_on step keep left status.Refused x w.files lines) r x (after w t) s'' last) refused.0
-          (subst (λ (v : World). SessionEndsAs (run_on step keep left status.Refused s' v.files lines) r s' v s'' last) c.1 h))))
+        at : (specified : Result (Turn X) Fault) → does ≡ specified → Refuses w next.line is_last specified now → SessionEndsAs whole r s w s'' last
+        at (Ok t) e c = absurd c
+        at (Err fault) e c =
+            let t = turn_of s next.line (Err fault) in
+            subst (λ specified. SessionEndsAs (from specified) r s w s'' last) (sym e)
+            (subst (λ b. SessionEndsAs (with_first next.what t (if b then run_on step keep left more status.Refused s w.files lines else ended status.Refused)) r s w s'' last) (sym (on keep is_last (passes_limit fault) goes c.0))
+            (session_first next.what t (run_on step keep left more status.Refused s w.files lines) r s s'' w last
+            (subst (λ (x : X). SessionEndsAs (run_on step keep left more status.Refused x w.files lines) r x (after w t) s'' last) refused.0
+            (subst (λ (v : World). SessionEndsAs (run_on step keep left more status.Refused s' v.files lines) r s' v s'' last) c.1 h))))
 
-  -- it ends with a refusal
-  pub refused_stops : (is_last : Bool) → (is_last || not keep) ≡ true → (s' ≡ s) × Refuses w next.line is_last does now
-      → SessionEndsAs whole status.Refused s w s' now
-  refused_stops is_last stop refused = at does refl refused.1
-    where
-      at : (specified : Result (Turn X) Fault) → does ≡ specified → Refuses w next.line is_last specified now → SessionEndsAs whole status.Refused s w s' now
-      at (Ok t) e c = absurd c
-      at (Err fault) e c =
-          let t = turn_of s next.line (Err fault) in
-          subst (λ specified. SessionEndsAs (from specified) status.Refused s w s' now) (sym e)
-          (subst (λ b. SessionEndsAs (with_first next.what t (if b then run_on step keep left status.Refused s w.files lines else ended status.Refused)) status.Refused s w s' now) (sym (off_refused keep (passes_limit fault) is_last c.0 stop))
-          (refused.0, (refl, c.1)))
+    -- it ends with a refusal
+    pub refused_stops : (is_last : Bool) → (is_last || not keep) ≡ true → (s' ≡ s) × Refuses w next.line is_last does now
+        → SessionEndsAs whole status.Refused s w s' now
+    refused_stops is_last stop refused = at does refl refused.1
+      where
+        at : (specified : Result (Turn X) Fault) → does ≡ specified → Refuses w next.line is_last specified now → SessionEndsAs whole status.Refused s w s' now
+        at (Ok t) e c = absurd c
+        at (Err fault) e c =
+            let t = turn_of s next.line (Err fault) in
+            subst (λ specified. SessionEndsAs (from specified) status.Refused s w s' now) (sym e)
+            (subst (λ b. SessionEndsAs (with_first next.what t (if b then run_on step keep left more status.Refused s w.files lines else ended status.Refused)) status.Refused s w s' now) (sym (off_refused keep (passes_limit fault) is_last c.0 stop))
+            (refused.0, (refl, c.1)))
 
-  -- it breaks off in the line
-  pub line_breaks : (r : Status) → IsBreak r → (s' ≡ s) × PartSent (turn_of s next.line does).to (turn_of s next.line does).bytes w now
-      → SessionEndsAs whole r s w s' now
-  line_breaks r b h = session_broken whole r s s' w now b (zero, h.0, h.1)
+    -- it breaks off in the line
+    pub line_breaks : (r : Status) → IsBreak r → (s' ≡ s) × PartSent (turn_of s next.line does).to (turn_of s next.line does).bytes w now
+        → SessionEndsAs whole r s w s' now
+    line_breaks r b h = session_broken whole r s s' w now b (zero, h.0, h.1)
 
-  -- it breaks off after the line, since memory is out for what is run next
-  pub memory_after : (calls : List Bytes) → Carries calls w does s' now → SessionEndsAs whole status.Memory s w s' now
-  memory_after calls carried = at does refl carried
-    where
-      at : (specified : Result (Turn X) Fault) → does ≡ specified → Carries calls w specified s' now → SessionEndsAs whole status.Memory s w s' now
-      at (Ok t) e c =
-          subst (λ specified. SessionEndsAs (from specified) status.Memory s w s' now) (sym e) (
-            suc zero,
-            c.0,
-            subst (BreaksAfter zero (run_on step keep left so_far t.session (after w t).files (called_by next.line (next.depth + 1) t.calls ++ lines)).turns (after w t)) (sym c.1)
-                (breaks_here (run_on step keep left so_far t.session (after w t).files (called_by next.line (next.depth + 1) t.calls ++ lines)).turns (after w t)),
-          )
-      at (Err fault) e c = absurd c
+    -- it breaks off after the line, since memory is out for what is run next
+    pub memory_after : (calls : List Bytes) → Carries calls w does s' now → SessionEndsAs whole status.Memory s w s' now
+    memory_after calls carried = at does refl carried
+      where
+        at : (specified : Result (Turn X) Fault) → does ≡ specified → Carries calls w specified s' now → SessionEndsAs whole status.Memory s w s' now
+        at (Ok t) e c =
+            subst (λ specified. SessionEndsAs (from specified) status.Memory s w s' now) (sym e) (
+              suc zero,
+              c.0,
+              subst (BreaksAfter zero (run_on step keep left more so_far t.session (after w t).files (called_by next.line (next.depth + 1) t.calls ++ lines)).turns (after w t)) (sym c.1)
+                  (breaks_here (run_on step keep left more so_far t.session (after w t).files (called_by next.line (next.depth + 1) t.calls ++ lines)).turns (after w t)),
+            )
+        at (Err fault) e c = absurd c
 
-  -- no more lines may be run
-  pub past_ends : (r : Status) → EndsPast next.line next.what r w now → SessionEndsAs (run_on step keep zero so_far s w.files (next ∷ lines)) r s w s now
-  past_ends status.Refused h = (refl, (refl, h))
-  past_ends status.SinkFault h = (zero, refl, h)
-  past_ends status.Memory h = (zero, refl, h)
-  past_ends status.SourceFault h = absurd h
-  past_ends status.Done h = absurd h
-  past_ends status.Usage h = absurd h
-  past_ends status.NoScript h = absurd h
-  past_ends status.BadScript h = absurd h
+    -- no more lines may be run
+    pub past_ends : (r : Status) → EndsPast next.line next.what r w now → SessionEndsAs (run_on step keep zero (here ∷ more) so_far s w.files (next ∷ lines)) r s w s now
+    past_ends status.Refused h = (refl, (refl, h))
+    past_ends status.SinkFault h = (zero, refl, h)
+    past_ends status.Memory h = (zero, refl, h)
+    past_ends status.SourceFault h = absurd h
+    past_ends status.Done h = absurd h
+    past_ends status.Usage h = absurd h
+    past_ends status.NoScript h = absurd h
+    past_ends status.BadScript h = absurd h
 
 -- what breaks a line off breaks the run off
 pub breaks_run : (how : Broken) → IsBreak (status_of_turn (turned.Broken how))

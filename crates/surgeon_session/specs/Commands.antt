@@ -15,7 +15,7 @@ use Rattle.script_reader.specs.declared.script.ScriptLine.TheVariants.{Define, P
 use Rattle.script_reader.specs.Commands.{order_of}
 use Rattle.surgeon_store.specs.Outside.{StoreState, SinkState}
 use Rattle.history_machine.specs.Machine.{World, Turn, PartSent, after, passes_limit, sent, turn_of}
-use Rattle.history_machine.specs.Sessions.{Session, step}
+use Rattle.history_machine.specs.Sessions.{Session}
 use Rattle.surgeon_session.specs.Calls.{Outcome}
 use Rattle.surgeon_session.specs.Ends.{status_of}
 use Rattle.surgeon_session.specs.declared.halted.Halted.{Halted}
@@ -73,11 +73,12 @@ Agrees (Ok y) specified s' = Leaves specified s'
 Agrees (Err (halted.Refused fault)) specified s' = specified ≡ Err fault
 Agrees (Err other) specified s' = Unit {0}
 
--- What a command does that ends so. Where the world is reported: what the machine specifies. Of every store and sink: it
--- is done or refused as the machine says, unless it reads a file; and if it isn't done, the session is as it was.
-pub record CarriesOut (s : StoreState) (k : SinkState) (old : Session) (what : Command) (result : Result (Unit {0}) Halted) (new : Session) (s' : StoreState) (k' : SinkState) : Type 0 where
-  pub outcome : Outcome (λ w now. Steps no_calls result old w (step old w.files what) new now) s k (status_of result) s' k'
-  pub exact : ReadsNoFile what → (files : Files) → Agrees result (step old files what) new
+-- What a command or a line does that ends so, where this is what is specified among files. Where the world is reported: that. Of every
+-- store and sink: it is done or refused as is specified, unless it reads a file; and if it isn't done, the session is as it was.
+pub record CarriesOut {Y : Type 0} (calls : Y → List Bytes) (s : StoreState) (k : SinkState) (old : Session) (reads_no_file : Type 0) (specified : Files → Result (Turn Session) Fault)
+    (result : Result Y Halted) (new : Session) (s' : StoreState) (k' : SinkState) : Type 0 where
+  pub outcome : Outcome (λ w now. Steps calls result old w (specified w.files) new now) s k (status_of result) s' k'
+  pub exact : reads_no_file → (files : Files) → Agrees result (specified files) new
   pub kept : OnErr result (new ≡ old)
 
 -- ---- one line of a run

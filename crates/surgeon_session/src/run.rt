@@ -1,5 +1,5 @@
 //! The lines of a script, one after another.
-ghost use Rattle.std.specs.Prelude.{◌≡◌, ◌||◌, not, ◌≤◌, IfSome, IsErrOf, OnErr, OnOk, Ok};
+ghost use Rattle.std.specs.Prelude.{◌≡◌, ◌||◌, not, ◌≤◌, IfSome, IsErrOf, OnOk, Ok};
 ghost use Rattle.plain_model.specs.Counts.{Rose};
 ghost use Rattle.plain_model.specs.Faults.{refusal};
 ghost use Rattle.plain_model.specs.Files.{Files};
@@ -8,14 +8,14 @@ ghost use Rattle.history_machine.specs.Sessions.{line_step, ordered};
 ghost use Rattle.history_machine.specs.Whole.{run_from};
 ghost use Rattle.surgeon_session.specs.Calls.{Caused, Later, Outcome, world};
 ghost use Rattle.surgeon_session.specs.Commands.{
-  Agrees,
+  CarriesOut,
   LineReadsNoFile,
   OrderReadsNoFile,
-  Steps,
   Turns,
   status_of_turn,
 };
-ghost use Rattle.surgeon_session.specs.Ends.{IsEnd, status_of};
+ghost use Rattle.surgeon_session.specs.Denials.{Under, UnderAll};
+ghost use Rattle.surgeon_session.specs.Ends.{IsEnd};
 ghost use Rattle.surgeon_session.specs.Waits.{AreWithin, EndsPast};
 ghost use Rattle.surgeon_session.specs.declared.turned.Turned.TheVariants as turned;
 ghost use Rattle.surgeon_store.specs.Outside.{Puts, PutsSome, StoreState};
@@ -24,34 +24,34 @@ use crate::halted::Halted;
 use crate::session::Session;
 use crate::turned::{Broken, Turned};
 use crate::worklist::Worklist;
+use byte_patterns::Patterns;
 use history_machine::Waiting;
-use plain_model::{Fault, Items, MAX_COMMANDS, MAX_LINE_BYTES, NoMemory, Status, Which};
-use script_reader::{LineList, Order, Script, ScriptLine, is_long};
+use plain_model::{Fault, Items, MAX_COMMANDS, NoMemory, Status, Which};
+use script_reader::{LineList, Order, Script, ScriptLine, is_long, too_long};
 use std::alloc::Global;
 use surgeon_store::{Sink, Store, WriteEnd, write_all};
 
 // Carries out an order inside so many macros, and gives the lines that are run next.
-fn carry_out_order<S: Store, T: Sink>(
+fn carry_out_order<S: Store, T: Sink, P: Patterns>(
     alloc: Global,
     session: &mut Session,
     depth: u64,
     order: &Order,
     store: &mut S,
     out: &mut T,
+    patterns: &mut P,
 ) -> Result<LineList, Halted>
     requires { depth ≤ MAX_COMMANDS }
-    ensures outcome { Outcome
-        (λ w now. Steps (λ calls. calls) result session.old w
-        (ordered session.old w.files depth order.now) session.new now)
-        (S.state store.old) (T.state out.old) (status_of result)
-        (S.state store.new) (T.state out.new) }
-    ensures exact { OrderReadsNoFile (Ok order.now) → (files : Files) →
-        Agrees result (ordered session.old files depth order.now) session.new }
-    ensures kept { OnErr result (session.new ≡ session.old) }
+    ensures carries { Under (P.sizes patterns.old) (P.sizes patterns.new)
+        (λ denial. CarriesOut (λ calls. calls) (S.state store.old) (T.state out.old) session.old
+        (OrderReadsNoFile (Ok order.now))
+        (λ files. ordered denial session.old files depth order.now)
+        result session.new (S.state store.new) (T.state out.new)) }
+    ensures grows { P.sizes patterns.old ≤ P.sizes patterns.new }
 {
     match order {
         Order::Step(command) => {
-            session.step(command, store, out)?;
+            session.step(command, store, out, patterns)?;
             Ok(Items::empty(alloc))
         }
         Order::Do(call) => Ok(session.expand(call, depth + 1)?),
@@ -60,23 +60,21 @@ fn carry_out_order<S: Store, T: Sink>(
 
 // Carries out a line inside so many macros, and gives the lines that are run next.
 #[tactic(auto, unfolding(history_machine::specs::Sessions::line_step))]
-fn carry_out<S: Store, T: Sink>(
+fn carry_out<S: Store, T: Sink, P: Patterns>(
     alloc: Global,
     session: &mut Session,
     depth: u64,
     what: ScriptLine,
     store: &mut S,
     out: &mut T,
+    patterns: &mut P,
 ) -> Result<LineList, Halted>
     requires { depth ≤ MAX_COMMANDS }
-    ensures outcome { Outcome
-        (λ w now. Steps (λ calls. calls) result session.old w
-        (line_step session.old w.files depth what) session.new now)
-        (S.state store.old) (T.state out.old) (status_of result)
-        (S.state store.new) (T.state out.new) }
-    ensures exact { LineReadsNoFile what → (files : Files) →
-        Agrees result (line_step session.old files depth what) session.new }
-    ensures kept { OnErr result (session.new ≡ session.old) }
+    ensures carries { Under (P.sizes patterns.old) (P.sizes patterns.new)
+        (λ denial. CarriesOut (λ calls. calls) (S.state store.old) (T.state out.old) session.old
+        (LineReadsNoFile what) (λ files. line_step denial session.old files depth what)
+        result session.new (S.state store.new) (T.state out.new)) }
+    ensures grows { P.sizes patterns.old ≤ P.sizes patterns.new }
 {
     match what {
         ScriptLine::Define { name, body } => {
@@ -85,7 +83,7 @@ fn carry_out<S: Store, T: Sink>(
         }
         ScriptLine::Plain(text) => {
             let order = Order::read(alloc, text.as_str())?;
-            carry_out_order(alloc, session, depth, &order, store, out)
+            carry_out_order(alloc, session, depth, &order, store, out, patterns)
         }
     }
 }
@@ -120,22 +118,25 @@ fn passes_limit(fault: &Fault) -> bool
 }
 
 // Carries out a line, or prints its refusal.
-fn turn<S: Store, T: Sink>(
+fn turn<S: Store, T: Sink, P: Patterns>(
     alloc: Global,
     session: &mut Session,
     next: Waiting,
     store: &mut S,
     out: &mut T,
+    patterns: &mut P,
 ) -> Turned
     requires { next.depth ≤ MAX_COMMANDS }
-    ensures { Outcome
+    ensures outcome { Under (P.sizes patterns.old) (P.sizes patterns.new)
+        (λ denial. Outcome
         (λ w now. Turns result session.old w next.line
-        (line_step session.old w.files next.depth next.what) session.new now)
+        (line_step denial session.old w.files next.depth next.what) session.new now)
         (S.state store.old) (T.state out.old) (status_of_turn result)
-        (S.state store.new) (T.state out.new) }
+        (S.state store.new) (T.state out.new)) }
+    ensures grows { P.sizes patterns.old ≤ P.sizes patterns.new }
 {
     let line = next.line;
-    match carry_out(alloc, session, next.depth, next.what, store, out) {
+    match carry_out(alloc, session, next.depth, next.what, store, out, patterns) {
         Ok(calls) => Turned::Done(calls),
         Err(Halted::Refused(fault)) => match print_refusal(alloc, out, line, &fault) {
             Ok(()) => Turned::Refused {
@@ -155,10 +156,7 @@ fn past(what: &ScriptLine) -> Fault
     ensures { result ≡ past what.now }
 {
     match what {
-        ScriptLine::Plain(text) if is_long(text.as_str()) => Fault::ExpansionLimit {
-            which: Which::LineBytes,
-            number: MAX_LINE_BYTES,
-        },
+        ScriptLine::Plain(text) if is_long(text.as_str()) => too_long(),
         _ => Fault::ExpansionLimit {
             which: Which::Commands,
             number: MAX_COMMANDS,
@@ -201,20 +199,23 @@ fn is_stop(keep_going: bool, is_last: bool) -> bool
 }
 
 // Runs the lines that wait.
-fn run_lines<S: Store, T: Sink>(
+fn run_lines<S: Store, T: Sink, P: Patterns>(
     alloc: Global,
     session: &mut Session,
     mut lines: Worklist,
     keep_going: bool,
     store: &mut S,
     out: &mut T,
+    patterns: &mut P,
 ) -> Status
     requires { AreWithin MAX_COMMANDS MAX_COMMANDS lines }
-    ensures outcome { Outcome
+    ensures outcome { UnderAll (P.sizes patterns.old) (P.sizes patterns.new)
+        (λ denials. Outcome
         (λ w now. SessionEndsAs
-        (run_on line_step keep_going MAX_COMMANDS Status.Done session.old w.files lines) result
-        session.old w session.new now)
-        (S.state store.old) (T.state out.old) result (S.state store.new) (T.state out.new) }
+        (run_on line_step keep_going MAX_COMMANDS denials Status.Done session.old w.files lines)
+        result session.old w session.new now)
+        (S.state store.old) (T.state out.old) result (S.state store.new) (T.state out.new)) }
+    ensures grows { P.sizes patterns.old ≤ P.sizes patterns.new }
     ensures ends { IsEnd result }
 {
     let mut so_far = Status::Done;
@@ -226,7 +227,7 @@ fn run_lines<S: Store, T: Sink>(
         left -= 1;
         let line = next.line;
         let depth = next.depth + 1;
-        match turn(alloc, session, next, store, out) {
+        match turn(alloc, session, next, store, out, patterns) {
             Turned::Done(calls) => match lines.call(line, depth, calls) {
                 Ok(()) => {}
                 Err(NoMemory) => return Status::Memory,
@@ -246,24 +247,27 @@ fn run_lines<S: Store, T: Sink>(
 impl Session {
     /// Runs a script: each line's command is carried out, or refused with a printed line. A `do` is followed by the lines that it
     /// calls. The first refusal ends the run, unless it is to keep going; one by a limit of runs (24) always does.
-    pub fn run<S: Store, T: Sink>(
+    pub fn run<S: Store, T: Sink, P: Patterns>(
         &mut self,
         script: &Script,
         keep_going: bool,
         store: &mut S,
         out: &mut T,
+        patterns: &mut P,
     ) -> Status
-        ensures outcome { Outcome
-            (λ w now. SessionEndsAs (run_from self.old w.files script.now keep_going) result
+        ensures outcome { UnderAll (P.sizes patterns.old) (P.sizes patterns.new)
+            (λ denials. Outcome
+            (λ w now. SessionEndsAs (run_from denials self.old w.files script.now keep_going) result
             self.old w self.new now)
-            (S.state store.old) (T.state out.old) result (S.state store.new) (T.state out.new) }
+            (S.state store.old) (T.state out.old) result (S.state store.new) (T.state out.new)) }
+        ensures grows { P.sizes patterns.old ≤ P.sizes patterns.new }
 
         // A run of a script never ends with Usage, NoScript or BadScript.
         ensures ends { IsEnd result }
     {
         let alloc = self.allocator();
         match Worklist::of(alloc, script) {
-            Ok(lines) => run_lines(alloc, self, lines, keep_going, store, out),
+            Ok(lines) => run_lines(alloc, self, lines, keep_going, store, out, patterns),
             Err(NoMemory) => Status::Memory,
         }
     }

@@ -1,11 +1,22 @@
 //! What a session holds, and one command. The parts: `loading` reads histories, `choosing` chooses and forgets them,
 //! `changing` edits them, `showing` makes the texts that are written and listed.
-ghost use Rattle.std.specs.Prelude.{◌≡◌, IfOk, OnErr, OnOk};
-ghost use Rattle.history_machine.specs.Sessions.{defining, empty_session};
+ghost use Rattle.std.specs.Prelude.{◌≡◌, ◌≤◌, IfOk, OnErr, OnOk};
+ghost use Rattle.byte_patterns.specs.Judging.{Judges};
+ghost use Rattle.history_machine.specs.Sessions.{
+  Scope,
+  carried,
+  chosen,
+  defining,
+  empty_session,
+  in_scope,
+  ready,
+  step,
+};
 ghost use Rattle.script_reader.specs.Macros.{called};
-ghost use Rattle.surgeon_session.specs.Commands.{CarriesOut};
+ghost use Rattle.surgeon_session.specs.Commands.{CarriesOut, ReadsNoFile, no_calls};
+ghost use Rattle.surgeon_session.specs.Denials.{Under};
 ghost use Rattle.plain_model.specs.Faults.{Returns};
-ghost use Rattle.surgeon_session.specs.Entries.{chosen_history, chosen_name};
+ghost use Rattle.surgeon_session.specs.Entries.{all_in, repo_under};
 ghost use Rattle.surgeon_session.specs.Pieces.{StopsNear, bytes_read, refused};
 
 mod changing;
@@ -15,9 +26,11 @@ mod showing;
 
 use crate::halted::Halted;
 use crate::repositories::Repositories;
-use event_arena::Events;
-use plain_model::{Fault, Halt, NoMemory, Text};
-use script_reader::{Call, Command, LineList, Macros};
+use crate::repository::Repository;
+use byte_patterns::Patterns;
+use listing::all;
+use plain_model::{AnyId, Fault, Halt, IdList, Items, NoMemory, Text};
+use script_reader::{Call, Command, LineList, Macros, WrittenSelection};
 use std::alloc::Global;
 use std::marker::Model;
 use surgeon_store::{Sink, Store};
@@ -66,56 +79,87 @@ impl Session {
 
     /// The lines that a `do` puts in its place, where its body is run at this depth.
     pub(crate) fn expand(&self, call: &Call, depth: u64) -> Result<LineList, Halt>
-        ensures { Returns (λ lines. lines) result
-            (called self.now.macros call.now.name call.now.words depth) }
+        ensures { Returns (λ lines. lines) result (called self.now.macros call.now depth) }
     {
         self.macros.expand(call, depth)
     }
 
-    // The chosen history.
+    // The name of the chosen repository, and what is loaded under it.
     #[tactic(auto, unfolding(history_machine::specs::Sessions::chosen))]
-    fn chosen(&self) -> Result<&Events, Halt>
-        ensures { Returns (λ events. events.now.list) result (chosen_history self.now) }
+    fn chosen(&self) -> Result<(&[u8], &Repository), Halt>
+        ensures { Returns (λ found. repo_under found.0.now found.1.now) result (chosen self.now) }
     {
         match &self.choice {
-            Some(name) => match self.repositories.history(name.as_slice()) {
-                Some(events) => Ok(events),
+            Some(name) => match self.repositories.repository(name.as_slice()) {
+                Some(repository) => Ok((name.as_slice(), repository)),
                 None => Err(Halt::Refused(Fault::NoRepo)),
             },
             None => Err(Halt::Refused(Fault::NoRepo)),
         }
     }
 
-    // The name of the chosen repository.
+    // The ids of all events of the chosen history.
+    fn all_events(&self) -> Result<IdList, Halt>
+        ensures { Returns (λ ids. ids) result (all_in self.now) }
+    {
+        let (_, repository) = self.chosen()?;
+        Ok(all(self.alloc, repository.events())?)
+    }
+
+    // The events of the chosen history for which a selection stands.
     #[tactic(auto, unfolding(history_machine::specs::Sessions::chosen))]
-    fn chosen_name(&self) -> Result<Text, Halt>
-        ensures { Returns (λ name. name) result (chosen_name self.now) }
+    fn selected<P: Patterns>(
+        &mut self,
+        selection: &WrittenSelection,
+        patterns: &mut P,
+    ) -> Result<IdList, Halt>
+        ensures judged { Judges (λ ids. ids) (P.sizes patterns.old) (P.sizes patterns.new) result
+            (in_scope self.old (Scope.selected selection.now)) }
+        ensures same { self.new ≡ self.old }
+        ensures grows { P.sizes patterns.old ≤ P.sizes patterns.new }
     {
         match &self.choice {
-            Some(name) => {
-                if self.repositories.has(name.as_slice()) {
-                    Ok(name.copy()?)
-                } else {
-                    Err(Halt::Refused(Fault::NoRepo))
-                }
-            }
+            Some(name) => self
+                .repositories
+                .denoted(name.as_slice(), selection, patterns),
             None => Err(Halt::Refused(Fault::NoRepo)),
         }
     }
 
-    /// Carries out one command, or refuses it and leaves session and files as they were. A fault of the outside and out of
-    /// memory leave the session as it was, and a first part of what the command writes or prints may be there.
-    #[tactic(auto, unfolding(history_machine::specs::Sessions::step))]
-    pub fn step<S: Store, T: Sink>(
+    // The events of which a command speaks, after the checks that come before its own.
+    #[tactic(auto, unfolding(history_machine::specs::Sessions::ready))]
+    fn ready<P: Patterns>(&mut self, command: &Command, patterns: &mut P) -> Result<IdList, Halt>
+        ensures judged { Judges (λ ids. ids) (P.sizes patterns.old) (P.sizes patterns.new) result
+            (ready self.old command.now) }
+        ensures same { self.new ≡ self.old }
+        ensures grows { P.sizes patterns.old ≤ P.sizes patterns.new }
+    {
+        match command {
+            Command::Show {
+                selection: Some(selection),
+                ..
+            } => self.selected(selection, patterns),
+            Command::Show {
+                selection: None,
+                ..
+            } => self.all_events(),
+            Command::Assign { selection, .. } => self.selected(selection, patterns),
+            _ => Ok(Items::empty(self.alloc)),
+        }
+    }
+
+    // What a command does with the events of which it speaks.
+    #[tactic(auto, unfolding(history_machine::specs::Sessions::carried))]
+    fn carry<S: Store, T: Sink>(
         &mut self,
         command: &Command,
+        ids: &[AnyId],
         store: &mut S,
         out: &mut T,
     ) -> Result<(), Halted>
-        ensures carries { CarriesOut (S.state store.old) (T.state out.old) self.old command.now result
-            self.new (S.state store.new) (T.state out.new) }
-
-        // A refused `read` takes at most one piece of the file past the line that is refused.
+        ensures carries { CarriesOut no_calls (S.state store.old) (T.state out.old) self.old
+            (ReadsNoFile command.now) (λ files. carried self.old files ids.now command.now)
+            result self.new (S.state store.new) (T.state out.new) }
         ensures near { StopsNear (bytes_read (S.state store.old).files command.now) (refused result)
             (S.state store.new).rest }
     {
@@ -127,9 +171,34 @@ impl Session {
             Command::Drop { name } => Ok(self.forget(name.as_slice())?),
             Command::DropChosen => Ok(self.forget_chosen()?),
             Command::Renumber => Ok(self.renumber()?),
-            Command::List { to } => self.list(store, out, to),
-            Command::Index { to } => self.index(store, out, to),
+            Command::Show { what, to, .. } => self.show(*what, ids, store, out, to),
+            Command::Assign { name, .. } => Ok(self.assign(ids, name.as_slice())?),
             Command::Names { to } => self.names(store, out, to),
+            Command::Summary { to } => self.summary(store, out, to),
         }
+    }
+
+    /// Carries out one command, or refuses it and leaves session and files as they were. A fault of the outside and out of
+    /// memory leave the session as it was, and a first part of what the command writes or prints may be there.
+    #[tactic(auto, unfolding(history_machine::specs::Sessions::step))]
+    pub fn step<S: Store, T: Sink, P: Patterns>(
+        &mut self,
+        command: &Command,
+        store: &mut S,
+        out: &mut T,
+        patterns: &mut P,
+    ) -> Result<(), Halted>
+        ensures carries { Under (P.sizes patterns.old) (P.sizes patterns.new)
+            (λ denial. CarriesOut no_calls (S.state store.old) (T.state out.old) self.old
+            (ReadsNoFile command.now) (λ files. step denial self.old files command.now)
+            result self.new (S.state store.new) (T.state out.new)) }
+
+        // A refused `read` takes at most one piece of the file past the line that is refused.
+        ensures near { StopsNear (bytes_read (S.state store.old).files command.now) (refused result)
+            (S.state store.new).rest }
+        ensures grows { P.sizes patterns.old ≤ P.sizes patterns.new }
+    {
+        let ids = self.ready(command, patterns)?;
+        self.carry(command, ids.as_slice(), store, out)
     }
 }

@@ -1,4 +1,5 @@
 use crate::{Halted, Session};
+use byte_patterns::RegexPatterns;
 use plain_model::{Fault, Items, Status, Text};
 use script_reader::{Order, Script};
 use std::alloc::Global;
@@ -42,7 +43,8 @@ fn run(alloc: Global, script: &[u8], keep_going: bool) -> Result<Ending, Fail> {
     let mut out = SureSink::new(alloc)?;
     let script = Script::read(alloc, script).ok().ok_or("no script")?;
     let mut session = Session::new(alloc)?;
-    let status = session.run(&script, keep_going, &mut store, &mut out);
+    let mut patterns = RegexPatterns::new(alloc, 0);
+    let status = session.run(&script, keep_going, &mut store, &mut out, &mut patterns);
     let written = match store.file("out") {
         Some(bytes) => Items::of(alloc, bytes.as_slice())?,
         None => Items::new(alloc)?,
@@ -59,7 +61,7 @@ fn each_command_prints_and_writes_its_text(rt: HostRuntime) -> Result<(), Fail> 
     let alloc = rt.alloc();
     let index: &[u8] =
         b"     1 blob :7\n     2 commit :9 refs/heads/main\n     3 reset :9 refs/tags/v\n";
-    let rows: [(&str, &[u8], &[u8], &[u8]); 9] = [
+    let rows: [(&str, &[u8], &[u8], &[u8]); 13] = [
         (
             "list",
             b"read <1.fi\nlist",
@@ -74,6 +76,30 @@ fn each_command_prints_and_writes_its_text(rt: HostRuntime) -> Result<(), Fail> 
             b"",
         ),
         ("a file", b"read <1.fi\nindex >out", b"", index),
+        (
+            "selected",
+            b"read <1.fi\n=C list\n@chn(:9)|:9,1 resolve\nresolve",
+            b"     2 1970-01-02T00:00:00Z :9 one\n2 1\n1 2 3\n",
+            b"",
+        ),
+        (
+            "stamp and manifest",
+            b"read <1.fi\nstamp\nmanifest",
+            b"1970-01-02T00:00:00Z!a@x\ncommit :9\n100644 :7 f\n",
+            b"",
+        ),
+        (
+            "summary",
+            b"read <1.fi\nsummary",
+            b"1: 3 events, 1 blobs, 1 commits, 0 tags, 1 resets, 0 passthroughs\n",
+            b"",
+        ),
+        (
+            "assign",
+            b"read <1.fi\n$,:9 assign few\nrenumber\n<few> resolve",
+            b"3 2\n",
+            b"",
+        ),
         (
             "renumber",
             b"read <1.fi\nrenumber\nwrite >out",
@@ -137,10 +163,12 @@ fn answer(alloc: Global, session: &mut Session, line: &str) -> Result<&'static s
     let Ok(Order::Step(command)) = Order::read(alloc, line) else {
         return Ok("no command");
     };
-    match session.step(&command, &mut store, &mut out) {
+    let mut patterns = RegexPatterns::new(alloc, 0);
+    match session.step(&command, &mut store, &mut out, &mut patterns) {
         Ok(()) => Ok("done"),
         Err(Halted::Refused(Fault::NoRepo)) => Ok("nothing chosen"),
         Err(Halted::Refused(Fault::NoSuchRepo { .. })) => Ok("not loaded"),
+        Err(Halted::Refused(Fault::NameAssigned { .. })) => Ok("assigned"),
         Err(Halted::Refused(_)) => Ok("another refusal"),
         Err(_) => Ok("broken off"),
     }
@@ -150,9 +178,12 @@ fn answer(alloc: Global, session: &mut Session, line: &str) -> Result<&'static s
 fn a_session_goes_on_from_command_to_command(rt: HostRuntime) -> Result<(), Fail> {
     let alloc = rt.alloc();
     let mut session = Session::new(alloc)?;
-    let rows: [(&str, &str); 7] = [
+    let rows: [(&str, &str); 10] = [
         ("renumber", "nothing chosen"),
+        (":9 assign few", "nothing chosen"),
         ("read <1.fi", "done"),
+        (":9 assign few", "done"),
+        (":9 assign few", "assigned"),
         ("renumber", "done"),
         ("drop 2", "not loaded"),
         ("drop 1", "done"),
@@ -189,7 +220,8 @@ fn a_file_of_several_pieces_is_read(rt: HostRuntime) -> Result<(), Fail> {
         .ok()
         .ok_or("no script")?;
     let mut session = Session::new(alloc)?;
-    let status = session.run(&script, false, &mut store, &mut out);
+    let mut patterns = RegexPatterns::new(alloc, 0);
+    let status = session.run(&script, false, &mut store, &mut out, &mut patterns);
     assert_eq!(rt; status, Status::Done);
     assert!(rt; out.written().as_slice() == stream.as_slice());
     Ok(())
@@ -206,7 +238,8 @@ fn no_more_is_read_once_a_line_is_refused(rt: HostRuntime) -> Result<(), Fail> {
     let mut out = SureSink::new(alloc)?;
     let script = Script::read(alloc, b"read <u.fi").ok().ok_or("no script")?;
     let mut session = Session::new(alloc)?;
-    let status = session.run(&script, false, &mut store, &mut out);
+    let mut patterns = RegexPatterns::new(alloc, 0);
+    let status = session.run(&script, false, &mut store, &mut out, &mut patterns);
     assert_eq!(rt; status, Status::Refused);
     let refusal: &[u8] = b"surgeon: line 1: refused 10 BadStream line=1 why=UnknownLine\n";
     assert!(rt; out.written().as_slice() == refusal);

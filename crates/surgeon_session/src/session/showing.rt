@@ -1,31 +1,24 @@
-//! Texts of the chosen history and of the load list, and where they go.
-ghost use Rattle.std.specs.Prelude.{◌≡◌, ◌++◌, [], IfOk, OnOk};
-ghost use Rattle.history_machine.specs.Sessions.{
-  index_all,
-  list_all,
-  repo_line,
-  repos_text,
-  of_chosen,
-};
+//! Texts of the chosen repository and of the load list, and where they go.
+ghost use Rattle.std.specs.Prelude.{◌≡◌, ◌++◌, IfOk, None, Ok, OnOk};
+ghost use Rattle.history_machine.specs.Sessions.{of_chosen, repo_line, reports, repos_text, shown};
 ghost use Rattle.listing.specs.Listings.{names_text};
+ghost use Rattle.listing.specs.Summaries.{summary_text};
 ghost use Rattle.plain_model.specs.Text.{text};
-ghost use Rattle.script_reader.specs.declared.command.Command.TheVariants as command;
-ghost use Rattle.surgeon_session.specs.Commands.{CarriesOut};
+ghost use Rattle.surgeon_session.specs.Commands.{CarriesOut, no_calls};
 ghost use Rattle.plain_model.specs.Faults.{Returns};
 
 use super::Session;
 use crate::halted::Halted;
 use crate::sending::send;
-use listing::{all, index, list, names};
-use plain_model::{Halt, Items, NoMemory, Text};
-use script_reader::ScriptText;
+use listing::{names, summary};
+use plain_model::{AnyId, Fault, Halt, Items, NoMemory, Text};
+use script_reader::{Listing, ScriptText};
 use stream_writer::Stream;
 use surgeon_store::{Sink, Store};
 
 // Puts the line of a repository, by the name that is chosen.
 fn push_repository(out: &mut Text, choice: &Option<Text>, name: &[u8]) -> Result<(), NoMemory>
-    ensures { OnOk result
-        (out.new ≡ out.old ++ repo_line choice.now (record { name = name.now; history = [] })) }
+    ensures { OnOk result (out.new ≡ out.old ++ repo_line choice.now name.now) }
 {
     let is_chosen = match choice {
         Some(choice) => choice.as_slice() == name,
@@ -43,41 +36,44 @@ fn push_repository(out: &mut Text, choice: &Option<Text>, name: &[u8]) -> Result
 impl Session {
     // The stream of the chosen history.
     fn stream(&self) -> Result<Stream<'_>, Halt>
-        ensures { Returns (λ bytes. bytes) result (of_chosen self.now text) }
+        ensures { Returns (λ bytes. bytes) result
+            (of_chosen self.now (λ repo. text repo.history)) }
     {
-        let events = self.chosen()?;
-        Ok(Stream::of(self.alloc, events))
+        let (_, repository) = self.chosen()?;
+        Ok(Stream::of(self.alloc, repository.events()))
     }
 
-    // The list of the chosen history.
-    fn listed(&self) -> Result<Text, Halt>
-        ensures { Returns (λ bytes. bytes) result (of_chosen self.now list_all) }
+    // A text of some events of the chosen history.
+    #[tactic(auto, unfolding(history_machine::specs::Sessions::chosen))]
+    fn shown(&mut self, what: Listing, ids: &[AnyId]) -> Result<Text, Halt>
+        ensures text { Returns (λ bytes. bytes) result (of_chosen self.old (shown what ids.now)) }
+        ensures same { self.new ≡ self.old }
     {
-        let events = self.chosen()?;
-        let ids = all(self.alloc, events)?;
-        let mut text = Items::new(self.alloc)?;
-        list(events, ids.as_slice(), &mut text)?;
-        Ok(text)
-    }
-
-    // The index of the chosen history.
-    fn indexed(&self) -> Result<Text, Halt>
-        ensures { Returns (λ bytes. bytes) result (of_chosen self.now index_all) }
-    {
-        let events = self.chosen()?;
-        let ids = all(self.alloc, events)?;
-        let mut text = Items::new(self.alloc)?;
-        index(events, ids.as_slice(), &mut text)?;
-        Ok(text)
+        match &self.choice {
+            Some(name) => self.repositories.shown(name.as_slice(), what, ids),
+            None => Err(Halt::Refused(Fault::NoRepo)),
+        }
     }
 
     // The branches and tags of the chosen history.
     fn named(&self) -> Result<Text, Halt>
-        ensures { Returns (λ bytes. bytes) result (of_chosen self.now names_text) }
+        ensures { Returns (λ bytes. bytes) result
+            (of_chosen self.now (λ repo. names_text repo.history)) }
     {
-        let events = self.chosen()?;
+        let (_, repository) = self.chosen()?;
         let mut text = Items::new(self.alloc)?;
-        names(events, &mut text)?;
+        names(repository.events(), &mut text)?;
+        Ok(text)
+    }
+
+    // The counts of the events of the chosen history.
+    fn summed(&self) -> Result<Text, Halt>
+        ensures { Returns (λ bytes. bytes) result
+            (of_chosen self.now (λ repo. summary_text repo.name repo.history)) }
+    {
+        let (name, repository) = self.chosen()?;
+        let mut text = Items::new(self.alloc)?;
+        summary(name, repository.events(), &mut text)?;
         Ok(text)
     }
 
@@ -94,74 +90,76 @@ impl Session {
     }
 
     // `write [>FILE]`
-    #[tactic(auto, unfolding(history_machine::specs::Sessions::step))]
     pub(super) fn write<S: Store, T: Sink>(
         &self,
         store: &mut S,
         out: &mut T,
         to: &Option<ScriptText>,
     ) -> Result<(), Halted>
-        ensures { CarriesOut (S.state store.old) (T.state out.old) self.now (command.Write to.now)
+        ensures { CarriesOut no_calls (S.state store.old) (T.state out.old) self.now (Unit {0})
+            (λ _. reports self.now to.now (of_chosen self.now (λ repo. text repo.history)))
             result self.now (S.state store.new) (T.state out.new) }
     {
-        let stream = self.stream()?;
-        send(store, out, to, &stream)
-    }
-
-    // `list [>FILE]`
-    #[tactic(auto, unfolding(history_machine::specs::Sessions::step))]
-    pub(super) fn list<S: Store, T: Sink>(
-        &self,
-        store: &mut S,
-        out: &mut T,
-        to: &Option<ScriptText>,
-    ) -> Result<(), Halted>
-        ensures { CarriesOut (S.state store.old) (T.state out.old) self.now (command.List to.now)
-            result self.now (S.state store.new) (T.state out.new) }
-    {
-        let text = self.listed()?;
+        let text = self.stream()?;
         send(store, out, to, &text)
     }
 
-    // `index [>FILE]`
-    #[tactic(auto, unfolding(history_machine::specs::Sessions::step))]
-    pub(super) fn index<S: Store, T: Sink>(
-        &self,
+    // `[sel] list [>FILE]`, and so on
+    pub(super) fn show<S: Store, T: Sink>(
+        &mut self,
+        what: Listing,
+        ids: &[AnyId],
         store: &mut S,
         out: &mut T,
         to: &Option<ScriptText>,
     ) -> Result<(), Halted>
-        ensures { CarriesOut (S.state store.old) (T.state out.old) self.now (command.Index to.now)
-            result self.now (S.state store.new) (T.state out.new) }
+        ensures { CarriesOut no_calls (S.state store.old) (T.state out.old) self.old (Unit {0})
+            (λ _. reports self.old to.now (of_chosen self.old (shown what ids.now)))
+            result self.new (S.state store.new) (T.state out.new) }
     {
-        let text = self.indexed()?;
+        let text = self.shown(what, ids)?;
         send(store, out, to, &text)
     }
 
     // `names [>FILE]`
-    #[tactic(auto, unfolding(history_machine::specs::Sessions::step))]
     pub(super) fn names<S: Store, T: Sink>(
         &self,
         store: &mut S,
         out: &mut T,
         to: &Option<ScriptText>,
     ) -> Result<(), Halted>
-        ensures { CarriesOut (S.state store.old) (T.state out.old) self.now (command.Names to.now)
+        ensures { CarriesOut no_calls (S.state store.old) (T.state out.old) self.now (Unit {0})
+            (λ _. reports self.now to.now (of_chosen self.now (λ repo. names_text repo.history)))
             result self.now (S.state store.new) (T.state out.new) }
     {
         let text = self.named()?;
         send(store, out, to, &text)
     }
 
+    // `summary [>FILE]`
+    pub(super) fn summary<S: Store, T: Sink>(
+        &self,
+        store: &mut S,
+        out: &mut T,
+        to: &Option<ScriptText>,
+    ) -> Result<(), Halted>
+        ensures { CarriesOut no_calls (S.state store.old) (T.state out.old) self.now (Unit {0})
+            (λ _. reports self.now to.now (of_chosen self.now (λ repo. summary_text repo.name repo.history)))
+            result self.now (S.state store.new) (T.state out.new) }
+    {
+        let text = self.summed()?;
+        send(store, out, to, &text)
+    }
+
     // `choose` alone
-    #[tactic(auto, unfolding(history_machine::specs::Sessions::step))]
     pub(super) fn show_repositories<S: Store, T: Sink>(
         &self,
         store: &mut S,
         out: &mut T,
     ) -> Result<(), Halted>
-        ensures { CarriesOut (S.state store.old) (T.state out.old) self.now command.ShowRepos result
-            self.now (S.state store.new) (T.state out.new) }
+        ensures { CarriesOut no_calls (S.state store.old) (T.state out.old) self.now (Unit {0})
+            (λ _. reports self.now None (Ok (repos_text self.now)))
+            result self.now (S.state store.new) (T.state out.new) }
     {
         let text = self.loaded()?;
         send(store, out, &None, &text)

@@ -1,38 +1,70 @@
-use Rattle.std.proofs.Common.{◌≡◌, ◌-◌, ◌||◌, ◌∷◌, subst, suc, not, true, false, sym, arith, ◌∙◌}
+use Rattle.std.proofs.Common.{◌≡◌, ◌-◌, ◌||◌, [], ◌∷◌, ◌++◌, List, Option, None, subst, suc, not, true, false, sym, arith, ◌∙◌}
 use Rattle.plain_model.specs.declared.limit.TheConstants.{MAX_COMMANDS}
+use Rattle.plain_model.specs.declared.status.Status.{Status}
 use Rattle.plain_model.specs.declared.status.Status.TheVariants as status
-use Rattle.history_machine.specs.Sessions.{line_step}
+use Rattle.byte_patterns.specs.Judging.{Denial}
+use Rattle.history_machine.specs.Machine.{SessionEndsAs, World, run_on}
+use Rattle.history_machine.specs.Sessions.{Session, line_step}
 use Rattle.surgeon_session.specs.Calls.{world}
 use Rattle.surgeon_session.specs.Commands.{status_of_turn}
 use Rattle.surgeon_session.specs.Waits.{AreWithin}
 use Rattle.surgeon_session.specs.declared.turned.Turned.TheVariants as turned
-use Rattle.surgeon_session.proofs.Rounds.{caused_later, joined, later_later, mapped}
+use Rattle.surgeon_session.proofs.Denying.{counted_more, no_more, one_by_one}
+use Rattle.surgeon_session.proofs.Rounds.{caused_later, joined, later_later, mapped, same_later, same_world}
 use Rattle.surgeon_session.proofs.SessionRounds.{breaks_run, caused_quiet, done_goes_on, line_breaks, memory_after, no_lines, past_ends, refused_goes_on, refused_stops, within_after, within_rest}
 use Rattle.surgeon_session.proofs.run.run_lines.Goals as goal
+
+pub loop-next-init : goal.loop-next-init
+loop-next-init g c =
+    let s = g.S.Store.state c.args.store.now in
+    let k = g.T.Sink.state c.args.out.now in
+    record {
+      later = same_later s k;
+      grows = omega arith;
+      quiet = tt;
+      within = c.requires;
+      prescribed = (
+        [],
+        tt,
+        same_world (λ w0 w. (more : List (Option Denial)) (r : Status) (after : Session) (now : World)
+            → SessionEndsAs (run_on line_step c.args.keep_going MAX_COMMANDS more status.Done c.args.session.now w.files c.args.lines) r c.args.session.now w after now
+            → SessionEndsAs (run_on line_step c.args.keep_going MAX_COMMANDS more status.Done c.args.session.now w0.files c.args.lines) r c.args.session.now w0 after now)
+            (world s k) (λ w more r after now h. h),
+      );
+    }
 
 pub returns-then-left-eq0-clause-outcome : goal.returns-then-left-eq0-clause-outcome
 returns-then-left-eq0-clause-outcome g c =
     let s = g.S.Store.state in
     let k = g.T.Sink.state in
     let known = c.loop-next.invariant in
+    let p = known.prescribed in
     let so_far = c.loop-next.so_far in
     let next = c.in-Some.next in
     let rest = c.take.new.self in
     let cut = c.in-Some.ensures in
     let none : c.loop-next.left ≡ 0 = c.if-left-eq0.true in
-    let here = s c.loop-next.store in
-    record {
-      prescribed = joined (world (s c.args.store.now) (k c.args.out.now)) (world here (k c.loop-next.out)) (world here (k c.refuse_past.new.out)) known.later.reports known.prescribed (c.refuse_past.ensures.prescribed here)
-          (λ a b d p q. p c.refuse_past.result c.loop-next.session d (rw (cut, none) (past_ends line_step c.args.keep_going 0 so_far c.loop-next.session c.loop-next.session b d next rest c.refuse_past.result q)));
-      caused = caused_later (s c.args.store.now) here here (k c.args.out.now) (k c.loop-next.out) (k c.refuse_past.new.out) c.refuse_past.result known.later (c.refuse_past.ensures.caused here);
-      later = later_later (s c.args.store.now) here here (k c.args.out.now) (k c.loop-next.out) (k c.refuse_past.new.out) known.later (c.refuse_past.ensures.later here);
-    }
+    let n = g.P.Patterns.sizes c.args.patterns.now in
+    let n' = g.P.Patterns.sizes c.loop-next.patterns in
+    let here = s c.loop-next.store in (
+      p.0 ++ None ∷ [],
+      counted_more n n' n' p.0 None known.grows (omega arith) p.1 (λ sized. absurd cc),
+      record {
+        prescribed = joined (world (s c.args.store.now) (k c.args.out.now)) (world here (k c.loop-next.out)) (world here (k c.refuse_past.new.out)) known.later.reports p.2 (c.refuse_past.ensures.prescribed here)
+            (λ a b d p q. p (None ∷ []) c.refuse_past.result c.loop-next.session d (rw (cut, none) (past_ends line_step c.args.keep_going 0 None [] so_far c.loop-next.session c.loop-next.session b d next rest c.refuse_past.result q)));
+        caused = caused_later (s c.args.store.now) here here (k c.args.out.now) (k c.loop-next.out) (k c.refuse_past.new.out) c.refuse_past.result known.later (c.refuse_past.ensures.caused here);
+        later = later_later (s c.args.store.now) here here (k c.args.out.now) (k c.loop-next.out) (k c.refuse_past.new.out) known.later (c.refuse_past.ensures.later here);
+      },
+    )
 
 pub returns-in-Err-clause-outcome : goal.returns-in-Err-clause-outcome
 returns-in-Err-clause-outcome g c =
     let s = g.S.Store.state in
     let k = g.T.Sink.state in
+    let n = g.P.Patterns.sizes in
     let known = c.loop-next.invariant in
+    let p = known.prescribed in
+    let q = c.in-Done.ensures.outcome in
     let so_far = c.loop-next.so_far in
     let next = c.in-Some.next in
     let rest = c.take.new.self in
@@ -44,19 +76,26 @@ returns-in-Err-clause-outcome g c =
     let v0 = world (s c.args.store.now) (k c.args.out.now) in
     let v1 = world (s c.loop-next.store) (k c.loop-next.out) in
     let v2 = world (s c.turn.new.store) (k c.turn.new.out) in
-    let later = later_later (s c.args.store.now) (s c.loop-next.store) (s c.turn.new.store) (k c.args.out.now) (k c.loop-next.out) (k c.turn.new.out) known.later c.turn.ensures.later in
-    record {
-      prescribed = joined v0 v1 v2 known.later.reports known.prescribed c.in-Done.ensures.prescribed
-          (λ a b d p q. p status.Memory new d (rw (cut, more) (memory_after line_step keep (c.loop-next.left - 1) so_far old new b d next rest c.in-Done.calls q)));
-      caused = tt;
-      later = later;
-    }
+    let later = later_later (s c.args.store.now) (s c.loop-next.store) (s c.turn.new.store) (k c.args.out.now) (k c.loop-next.out) (k c.turn.new.out) known.later q.2.later in
+    let counted = counted_more (n c.args.patterns.now) (n c.loop-next.patterns) (n c.turn.new.patterns) p.0 q.0 known.grows c.turn.ensures.grows p.1 q.1 in (
+      p.0 ++ q.0 ∷ [],
+      counted,
+      record {
+        prescribed = joined v0 v1 v2 known.later.reports p.2 q.2.prescribed
+            (λ a b d before here. before (q.0 ∷ []) status.Memory new d (rw (cut, more) (memory_after line_step keep (c.loop-next.left - 1) q.0 [] so_far old new b d next rest c.in-Done.calls here)));
+        caused = tt;
+        later = later;
+      },
+    )
 
 pub loop-next-preserved-in-Ok : goal.loop-next-preserved-in-Ok
 loop-next-preserved-in-Ok g c =
     let s = g.S.Store.state in
     let k = g.T.Sink.state in
+    let n = g.P.Patterns.sizes in
     let known = c.loop-next.invariant in
+    let p = known.prescribed in
+    let q = c.in-Done.ensures.outcome in
     let so_far = c.loop-next.so_far in
     let next = c.in-Some.next in
     let rest = c.take.new.self in
@@ -68,20 +107,31 @@ loop-next-preserved-in-Ok g c =
     let v0 = world (s c.args.store.now) (k c.args.out.now) in
     let v1 = world (s c.loop-next.store) (k c.loop-next.out) in
     let v2 = world (s c.turn.new.store) (k c.turn.new.out) in
-    let later = later_later (s c.args.store.now) (s c.loop-next.store) (s c.turn.new.store) (k c.args.out.now) (k c.loop-next.out) (k c.turn.new.out) known.later c.turn.ensures.later in
+    let later = later_later (s c.args.store.now) (s c.loop-next.store) (s c.turn.new.store) (k c.args.out.now) (k c.loop-next.out) (k c.turn.new.out) known.later q.2.later in
+    let counted = counted_more (n c.args.patterns.now) (n c.loop-next.patterns) (n c.turn.new.patterns) p.0 q.0 known.grows c.turn.ensures.grows p.1 q.1 in
     record {
       later = later;
+      grows = omega (arith, known.grows, c.turn.ensures.grows);
       quiet = known.quiet;
       within = rw c.in-Ok.ensures (within_after MAX_COMMANDS (c.loop-next.left - 1) next c.in-Done.calls rest (subst (λ n. AreWithin MAX_COMMANDS n (next ∷ rest)) more (subst (AreWithin MAX_COMMANDS c.loop-next.left) cut known.within)));
-      prescribed = joined v0 v1 v2 known.later.reports known.prescribed c.in-Done.ensures.prescribed
-          (λ a b d p q r after now h. p r after now (rw (cut, more) (done_goes_on line_step keep (c.loop-next.left - 1) so_far old new b d next rest c.in-Done.calls q r after now (rw c.in-Ok.ensures at h))));
+      prescribed = (
+        p.0 ++ q.0 ∷ [],
+        counted,
+        joined v0 v1 v2 known.later.reports p.2 q.2.prescribed
+            (λ a b d before here others r after now h.
+            one_by_one (λ denials. SessionEndsAs (run_on line_step keep MAX_COMMANDS denials status.Done c.args.session.now a.files c.args.lines) r c.args.session.now a after now) p.0 q.0 others
+            (before (q.0 ∷ others) r after now (rw (cut, more) (done_goes_on line_step keep (c.loop-next.left - 1) q.0 others so_far old new b d next rest c.in-Done.calls here r after now (rw c.in-Ok.ensures at h))))),
+      );
     }
 
 pub returns-then-is_stop-clause-outcome : goal.returns-then-is_stop-clause-outcome
 returns-then-is_stop-clause-outcome g c =
     let s = g.S.Store.state in
     let k = g.T.Sink.state in
+    let n = g.P.Patterns.sizes in
     let known = c.loop-next.invariant in
+    let p = known.prescribed in
+    let q = c.in-Refused.ensures.outcome in
     let so_far = c.loop-next.so_far in
     let next = c.in-Some.next in
     let rest = c.take.new.self in
@@ -93,20 +143,27 @@ returns-then-is_stop-clause-outcome g c =
     let v0 = world (s c.args.store.now) (k c.args.out.now) in
     let v1 = world (s c.loop-next.store) (k c.loop-next.out) in
     let v2 = world (s c.turn.new.store) (k c.turn.new.out) in
-    let later = later_later (s c.args.store.now) (s c.loop-next.store) (s c.turn.new.store) (k c.args.out.now) (k c.loop-next.out) (k c.turn.new.out) known.later c.turn.ensures.later in
-    let stop : (c.in-Refused.is_last || not keep) ≡ true = sym c.is_stop.ensures ∙ c.if-is_stop.true in
-    record {
-      prescribed = joined v0 v1 v2 known.later.reports known.prescribed c.in-Refused.ensures.prescribed
-          (λ a b d p q. p status.Refused new d (rw (cut, more) (refused_stops line_step keep (c.loop-next.left - 1) so_far old new b d next rest c.in-Refused.is_last stop q)));
-      caused = tt;
-      later = later;
-    }
+    let later = later_later (s c.args.store.now) (s c.loop-next.store) (s c.turn.new.store) (k c.args.out.now) (k c.loop-next.out) (k c.turn.new.out) known.later q.2.later in
+    let counted = counted_more (n c.args.patterns.now) (n c.loop-next.patterns) (n c.turn.new.patterns) p.0 q.0 known.grows c.turn.ensures.grows p.1 q.1 in
+    let stop : (c.in-Refused.is_last || not keep) ≡ true = sym c.is_stop.ensures ∙ c.if-is_stop.true in (
+      p.0 ++ q.0 ∷ [],
+      counted,
+      record {
+        prescribed = joined v0 v1 v2 known.later.reports p.2 q.2.prescribed
+            (λ a b d before here. before (q.0 ∷ []) status.Refused new d (rw (cut, more) (refused_stops line_step keep (c.loop-next.left - 1) q.0 [] so_far old new b d next rest c.in-Refused.is_last stop here)));
+        caused = tt;
+        later = later;
+      },
+    )
 
 pub loop-next-preserved : goal.loop-next-preserved
 loop-next-preserved g c =
     let s = g.S.Store.state in
     let k = g.T.Sink.state in
+    let n = g.P.Patterns.sizes in
     let known = c.loop-next.invariant in
+    let p = known.prescribed in
+    let q = c.in-Refused.ensures.outcome in
     let so_far = c.loop-next.so_far in
     let next = c.in-Some.next in
     let rest = c.take.new.self in
@@ -118,21 +175,32 @@ loop-next-preserved g c =
     let v0 = world (s c.args.store.now) (k c.args.out.now) in
     let v1 = world (s c.loop-next.store) (k c.loop-next.out) in
     let v2 = world (s c.turn.new.store) (k c.turn.new.out) in
-    let later = later_later (s c.args.store.now) (s c.loop-next.store) (s c.turn.new.store) (k c.args.out.now) (k c.loop-next.out) (k c.turn.new.out) known.later c.turn.ensures.later in
+    let later = later_later (s c.args.store.now) (s c.loop-next.store) (s c.turn.new.store) (k c.args.out.now) (k c.loop-next.out) (k c.turn.new.out) known.later q.2.later in
+    let counted = counted_more (n c.args.patterns.now) (n c.loop-next.patterns) (n c.turn.new.patterns) p.0 q.0 known.grows c.turn.ensures.grows p.1 q.1 in
     let goes : (c.in-Refused.is_last || not keep) ≡ false = sym c.is_stop.ensures ∙ c.if-is_stop.false in
     record {
       later = later;
+      grows = omega (arith, known.grows, c.turn.ensures.grows);
       quiet = tt;
       within = within_rest MAX_COMMANDS (c.loop-next.left - 1) next rest (subst (λ n. AreWithin MAX_COMMANDS n (next ∷ rest)) more (subst (AreWithin MAX_COMMANDS c.loop-next.left) cut known.within));
-      prescribed = joined v0 v1 v2 known.later.reports known.prescribed c.in-Refused.ensures.prescribed
-          (λ a b d p q r after now h. p r after now (rw (cut, more) (refused_goes_on line_step keep (c.loop-next.left - 1) so_far old new b d next rest c.in-Refused.is_last goes q r after now h)));
+      prescribed = (
+        p.0 ++ q.0 ∷ [],
+        counted,
+        joined v0 v1 v2 known.later.reports p.2 q.2.prescribed
+            (λ a b d before here others r after now h.
+            one_by_one (λ denials. SessionEndsAs (run_on line_step keep MAX_COMMANDS denials status.Done c.args.session.now a.files c.args.lines) r c.args.session.now a after now) p.0 q.0 others
+            (before (q.0 ∷ others) r after now (rw (cut, more) (refused_goes_on line_step keep (c.loop-next.left - 1) q.0 others so_far old new b d next rest c.in-Refused.is_last goes here r after now h)))),
+      );
     }
 
 pub returns-in-Broken-clause-outcome : goal.returns-in-Broken-clause-outcome
 returns-in-Broken-clause-outcome g c =
     let s = g.S.Store.state in
     let k = g.T.Sink.state in
+    let n = g.P.Patterns.sizes in
     let known = c.loop-next.invariant in
+    let p = known.prescribed in
+    let q = c.in-Broken.ensures.outcome in
     let so_far = c.loop-next.so_far in
     let next = c.in-Some.next in
     let rest = c.take.new.self in
@@ -144,24 +212,34 @@ returns-in-Broken-clause-outcome g c =
     let v0 = world (s c.args.store.now) (k c.args.out.now) in
     let v1 = world (s c.loop-next.store) (k c.loop-next.out) in
     let v2 = world (s c.turn.new.store) (k c.turn.new.out) in
-    let later = later_later (s c.args.store.now) (s c.loop-next.store) (s c.turn.new.store) (k c.args.out.now) (k c.loop-next.out) (k c.turn.new.out) known.later c.turn.ensures.later in
+    let later = later_later (s c.args.store.now) (s c.loop-next.store) (s c.turn.new.store) (k c.args.out.now) (k c.loop-next.out) (k c.turn.new.out) known.later q.2.later in
+    let counted = counted_more (n c.args.patterns.now) (n c.loop-next.patterns) (n c.turn.new.patterns) p.0 q.0 known.grows c.turn.ensures.grows p.1 q.1 in
     let how = c.in-Broken.how in
-    rw c.broken_status.ensures (record {
-      prescribed = joined v0 v1 v2 known.later.reports known.prescribed c.in-Broken.ensures.prescribed
-          (λ a b d p q. p (status_of_turn (turned.Broken how)) new d (rw (cut, more) (line_breaks line_step keep (c.loop-next.left - 1) so_far old new b d next rest (status_of_turn (turned.Broken how)) (breaks_run how) q)));
-      caused = caused_later (s c.args.store.now) (s c.loop-next.store) (s c.turn.new.store) (k c.args.out.now) (k c.loop-next.out) (k c.turn.new.out) (status_of_turn (turned.Broken how)) known.later c.in-Broken.ensures.caused;
-      later = later;
-    })
+    rw c.broken_status.ensures (
+      p.0 ++ q.0 ∷ [],
+      counted,
+      record {
+        prescribed = joined v0 v1 v2 known.later.reports p.2 q.2.prescribed
+            (λ a b d before here. before (q.0 ∷ []) (status_of_turn (turned.Broken how)) new d (rw (cut, more) (line_breaks line_step keep (c.loop-next.left - 1) q.0 [] so_far old new b d next rest (status_of_turn (turned.Broken how)) (breaks_run how) here)));
+        caused = caused_later (s c.args.store.now) (s c.loop-next.store) (s c.turn.new.store) (k c.args.out.now) (k c.loop-next.out) (k c.turn.new.out) (status_of_turn (turned.Broken how)) known.later q.2.caused;
+        later = later;
+      },
+    )
 
 pub returns-clause-outcome : goal.returns-clause-outcome
 returns-clause-outcome g c =
     let s = g.S.Store.state in
     let k = g.T.Sink.state in
     let known = c.loop-next.invariant in
-    let so_far = c.loop-next.so_far in
-    record {
-      prescribed = mapped (world (s c.args.store.now) (k c.args.out.now)) (world (s c.loop-next.store) (k c.loop-next.out))
-          (λ a b p. p so_far c.loop-next.session b (rw c.in_default.ensures (no_lines so_far c.loop-next.session b))) known.prescribed;
-      caused = caused_quiet (s c.args.store.now) (s c.loop-next.store) (k c.args.out.now) (k c.loop-next.out) so_far known.quiet;
-      later = known.later;
-    }
+    let p = known.prescribed in
+    let so_far = c.loop-next.so_far in (
+      p.0,
+      p.1,
+      record {
+        prescribed = mapped (world (s c.args.store.now) (k c.args.out.now)) (world (s c.loop-next.store) (k c.loop-next.out))
+            (λ a b before. no_more (λ denials. SessionEndsAs (run_on line_step c.args.keep_going MAX_COMMANDS denials status.Done c.args.session.now a.files c.args.lines) so_far c.args.session.now a c.loop-next.session b) p.0
+            (before [] so_far c.loop-next.session b (rw c.in_default.ensures (no_lines so_far c.loop-next.session b)))) p.2;
+        caused = caused_quiet (s c.args.store.now) (s c.loop-next.store) (k c.args.out.now) (k c.loop-next.out) so_far known.quiet;
+        later = known.later;
+      },
+    )

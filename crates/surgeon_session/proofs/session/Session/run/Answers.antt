@@ -1,6 +1,27 @@
+use Rattle.std.proofs.Common.{[], zero, refl}
 use Rattle.plain_model.specs.declared.limit.TheConstants.{MAX_COMMANDS}
-use Rattle.surgeon_session.proofs.SessionRounds.{items_within}
+use Rattle.plain_model.specs.declared.status.Status.TheVariants as status
+use Rattle.history_machine.specs.Machine.{SessionEndsAs}
+use Rattle.history_machine.specs.Whole.{run_from}
+use Rattle.surgeon_session.specs.Calls.{world}
+use Rattle.surgeon_session.proofs.Rounds.{same_later, same_world}
+use Rattle.surgeon_session.proofs.SessionRounds.{breaks_here, items_within}
 use Rattle.surgeon_session.proofs.session.Session.run.Goals as goal
 
 pub run_lines-requires : goal.run_lines-requires
 run_lines-requires g c = rw c.in-Ok.ensures (items_within MAX_COMMANDS c.args.script.now)
+
+pub returns-in-Err-clause-outcome : goal.returns-in-Err-clause-outcome
+returns-in-Err-clause-outcome g c =
+    let s = g.S.Store.state c.args.store.now in
+    let k = g.T.Sink.state c.args.out.now in
+    let session = c.args.self.now in (
+      [],
+      tt,
+      record {
+        prescribed = same_world (λ w now. SessionEndsAs (run_from [] session w.files c.args.script.now c.args.keep_going) status.Memory session w session now) (world s k)
+            (λ w. (zero, refl, breaks_here (run_from [] session w.files c.args.script.now c.args.keep_going).turns w));
+        caused = tt;
+        later = same_later s k;
+      },
+    )

@@ -1,41 +1,17 @@
-use Rattle.history_machine.specs.Sessions.{Session, step}
-use Rattle.surgeon_session.proofs.Halting.{halted_alone, halted_read, halts_after, returned}
+use Rattle.surgeon_session.proofs.Readying.{is_ready, not_ready, not_ready_near}
 use Rattle.surgeon_session.proofs.session.Session.step.Goals as goal
 
-pub returns-in_err-read-in-Read-clause-carries : goal.returns-in_err-read-in-Read-clause-carries
-returns-in_err-read-in-Read-clause-carries g c =
-    let failed = c.in_err-read-in-Read in
-    rw c.in-Read.is
-    (halted_read _ _ _ c.args.self.now c.read.new.self _ _ failed.ensures.kept failed.ensures.frame failed.field-0.0 c.from_residual.result c.from_residual.ensures.1 failed.ensures.returns failed.ensures.failed)
+pub returns-in_err-ids-clause-carries : goal.returns-in_err-ids-clause-carries
+returns-in_err-ids-clause-carries g c =
+    not_ready (g.P.Patterns.sizes c.args.patterns.now) (g.P.Patterns.sizes c.ready.new.patterns) (g.S.Store.state c.args.store.now) (g.T.Sink.state c.args.out.now) c.args.self.now c.ready.new.self c.args.command.now
+    c.in_err-ids.field-0.0 c.from_residual.result c.from_residual.ensures.1 c.in_err-ids.ensures.judged c.ready.ensures.same
 
-pub returns-in_err-choose-in-Choose-clause-carries : goal.returns-in_err-choose-in-Choose-clause-carries
-unfolding step
-returns-in_err-choose-in-Choose-clause-carries g c =
-    let failed = c.in_err-choose-in-Choose in
-    rw c.in-Choose.is
-    (halted_alone _ _ c.args.self.now c.choose.new.self _ failed.field-0.0 _ c.from_residual-in_err-choose-in-Choose.ensures.1
-    (λ files. halts_after failed.field-0.0 _ _ (returned (λ (b : Session). b) failed.field-0.0 _ (rw c.as_slice.ensures at failed.ensures.returns))) failed.ensures.kept)
+pub returns-in_err-ids-clause-near : goal.returns-in_err-ids-clause-near
+returns-in_err-ids-clause-near g c =
+    not_ready_near (g.P.Patterns.sizes c.args.patterns.now) (g.P.Patterns.sizes c.ready.new.patterns) (g.S.Store.state c.args.store.now).files (g.S.Store.state c.args.store.now).rest c.args.self.now c.args.command.now
+    c.in_err-ids.field-0.0 c.from_residual.result c.from_residual.ensures.1 c.in_err-ids.ensures.judged
 
-pub returns-in_err-forget-in-Drop-clause-carries : goal.returns-in_err-forget-in-Drop-clause-carries
-unfolding step
-returns-in_err-forget-in-Drop-clause-carries g c =
-    let failed = c.in_err-forget-in-Drop in
-    rw c.in-Drop.is
-    (halted_alone _ _ c.args.self.now c.forget.new.self _ failed.field-0.0 _ c.from_residual-in_err-forget-in-Drop.ensures.1
-    (λ files. halts_after failed.field-0.0 _ _ (returned (λ (b : Session). b) failed.field-0.0 _ (rw c.as_slice-in-Drop.ensures at failed.ensures.returns))) failed.ensures.kept)
-
-pub returns-in_err-forget_chosen-in-DropChosen-clause-carries : goal.returns-in_err-forget_chosen-in-DropChosen-clause-carries
-unfolding step
-returns-in_err-forget_chosen-in-DropChosen-clause-carries g c =
-    let failed = c.in_err-forget_chosen-in-DropChosen in
-    rw c.in-DropChosen.is
-    (halted_alone _ _ c.args.self.now c.forget_chosen.new.self _ failed.field-0.0 _ c.from_residual-in_err-forget_chosen-in-DropChosen.ensures.1
-    (λ files. halts_after failed.field-0.0 _ _ (returned (λ (b : Session). b) failed.field-0.0 _ failed.ensures.returns)) failed.ensures.kept)
-
-pub returns-in_err-renumber-in-Renumber-clause-carries : goal.returns-in_err-renumber-in-Renumber-clause-carries
-unfolding step
-returns-in_err-renumber-in-Renumber-clause-carries g c =
-    let failed = c.in_err-renumber-in-Renumber in
-    rw c.in-Renumber.is
-    (halted_alone _ _ c.args.self.now c.renumber.new.self _ failed.field-0.0 _ c.from_residual-in_err-renumber-in-Renumber.ensures.1
-    (λ files. halts_after failed.field-0.0 _ _ (returned (λ (b : Session). b) failed.field-0.0 _ failed.ensures.returns)) failed.ensures.kept)
+pub returns-clause-carries : goal.returns-clause-carries
+returns-clause-carries g c =
+    is_ready (g.P.Patterns.sizes c.args.patterns.now) (g.P.Patterns.sizes c.ready.new.patterns) (g.S.Store.state c.args.store.now) (g.S.Store.state c.carry.new.store) (g.T.Sink.state c.args.out.now) (g.T.Sink.state c.carry.new.out)
+    c.args.self.now c.ready.new.self c.carry.new.self c.args.command.now c.in_ok-ids.ids c.carry.result c.in_ok-ids.ensures.judged c.ready.ensures.same (rw c.as_slice.ensures at c.carry.ensures.carries)

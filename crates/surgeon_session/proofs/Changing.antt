@@ -1,0 +1,62 @@
+-- The repository at a place of the load list: what is found there, and what a change of it makes of all.
+use Rattle.std.proofs.Common.{Vec, ◌≡◌, ℕ, false, List, [], ◌∷◌, ◌++◌, Option, Some, None, Result, Ok, Err, refl, sym, ap, subst, ◌∙◌, nat_eq}
+use Rattle.std.specs.Prelude.{is_some, option_map, OnErr}
+use Rattle.std.specs.Cmp.Lexicographic.{pointwise}
+use Rattle.std.specs.List.{position}
+use Rattle.std.specs.Map.{keys_of, lookup}
+use Rattle.indexmap.specs.IndexMap.{set_value_at}
+use Rattle.plain_model.specs.Faults.{Returns}
+use Rattle.plain_model.specs.Paths.{Bytes}
+use Rattle.plain_model.specs.declared.fault.Fault.{Fault}
+use Rattle.plain_model.specs.declared.fault.Halt.{Halt}
+use Rattle.plain_model.specs.declared.fault.Halt.TheVariants as halt
+use Rattle.event_sets.specs.Sets.{Ids}
+use Rattle.selection_eval.specs.Names.{assigned}
+use Rattle.script_reader.specs.Answering.{◌>>=◌}
+use Rattle.history_machine.specs.Sessions.{Repo, find_repo, unassigned, with_repo}
+use Rattle.surgeon_session.specs.Entries.{Loaded, assigned_in, repo_under, repos_of, with_given}
+use Rattle.surgeon_session.proofs.Entries.{found_under, same_repos, set_repos}
+
+none_is : {X : Type 0} (o : Option X) → false ≡ is_some o → o ≡ None
+none_is None h = refl
+none_is (Some x) h = absurd cc
+
+module _ {A : Type 0} (name : List ℕ) (es : List (Vec ℕ A × Loaded)) where
+  -- the one that is looked up
+  pub there : (old : Loaded) → lookup (λ (k : Vec ℕ A). pointwise nat_eq name k.items) es ≡ Some old → find_repo name (repos_of es) ≡ Some (repo_under name old)
+  there old is = sym (found_under name es) ∙ ap (option_map (repo_under name)) is
+
+  pub not_there : false ≡ is_some (lookup (λ (k : Vec ℕ A). pointwise nat_eq name k.items) es) → find_repo name (repos_of es) ≡ None
+  not_there none = sym (found_under name es) ∙ ap (option_map (repo_under name)) (none_is _ none)
+
+  -- one that stays leaves all as they were
+  pub stays : (old new : Loaded) (i : ℕ) → Some i ≡ position (λ (k : Vec ℕ A). pointwise nat_eq name k.items) (keys_of es) → find_repo name (repos_of es) ≡ Some (repo_under name old)
+      → new ≡ old → repos_of (set_value_at es i new) ≡ repos_of es
+  stays old new i at found same =
+      set_repos name new es i at ∙ ap (λ (l : Loaded). with_repo (repo_under name l) (repos_of es)) same ∙ same_repos (repo_under name old) (repos_of es) found
+
+pub whatever_err : {X E : Type 0} (r : Result X E) (P : Type 0) → P → OnErr r P
+whatever_err (Ok x) P h = tt
+whatever_err (Err e) P h = h
+
+pub on_err : {X E : Type 0} (r : Result X E) (P Q : Type 0) → (P → Q) → OnErr r P → OnErr r Q
+on_err (Ok x) P Q f h = tt
+on_err (Err e) P Q f h = f h
+
+-- a change of the one, as a change of all
+lifted : {X : Type 0} (r : Result X Halt) (expected : Result Loaded Fault) (f : Loaded → List Repo) (new : Loaded) → Returns (λ _. new) r expected
+    → Returns (λ _. f new) r (expected >>= λ x. Ok (f x))
+lifted (Ok x) expected f new h = ap (λ (e : Result Loaded Fault). e >>= λ x. Ok (f x)) h
+lifted (Err (halt.Refused why)) expected f new h = ap (λ (e : Result Loaded Fault). e >>= λ x. Ok (f x)) h
+lifted (Err halt.Memory) expected f new h = tt
+
+named : (r : Result Bytes Fault) (g : Bytes → Loaded) (f : Loaded → List Repo) → ((r >>= λ free. Ok (g free)) >>= λ x. Ok (f x)) ≡ (r >>= λ free. Ok (f (g free)))
+named (Ok free) g f = refl
+named (Err why) g f = refl
+
+pub assigned_at : {X : Type 0} (r : Result X Halt) (name given : Bytes) (ids : Ids) (old new : Loaded) (repos all : List Repo) → find_repo name repos ≡ Some (repo_under name old)
+    → all ≡ with_repo (repo_under name new) repos → Returns (λ _. new) r (with_given given ids old) → Returns (λ _. all) r (assigned_in name ids given repos)
+assigned_at r name given ids old new repos all found is h =
+    let g : Bytes → Loaded = λ free. record old { names = old.names ++ (free, ids) ∷ [] } in
+    let f : Loaded → List Repo = λ x. with_repo (repo_under name x) repos in
+    rw (found, is) (subst (Returns (λ _. f new) r) (named (unassigned given (assigned given old.names)) g f) (lifted r (with_given given ids old) f new h))

@@ -1,0 +1,171 @@
+-- Commands and lines, from what comes before a command's own part: its events are there or not, a line has an order or not.
+use Rattle.std.proofs.Common.{◌≡◌, ℕ, List, [], ◌∷◌, ◌++◌, Option, Some, None, Result, Ok, Err, append-nil, refl, sym, ap, subst, ◌∙◌}
+use Rattle.std.specs.Prelude.{IfSome, OnErr}
+use Rattle.std.specs.Result.{IsErrAnd}
+use Rattle.plain_model.specs.Faults.{refusal}
+use Rattle.plain_model.specs.Files.{Files}
+use Rattle.plain_model.specs.Paths.{Bytes}
+use Rattle.plain_model.specs.declared.fault.Fault.{Fault}
+use Rattle.plain_model.specs.declared.fault.Halt.{Halt}
+use Rattle.plain_model.specs.declared.fault.Halt.TheVariants as halt
+use Rattle.byte_patterns.specs.Judging.{Counted, Denial, Judges, plainly, under}
+use Rattle.event_sets.specs.Sets.{Ids}
+use Rattle.script_reader.specs.Answering.{◌>>=◌}
+use Rattle.script_reader.specs.Commands.{order_of}
+use Rattle.script_reader.specs.declared.command.Command.{Command}
+use Rattle.script_reader.specs.declared.command.Command.TheVariants as command
+use Rattle.script_reader.specs.declared.command.Order.{Order}
+use Rattle.script_reader.specs.declared.script.ScriptLine.TheVariants.{Plain}
+use Rattle.surgeon_store.specs.Outside.{StoreState, SinkState}
+use Rattle.history_machine.specs.Machine.{World, Turn, PartSent, sent, turn_of}
+use Rattle.history_machine.specs.Sessions.{Session, carried, line_step, ordered, ready, step}
+use Rattle.history_machine.proofs.Steps.{nothing_built}
+use Rattle.surgeon_session.specs.Calls.{world}
+use Rattle.surgeon_session.specs.Commands.{Carries, CarriesOut, Leaves, LineReadsNoFile, OrderReadsNoFile, PartOf, PartTurned, ReadsNoFile, Steps, no_calls}
+use Rattle.surgeon_session.specs.Denials.{Under}
+use Rattle.surgeon_session.specs.Ends.{of_halt}
+use Rattle.surgeon_session.specs.Pieces.{StopsNear, bytes_read, refused}
+use Rattle.surgeon_session.specs.declared.halted.Halted.{Halted}
+use Rattle.surgeon_session.specs.declared.halted.Halted.TheVariants as halted
+use Rattle.surgeon_session.proofs.Halting.{Halts, halted_alone, returned}
+use Rattle.surgeon_session.proofs.Rounds.{mapped, no_part, same_later, same_world}
+
+-- that holds under no denial
+pub undenied : (before now : ℕ) (P : Option Denial → Type 0) → P None → Under before now P
+undenied before now P h = (None, λ sized. absurd cc, h)
+
+-- ---- nothing is sent
+
+quiet_world : (w : World) → w ≡ sent None [] w
+quiet_world w = λ i. record { files = w.files; printed = sym (append-nil w.printed) i }
+
+-- what is done without a word to the outside
+pub done_alone : {Y : Type 0} (calls : Y → List Bytes) (s : StoreState) (k : SinkState) (old new : Session) (reads_no_file : Type 0) (specified : Files → Result (Turn Session) Fault) (y : Y)
+    → ((files : Files) → specified files ≡ Ok (record { session = new; to = None; bytes = []; calls = calls y })) → CarriesOut calls s k old reads_no_file specified (Ok y) new s k
+done_alone calls s k old new reads_no_file specified y is =
+    let done : Turn Session = record { session = new; to = None; bytes = []; calls = calls y } in
+    record {
+      outcome = record {
+        prescribed = same_world (λ w now. Steps calls (Ok y) old w (specified w.files) new now) (world s k)
+            (λ w. subst (λ (r : Result (Turn Session) Fault). Carries (calls y) w r new w) (sym (is w.files)) (refl, quiet_world w, refl));
+        caused = tt;
+        later = same_later s k;
+      };
+      exact = λ _ files. subst (λ (r : Result (Turn Session) Fault). Leaves r new) (sym (is files)) refl;
+      kept = tt;
+    }
+
+-- ---- the events of a command
+
+without_events : (denial : Option Denial) (s : Session) (files : Files) (what : Command) (why : Fault) → under denial (ready s what) ≡ Err why → step denial s files what ≡ Err why
+unfolding step
+without_events denial s files what why is = rw is refl
+
+with_events : (s : Session) (files : Files) (what : Command) (ids : Ids) → (ready s what).value ≡ Ok ids → carried s files ids what ≡ step None s files what
+unfolding step
+with_events s files what ids is = rw is refl
+
+module _ (before now : ℕ) where
+  -- they aren't there
+  pub not_ready : (s : StoreState) (k : SinkState) (old new : Session) (what : Command) (h : Halt) (r : Result (Unit {0}) Halted) → IsErrAnd r (λ e. e ≡ of_halt h)
+      → Judges {X = Ids} (λ ids. ids) before now (Err h) (ready old what) → new ≡ old
+      → Under before now (λ denial. CarriesOut no_calls s k old (ReadsNoFile what) (λ files. step denial old files what) r new s k)
+  not_ready s k old new what (halt.Refused why) r is judged same = (
+    judged.0,
+    judged.1,
+    halted_alone no_calls s k old new (ReadsNoFile what) (λ files. step judged.0 old files what) (halt.Refused why) r is (λ files. without_events judged.0 old files what why judged.2) same,
+  )
+  not_ready s k old new what halt.Memory r is judged same =
+      undenied before now (λ denial. CarriesOut no_calls s k old (ReadsNoFile what) (λ files. step denial old files what) r new s k)
+      (halted_alone no_calls s k old new (ReadsNoFile what) (λ files. step None old files what) halt.Memory r is (λ files. tt) same)
+
+  -- they are, and with them it is carried out
+  pub is_ready : (s s' : StoreState) (k k' : SinkState) (old mid new : Session) (what : Command) (ids : Ids) (r : Result (Unit {0}) Halted) → (ready old what).value ≡ Ok ids → mid ≡ old
+      → CarriesOut no_calls s k mid (ReadsNoFile what) (λ files. carried mid files ids what) r new s' k'
+      → Under before now (λ denial. CarriesOut no_calls s k old (ReadsNoFile what) (λ files. step denial old files what) r new s' k')
+  is_ready s s' k k' old mid new what ids r is same h =
+      undenied before now (λ denial. CarriesOut no_calls s k old (ReadsNoFile what) (λ files. step denial old files what) r new s' k')
+      (subst (λ (f : Files → Result (Turn Session) Fault). CarriesOut no_calls s k old (ReadsNoFile what) f r new s' k') (λ i. λ files. with_events old files what ids is i)
+      (subst (λ (x : Session). CarriesOut no_calls s k x (ReadsNoFile what) (λ files. carried x files ids what) r new s' k') same h))
+
+  never_both : {A : Type 0} {x : A} {why : Fault} → Ok x ≡ Err why → ⊥
+  never_both is = absurd cc
+
+  -- a file is never read before they are there
+  none_refused : {A : Type 0} (h : Halt) (r : Result A Halted) → IsErrAnd r (λ e. e ≡ of_halt h) → Judges {X = Ids} {Y = Ids} (λ ids. ids) before now (Err h) (plainly (Ok [])) → refused r ≡ None
+  none_refused (halt.Refused why) (Ok x) is judged = absurd is
+  none_refused (halt.Refused why) (Err e) is judged = absurd (never_both (sym (nothing_built judged.0 (Ok [])) ∙ judged.2))
+  none_refused halt.Memory (Ok x) is judged = absurd is
+  none_refused halt.Memory (Err e) is judged = ap (λ (x : Halted). refused {X = Unit {0}} (Err x)) is
+
+  near_none : (bytes : Option Bytes) (rest : Option Bytes) → StopsNear bytes None rest
+  near_none None rest = tt
+  near_none (Some bytes) rest = tt
+
+  pub not_ready_near : {A : Type 0} (files : Option Files) (rest : Option Bytes) (s : Session) (what : Command) (h : Halt) (r : Result A Halted) → IsErrAnd r (λ e. e ≡ of_halt h)
+      → Judges {X = Ids} (λ ids. ids) before now (Err h) (ready s what) → StopsNear (bytes_read files what) (refused r) rest
+  unfolding ready
+  not_ready_near files rest s (command.Read file name) h r is judged =
+      subst (λ (o : Option Fault). StopsNear (bytes_read files (command.Read file name)) o rest) (sym (none_refused h r is judged)) (near_none (bytes_read files (command.Read file name)) rest)
+  not_ready_near files rest s (command.Write to) h r is judged = tt
+  not_ready_near files rest s (command.Choose name) h r is judged = tt
+  not_ready_near files rest s command.ShowRepos h r is judged = tt
+  not_ready_near files rest s (command.Drop name) h r is judged = tt
+  not_ready_near files rest s command.DropChosen h r is judged = tt
+  not_ready_near files rest s command.Renumber h r is judged = tt
+  not_ready_near files rest s (command.Show selection what to) h r is judged = tt
+  not_ready_near files rest s (command.Assign selection name) h r is judged = tt
+  not_ready_near files rest s (command.Names to) h r is judged = tt
+  not_ready_near files rest s (command.Summary to) h r is judged = tt
+
+-- ---- the order of a line
+
+-- a command that isn't done, as a line: nothing is run next
+pub as_line : (s s' : StoreState) (k k' : SinkState) (old new : Session) (reads_no_file : Type 0) (specified : Files → Result (Turn Session) Fault) (e : Halted)
+    → CarriesOut {Y = Unit {0}} no_calls s k old reads_no_file specified (Err e) new s' k'
+    → CarriesOut {Y = List Bytes} (λ calls. calls) s k old reads_no_file specified (Err e) new s' k'
+as_line s s' k k' old new reads_no_file specified (halted.Refused why) h =
+    record { outcome = record { prescribed = h.outcome.prescribed; caused = h.outcome.caused; later = h.outcome.later }; exact = h.exact; kept = h.kept }
+as_line s s' k k' old new reads_no_file specified halted.SourceFault h =
+    record { outcome = record { prescribed = h.outcome.prescribed; caused = h.outcome.caused; later = h.outcome.later }; exact = h.exact; kept = h.kept }
+as_line s s' k k' old new reads_no_file specified halted.SinkFault h =
+    record { outcome = record { prescribed = h.outcome.prescribed; caused = h.outcome.caused; later = h.outcome.later }; exact = h.exact; kept = h.kept }
+as_line s s' k k' old new reads_no_file specified halted.Memory h =
+    record { outcome = record { prescribed = h.outcome.prescribed; caused = h.outcome.caused; later = h.outcome.later }; exact = h.exact; kept = h.kept }
+
+-- a command that is done, as a line
+pub as_done_line : (s s' : StoreState) (k k' : SinkState) (old new : Session) (reads_no_file : Type 0) (specified : Files → Result (Turn Session) Fault) (calls : List Bytes) → calls ≡ []
+    → CarriesOut {Y = Unit {0}} no_calls s k old reads_no_file specified (Ok tt) new s' k'
+    → CarriesOut {Y = List Bytes} (λ calls. calls) s k old reads_no_file specified (Ok calls) new s' k'
+as_done_line s s' k k' old new reads_no_file specified calls none h =
+    rw none (record { outcome = record { prescribed = h.outcome.prescribed; caused = h.outcome.caused; later = h.outcome.later }; exact = h.exact; kept = tt })
+
+has_order : (denial : Option Denial) (s : Session) (files : Files) (depth : ℕ) (text : Bytes) (order : Order) → order_of text ≡ Ok order
+    → ordered denial s files depth order ≡ line_step denial s files depth (Plain text)
+unfolding line_step
+has_order denial s files depth text order is = rw is refl
+
+-- a line is carried out as its order is
+pub of_order : {Y : Type 0} (calls : Y → List Bytes) (before now : ℕ) (s s' : StoreState) (k k' : SinkState) (old new : Session) (depth : ℕ) (text : Bytes) (order : Order) (r : Result Y Halted)
+    → order_of text ≡ Ok order
+    → Under before now (λ denial. CarriesOut calls s k old (OrderReadsNoFile (Ok order)) (λ files. ordered denial old files depth order) r new s' k')
+    → Under before now (λ denial. CarriesOut calls s k old (LineReadsNoFile (Plain text)) (λ files. line_step denial old files depth (Plain text)) r new s' k')
+of_order calls before now s s' k k' old new depth text order r is h = (
+  h.0,
+  h.1,
+  subst (λ (o : Result Order Fault). CarriesOut calls s k old (OrderReadsNoFile o) (λ files. line_step h.0 old files depth (Plain text)) r new s' k') (sym is)
+      (subst (λ (f : Files → Result (Turn Session) Fault). CarriesOut calls s k old (OrderReadsNoFile (Ok order)) f r new s' k') (λ i. λ files. has_order h.0 old files depth text order is i) h.2),
+)
+
+-- ---- a line that is broken off
+
+broken_part : {X : Type 0} (s : X) (w now : World) (line : ℕ) (specified : Result (Turn X) Fault) → PartOf w specified now
+    → PartSent (turn_of s line specified).to (turn_of s line specified).bytes w now
+broken_part s w now line (Ok t) h = h
+broken_part s w now line (Err why) h = subst (PartSent None (refusal line why) w) (sym h) (no_part None (refusal line why) w)
+
+-- a part of what it sends is sent, or of the line of its refusal
+pub broken_turn : {X : Type 0} (old new : X) (line : ℕ) (specified : Files → Result (Turn X) Fault) (v v' : Option World)
+    → IfSome v (λ w. IfSome v' (λ now. (new ≡ old) × PartOf w (specified w.files) now))
+    → IfSome v (λ w. IfSome v' (λ now. PartTurned old w line (specified w.files) new now))
+broken_turn old new line specified v v' h = mapped v v' (λ w now part. (part.0, broken_part old w now line (specified w.files) part.1)) h

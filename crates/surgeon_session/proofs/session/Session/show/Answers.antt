@@ -1,0 +1,9 @@
+use Rattle.plain_model.specs.Paths.{Bytes}
+use Rattle.surgeon_session.specs.Commands.{no_calls}
+use Rattle.surgeon_session.proofs.Halting.{halted_alone, halts_after, returned}
+use Rattle.surgeon_session.proofs.session.Session.show.Goals as goal
+
+pub returns-in_err-text : goal.returns-in_err-text
+returns-in_err-text g c =
+    halted_alone no_calls _ _ c.args.self.now c.shown.new.self _ _ c.in_err-text.field-0.0 c.from_residual.result c.from_residual.ensures.1
+    (λ files. halts_after c.in_err-text.field-0.0 _ _ (returned (λ (b : Bytes). b) c.in_err-text.field-0.0 _ c.in_err-text.ensures.text)) c.shown.ensures.same
