@@ -1,9 +1,11 @@
 -- What the top call promises, over a store that tells its files and a sink that tells what was written.
-use Rattle.std.specs.Prelude.{◌≡◌, ◌≢◌, List, ◌∷◌, Some, None, Result, Ok, IfSome}
+use Rattle.std.specs.Prelude.{◌≡◌, ◌≢◌, ℕ, false, List, ◌∷◌, Some, None, Result, Ok, IfSome}
 use Rattle.std.specs.List.{AllByRecursion}
 use Rattle.plain_model.specs.declared.status.Status.{Status}
 use Rattle.plain_model.specs.declared.status.Status.TheVariants as status
+use Rattle.plain_model.specs.Counts.{Rose}
 use Rattle.plain_model.specs.Paths.{Bytes}
+use Rattle.byte_patterns.specs.Judging.{is_sized}
 use Rattle.plain_model.specs.Files.{Files}
 use Rattle.plain_model.specs.Text.{text}
 use Rattle.shown_laws.specs.Showing.{IsShownBy}
@@ -17,28 +19,37 @@ use Rattle.script_reader.specs.declared.script.ScriptLine.{ScriptLine}
 use Rattle.script_reader.specs.declared.script.ScriptLine.TheVariants.{Define, Plain}
 use Rattle.history_machine.specs.Sessions.{Repo, Session, chosen}
 use Rattle.history_machine.specs.Machine.{Completes, EndsAs, Turn}
-use Rattle.history_machine.specs.Whole.{run}
+use Rattle.history_machine.specs.Whole.{Denials, run}
 use Rattle.history_machine.specs.Words.{asked}
 use Rattle.surgeon_session.specs.Calls.{NoFaults, world}
+use Rattle.surgeon_session.specs.Denials.{UnderAll}
 
--- Files and output are those of the machine's run of these words: at its end, with its status, or where a fault of
--- the outside or out of memory broke it off.
-abbrev pub AsPrescribed : List Bytes → StoreState → SinkState → Status → StoreState → SinkState → Type 0
-AsPrescribed words s k answer s' k' = IfSome (world s k) (λ w. IfSome (world s' k') (λ now. EndsAs (run words w.files) answer w now))
+-- Files and output are those of the machine's run of these words, where of no command a pattern is refused that the grammar reads, or
+-- one of each: at its end, with its status, or where a fault of the outside or out of memory broke it off. A size was refused only where
+-- their count rose.
+abbrev pub AsPrescribed : List Bytes → StoreState → SinkState → ℕ → Status → StoreState → SinkState → ℕ → Type 0
+AsPrescribed words s k sizes answer s' k' sizes' =
+    UnderAll sizes sizes' (λ denials. IfSome (world s k) (λ w. IfSome (world s' k') (λ now. EndsAs (run denials words w.files) answer w now)))
 
--- where no count of faults rose and memory was there, the run came to its end
-abbrev pub Succeeds : List Bytes → StoreState → SinkState → Status → StoreState → SinkState → Type 0
-Succeeds words s k answer s' k' =
-    NoFaults s k s' k' → answer ≢ status.Memory → IfSome (world s k) (λ w. IfSome (world s' k') (λ now. Completes (run words w.files) answer w now))
+-- of no command a pattern is refused for its size
+abbrev pub AreUnsized : Denials → Type 0
+AreUnsized denials = AllByRecursion (λ denial. is_sized denial ≡ false) denials
+
+-- where no count of faults or of sizes rose and memory was there, the run came to its end, and no pattern was refused for its size
+abbrev pub Succeeds : List Bytes → StoreState → SinkState → ℕ → Status → StoreState → SinkState → ℕ → Type 0
+Succeeds words s k sizes answer s' k' sizes' =
+    NoFaults s k s' k' → (Rose sizes sizes' → ⊥) → answer ≢ status.Memory
+    → (denials : Denials) × AreUnsized denials
+    × IfSome (world s k) (λ w. IfSome (world s' k') (λ now. Completes (run denials words w.files) answer w now))
 
 -- each history that a session holds: what is written of it is a stream, what is read of that is written as the same bytes,
 -- and a replay of it by plain maps shows what the history shows
 abbrev pub AreShown : List Repo → Type 0
 AreShown repos = AllByRecursion (λ r. IsShownBy (text r.history) r.history) repos
 
--- that is so after each command of the run, whether it is done or refused
+-- that is so after each command of the run, whether it is done or refused, whatever is refused of its patterns
 abbrev pub ShowsHistories : List Bytes → Files → Type 0
-ShowsHistories words files = AllByRecursion (λ t. AreShown t.session.repos) (run words files).turns
+ShowsHistories words files = (denials : Denials) → AllByRecursion (λ t. AreShown t.session.repos) (run denials words files).turns
 
 -- Where a repository is chosen, a `write` line sends the text of its history to the file that it names, or prints it; and
 -- by that text the history is shown.
@@ -59,7 +70,7 @@ AreShownWrites ran turns = Unit {0}
 
 -- and so of each line that the run carries out, those of macros included
 abbrev pub ShowsWrites : List Bytes → Files → Type 0
-ShowsWrites words files = AreShownWrites (run words files).ran (run words files).turns
+ShowsWrites words files = (denials : Denials) → AreShownWrites (run denials words files).ran (run denials words files).turns
 
 -- how a run ends that tells how the program is called: so, or a fault of printing or out of memory broke it off
 abbrev pub IsUsageEnd : Status → Type 0

@@ -1,4 +1,5 @@
 use crate::surgeon;
+use byte_patterns::RegexPatterns;
 use plain_model::{Items, NumberList, Status, Text};
 use std::alloc::Global;
 use std::test::Fail;
@@ -183,16 +184,27 @@ struct Ending {
     written: Option<Text>,
 }
 
-// A run of these words over these files.
-fn run_over(alloc: Global, files: FileList, words: &[String]) -> Result<Ending, Fail> {
+// A run of these words over these files, of which a pattern is refused for its size, if the number isn't 0.
+fn run_denied(
+    alloc: Global,
+    files: FileList,
+    words: &[String],
+    denied: u64,
+) -> Result<Ending, Fail> {
     let mut store = SureStore::new(alloc, files)?;
     let mut out = SureSink::new(alloc)?;
-    let status = surgeon(alloc, words, &mut store, &mut out);
+    let mut patterns = RegexPatterns::new(alloc, denied);
+    let status = surgeon(alloc, words, &mut store, &mut out, &mut patterns);
     Ok(Ending {
         status,
         printed: Items::of(alloc, out.written().as_slice())?,
         written: copy_of(alloc, store.file("b.fi"))?,
     })
+}
+
+// A run of these words over these files.
+fn run_over(alloc: Global, files: FileList, words: &[String]) -> Result<Ending, Fail> {
+    run_denied(alloc, files, words, 0)
 }
 
 fn run_script(alloc: Global, script: &[u8], given: &[&str]) -> Result<Ending, Fail> {
@@ -220,7 +232,8 @@ fn run_failing(
     let words = words(alloc, given)?;
     let mut store = MemoryStore::new(alloc, files(alloc, script)?, numbers(alloc, of_store)?)?;
     let mut out = MemorySink::new(alloc, numbers(alloc, of_sink)?)?;
-    let status = surgeon(alloc, &words, &mut store, &mut out);
+    let mut patterns = RegexPatterns::new(alloc, 0);
+    let status = surgeon(alloc, &words, &mut store, &mut out, &mut patterns);
     Ok(Ending {
         status,
         printed: Items::of(alloc, out.written().as_slice())?,
@@ -494,6 +507,34 @@ fn marks_are_given_anew(rt: HostRuntime) -> Result<(), Fail> {
     assert_eq!(rt; ending.status, Status::Done);
     assert!(rt; ending.printed.as_slice() == printed.as_slice());
     assert!(rt; is_as_wanted(ending.written.as_ref(), Some(WRITTEN)));
+    Ok(())
+}
+
+#[test]
+fn a_pattern_may_be_refused_for_its_size(rt: HostRuntime) -> Result<(), Fail> {
+    let alloc = rt.alloc();
+    let words = words(alloc, &["--keep-going", "s"])?;
+    let script =
+        b"read <a.fi\n/c1/ resolve\n/c1/ resolve\n/c{1}/ resolve\n/(/ resolve\n=H&/c./c|/a@x/a list\n";
+    let rows: [(u64, &[u8]); 2] = [
+        (0, b"2\n2\n"),
+        (
+            2,
+            b"2\nsurgeon: line 3: refused 46 PatternTooBig pattern=c1\n",
+        ),
+    ];
+    let others = b"surgeon: line 4: refused 46 PatternTooBig pattern=c{1}
+surgeon: line 5: refused 45 BadPattern pattern=(
+     3 1970-01-01T00:03:20Z :3 c2
+     2 1970-01-01T00:01:40Z :2 c1
+";
+    for (denied, first) in rows {
+        let ending = run_denied(alloc, files(alloc, script)?, &words, denied)?;
+        let mut printed = Items::of(alloc, first)?;
+        printed.push_all(others)?;
+        assert_eq!(rt; ending.status, Status::Refused);
+        assert!(rt; ending.printed.as_slice() == printed.as_slice());
+    }
     Ok(())
 }
 

@@ -32,6 +32,7 @@ ghost use Rattle.history_machine.specs.Whole.{
 };
 ghost use Rattle.surgeon_store.specs.WholeFiles.{ReturnsOrBreaks};
 ghost use Rattle.surgeon_session.specs.Calls.{Caused, Later, Outcome, world};
+ghost use Rattle.surgeon_session.specs.Denials.{UnderAll};
 ghost use Rattle.surgeon_cli.specs.Headline.{
   AnswersWords,
   AsPrescribed,
@@ -42,6 +43,7 @@ ghost use Rattle.surgeon_cli.specs.Headline.{
 };
 ghost use Rattle.plain_model.specs.Files.{Files};
 
+use byte_patterns::Patterns;
 use command_line::asked_in;
 use history_machine::{a_step_keeps_it, a_write_sends_the_stream, the_chosen_history_is_lawful};
 use plain_model::{Fault, Items, MAX_SCRIPT_BYTES, NoMemory, Status, Text};
@@ -167,40 +169,46 @@ fn script_in<S: Store>(alloc: Global, store: &mut S, name: &str) -> Result<Scrip
 }
 
 // Runs a script from the empty session on.
-fn run_script<S: Store, T: Sink>(
+fn run_script<S: Store, T: Sink, P: Patterns>(
     alloc: Global,
     script: &Script,
     keep_going: bool,
     store: &mut S,
     out: &mut T,
+    patterns: &mut P,
 ) -> Status
-    ensures outcome { Outcome
-        (λ w now. EndsAs (run_from empty_session w.files script.now keep_going) result w now)
-        (S.state store.old) (T.state out.old) result (S.state store.new) (T.state out.new) }
+    ensures outcome { UnderAll (P.sizes patterns.old) (P.sizes patterns.new)
+        (λ denials. Outcome
+        (λ w now. EndsAs (run_from denials empty_session w.files script.now keep_going) result w now)
+        (S.state store.old) (T.state out.old) result (S.state store.new) (T.state out.new)) }
+    ensures grows { P.sizes patterns.old ≤ P.sizes patterns.new }
     ensures words { result ≢ Status.Usage }
 {
     match Session::new(alloc) {
-        Ok(mut session) => session.run(script, keep_going, store, out),
+        Ok(mut session) => session.run(script, keep_going, store, out, patterns),
         Err(NoMemory) => Status::Memory,
     }
 }
 
 // Runs the script of a file.
-fn run_file<S: Store, T: Sink>(
+fn run_file<S: Store, T: Sink, P: Patterns>(
     alloc: Global,
     name: &str,
     keep_going: bool,
     store: &mut S,
     out: &mut T,
+    patterns: &mut P,
 ) -> Status
-    ensures outcome { Outcome
-        (λ w now. EndsAs (run_asked w.files
+    ensures outcome { UnderAll (P.sizes patterns.old) (P.sizes patterns.new)
+        (λ denials. Outcome
+        (λ w now. EndsAs (run_asked denials w.files
         (Some (record { keep_going = keep_going; script = name.now }))) result w now)
-        (S.state store.old) (T.state out.old) result (S.state store.new) (T.state out.new) }
+        (S.state store.old) (T.state out.old) result (S.state store.new) (T.state out.new)) }
+    ensures grows { P.sizes patterns.old ≤ P.sizes patterns.new }
     ensures words { result ≢ Status.Usage }
 {
     match script_in(alloc, store, name) {
-        Ok(script) => run_script(alloc, &script, keep_going, store, out),
+        Ok(script) => run_script(alloc, &script, keep_going, store, out, patterns),
         Err(ReadEnd::Refused(why)) => unread_script(alloc, name.as_bytes(), &why, out),
         Err(ReadEnd::SourceFault) => Status::SourceFault,
         Err(ReadEnd::Memory) => Status::Memory,
@@ -209,43 +217,48 @@ fn run_file<S: Store, T: Sink>(
 
 // Runs what the words ask for.
 #[tactic(auto, unfolding(history_machine::specs::Whole::run))]
-fn run_words<S: Store, T: Sink>(
+fn run_words<S: Store, T: Sink, P: Patterns>(
     alloc: Global,
     words: &[String],
     store: &mut S,
     out: &mut T,
+    patterns: &mut P,
 ) -> Status
-    ensures outcome { Outcome
-        (λ w now. EndsAs (run (map string_bytes words.now) w.files) result w now)
-        (S.state store.old) (T.state out.old) result (S.state store.new) (T.state out.new) }
+    ensures outcome { UnderAll (P.sizes patterns.old) (P.sizes patterns.new)
+        (λ denials. Outcome
+        (λ w now. EndsAs (run denials (map string_bytes words.now) w.files) result w now)
+        (S.state store.old) (T.state out.old) result (S.state store.new) (T.state out.new)) }
+    ensures grows { P.sizes patterns.old ≤ P.sizes patterns.new }
     ensures words { AnswersWords (map string_bytes words.now) result }
 {
     match asked_in(alloc, words) {
-        Ok(Some(asked)) => run_file(alloc, asked.script, asked.keep_going, store, out),
+        Ok(Some(asked)) => run_file(alloc, asked.script, asked.keep_going, store, out, patterns),
         Ok(None) => print_usage(alloc, out),
         Err(NoMemory) => Status::Memory,
     }
 }
 
-/// Runs the script that the words name, over these files and this output. The first word is the program's name; with
-/// `--keep-going` among the others the run goes on after refusals. (own)
-pub fn surgeon<S: Store, T: Sink>(
+/// Runs the script that the words name, over these files and this output, with what builds patterns. The first word is the program's
+/// name; with `--keep-going` among the others the run goes on after refusals. (own)
+pub fn surgeon<S: Store, T: Sink, P: Patterns>(
     alloc: Global,
     words: &[String],
     store: &mut S,
     out: &mut T,
+    patterns: &mut P,
 ) -> Status
     // What the plain machine prescribes, to its end, or up to where a fault or out of memory broke it off.
     ensures prescribed { AsPrescribed (map string_bytes words.now) (S.state store.old) (T.state out.old)
-        result (S.state store.new) (T.state out.new) }
+        (P.sizes patterns.old) result (S.state store.new) (T.state out.new) (P.sizes patterns.new) }
 
     // A status that tells of the outside is one whose count rose, and without them the run comes to its end.
     ensures caused { Caused (S.state store.old) (T.state out.old) result
         (S.state store.new) (T.state out.new) }
     ensures complete { Succeeds (map string_bytes words.now) (S.state store.old) (T.state out.old)
-        result (S.state store.new) (T.state out.new) }
+        (P.sizes patterns.old) result (S.state store.new) (T.state out.new) (P.sizes patterns.new) }
     ensures later { Later (S.state store.old) (T.state out.old)
         (S.state store.new) (T.state out.new) }
+    ensures grows { P.sizes patterns.old ≤ P.sizes patterns.new }
 
     // Usage comes exactly where the words aren't right, whatever the store says; but a fault of printing or
     // out of memory may come in its place.
@@ -262,5 +275,5 @@ pub fn surgeon<S: Store, T: Sink>(
     a_step_keeps_it();
     a_write_sends_the_stream();
     the_chosen_history_is_lawful();
-    run_words(alloc, words, store, out)
+    run_words(alloc, words, store, out, patterns)
 }

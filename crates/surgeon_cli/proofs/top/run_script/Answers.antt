@@ -1,3 +1,4 @@
+use Rattle.std.proofs.Common.{[]}
 use Rattle.history_machine.specs.Sessions.{empty_session}
 use Rattle.history_machine.specs.Whole.{run_from}
 use Rattle.plain_model.specs.declared.status.Status.TheVariants as status
@@ -9,21 +10,28 @@ use Rattle.surgeon_cli.proofs.top.run_script.Goals as goal
 pub returns-in-Err-clause-outcome : goal.returns-in-Err-clause-outcome
 returns-in-Err-clause-outcome g c =
     let s = g.S.Store.state c.args.store.now in
-    let k = g.T.Sink.state c.args.out.now in
-    record {
-      prescribed = not_begun_worlds (λ w. run_from empty_session w.files c.args.script.now c.args.keep_going) status.Memory (world s k) tt;
-      caused = tt;
-      later = same_later s k;
-    }
+    let k = g.T.Sink.state c.args.out.now in (
+      [],
+      tt,
+      record {
+        prescribed = not_begun_worlds (λ w. run_from [] empty_session w.files c.args.script.now c.args.keep_going) status.Memory (world s k) tt;
+        caused = tt;
+        later = same_later s k;
+      },
+    )
 
 pub returns-in-Ok-clause-outcome : goal.returns-in-Ok-clause-outcome
 returns-in-Ok-clause-outcome g c =
     let s = g.S.Store.state in
     let k = g.T.Sink.state in
     let ran = c.run.ensures.outcome in
-    rw (← c.in-Ok.ensures) (record {
-      prescribed = mapped (world (s c.args.store.now) (k c.args.out.now)) (world (s c.run.new.store) (k c.run.new.out))
-          (λ w now h. session_aside (run_from c.in-Ok.session w.files c.args.script.now c.args.keep_going) c.run.result c.in-Ok.session c.run.new.self w now h) ran.prescribed;
-      caused = ran.caused;
-      later = ran.later;
-    })
+    rw (← c.in-Ok.ensures) (
+      ran.0,
+      ran.1,
+      record {
+        prescribed = mapped (world (s c.args.store.now) (k c.args.out.now)) (world (s c.run.new.store) (k c.run.new.out))
+            (λ w now h. session_aside (run_from ran.0 c.in-Ok.session w.files c.args.script.now c.args.keep_going) c.run.result c.in-Ok.session c.run.new.self w now h) ran.2.prescribed;
+        caused = ran.2.caused;
+        later = ran.2.later;
+      },
+    )

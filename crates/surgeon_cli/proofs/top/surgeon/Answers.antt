@@ -1,12 +1,18 @@
 use Rattle.std.specs.Prelude.{map, string_bytes}
-use Rattle.history_machine.specs.Whole.{run}
-use Rattle.surgeon_session.proofs.Rounds.{all_completes}
 use Rattle.surgeon_cli.proofs.ShownHistories.{histories_shown, writes_shown}
+use Rattle.surgeon_cli.proofs.Unsized.{succeeds}
 use Rattle.surgeon_cli.proofs.top.surgeon.Goals as goal
 
+pub returns-clause-prescribed : goal.returns-clause-prescribed
+returns-clause-prescribed g c =
+    let ran = c.run_words.ensures.outcome in
+    (ran.0, ran.1, ran.2.prescribed)
+
 pub returns-clause-complete : goal.returns-clause-complete
-returns-clause-complete g c = λ quiet enough.
-    all_completes (λ w. run (map string_bytes c.args.words.now) w.files) (g.S.Store.state c.args.store.now) (g.S.Store.state c.run_words.new.store) (g.T.Sink.state c.args.out.now) (g.T.Sink.state c.run_words.new.out) c.run_words.result c.run_words.ensures.outcome.caused quiet enough c.run_words.ensures.outcome.prescribed
+returns-clause-complete g c =
+    let ran = c.run_words.ensures.outcome in
+    succeeds (map string_bytes c.args.words.now) (g.S.Store.state c.args.store.now) (g.S.Store.state c.run_words.new.store) (g.T.Sink.state c.args.out.now) (g.T.Sink.state c.run_words.new.out)
+    (g.P.Patterns.sizes c.args.patterns.now) (g.P.Patterns.sizes c.run_words.new.patterns) c.run_words.result ran.2.caused (ran.0, ran.1, ran.2.prescribed)
 
 pub returns-clause-replayed : goal.returns-clause-replayed
 returns-clause-replayed g c = λ files.
