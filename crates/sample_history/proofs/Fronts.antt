@@ -1,5 +1,5 @@
 -- The sample is sound: what is known of its events up to some commit, and of one more.
-use Rattle.std.proofs.Common.{◌≡◌, ◌∙◌, ℕ, zero, suc, ◌+◌, ◌-◌, ◌*◌, ◌/◌, ◌%◌, ◌<◌, ◌≤◌, ◌^◌, Bool, true, false, cond, ◌&&◌, not, inl, inr, List, [], ◌∷◌, ◌++◌, Option, Some, refl, sym, ap, subst, eqb, length, reverse, arith, append_assoc, lit≤}
+use Rattle.std.proofs.Common.{◌≡◌, ◌∙◌, ℕ, zero, suc, ◌+◌, ◌-◌, ◌*◌, ◌/◌, ◌%◌, ◌<◌, ◌≤◌, ◌^◌, Bool, true, false, cond, ◌&&◌, not, inl, inr, List, [], ◌∷◌, ◌++◌, Option, Some, refl, sym, ap, subst, eqb, length, reverse, arith, append_assoc, lit≤, min}
 use Rattle.std.proofs.lemmas.Bool.{and_parts, cases_Bool, cond_both, leb-false, leb-true, le-ltb, ltb-false, ltb-true, ne_eqb, true≢false}
 use Rattle.std.proofs.Math.Nat.{mod-lt}
 use Rattle.std.proofs.lemmas.List.{append-nil, reverse-append}
@@ -11,7 +11,7 @@ use Rattle.std.specs.declared.cmp.Ordering.TheVariants.{Less, Equal, Greater}
 use Rattle.std.specs.Prelude.{◌==◌, IsSome, nat_le, nat_lt}
 use Rattle.plain_model.specs.declared.id.AnyId.{AnyId}
 use Rattle.plain_model.specs.declared.id.AnyId.TheVariants as any
-use Rattle.plain_model.specs.declared.limit.TheConstants.{MAX_PARENTS, MAX_PATHS}
+use Rattle.plain_model.specs.declared.limit.TheConstants.{MAX_ALIASES, MAX_EVENTS, MAX_OPERATIONS, MAX_PARENTS, MAX_PATHS}
 use Rattle.plain_model.specs.declared.operation.Entry.{Entry}
 use Rattle.plain_model.specs.declared.operation.Content.TheVariants.{Blob as OfBlob}
 use Rattle.plain_model.specs.declared.operation.Mode.TheVariants.{Plain}
@@ -19,7 +19,7 @@ use Rattle.plain_model.specs.declared.operation.FileOp.{FileOp}
 use Rattle.plain_model.specs.declared.operation.FileOp.TheVariants.{Modify, Delete}
 use Rattle.plain_model.specs.declared.event.PlainEvent.{PlainEvent}
 use Rattle.plain_model.specs.Histories.{Node, begun, folded, nodes, past, tree, tree_in}
-use Rattle.plain_model.specs.Lookups.{AreIdsBelow, id_number, id_of, same_id}
+use Rattle.plain_model.specs.Lookups.{AreIdsBelow, alias_count, id_number, id_of, same_id}
 use Rattle.plain_model.specs.Paths.{Bytes, is_at_or_below, is_in_the_way}
 use Rattle.plain_model.specs.Soundness.{AreSoundAfter, IsCommitOf, IsFormedEvent, IsFormedOp, IsFormedSigned, IsSound, IsSoundEvent, RefersBack, are_distinct, has_id}
 use Rattle.plain_model.specs.Streams.{is_marked}
@@ -27,6 +27,8 @@ use Rattle.plain_model.specs.Trees.{Tree, TreeOf, cleared_for, put, where_path, 
 use Rattle.history_laws.proofs.Commits.{nodes_append}
 use Rattle.history_laws.proofs.Ids.{has_id-append, has_id_after, has_id_step, has_id_still, has_own, ids-below, is_marked-append, same_number}
 use Rattle.sample_history.specs.Sample.{blob_number, blob_of, commit_number, commit_of, file, folder, ops_of, parents_of, path_in, sample, sample_from, signed_at, drawn, stepped}
+use Rattle.stream_grammar.specs.Limits.{ops_in}
+use Rattle.sample_history.specs.declared.limit.TheConstants.{MAX_COMMITS}
 use Rattle.sample_history.proofs.Files.{is_file}
 
 -- ---- the parents and the operations, by cases
@@ -314,14 +316,44 @@ low_from : (left n x : ℕ) → n + left ≤ 200000
 low_from zero n x low = tt
 low_from (suc left) n x low = (omega arith, (omega arith, low_from left (n + 1) (stepped x) (omega arith)))
 
-pub sample_sound : (count start : ℕ) → count ≤ 200000 → IsSound (sample count start)
-unfolding sample
-sample_sound count start low = record {
-  formed = sound_from count 0 start [] no_events (omega (arith, low));
-  spelled = formed_from count 0 start (omega (arith, low));
-  trees = trees_from count 0 start [] no_events (omega (arith, low));
-}
+-- ---- counts
 
-pub sample_low : (count start : ℕ) → count ≤ 200000 → AreIdsBelow (2 ^ 62) (sample count start)
+counts_from : (left n x : ℕ) → (length (sample_from left n x) ≡ 2 * left)
+    × (ops_in (sample_from left n x) ≤ 2 * left) × (alias_count (sample_from left n x) ≡ 0)
+counts_from zero n x = (refl, lit≤ tt, refl)
+counts_from (suc left) n x =
+    let rec = counts_from left (n + 1) (stepped x) in
+    let few = ops_by n (drawn (stepped x)) (λ ops. length ops ≤ 2) (lit≤ tt) (lit≤ tt) in
+    (omega (arith, rec.0), omega (arith, rec.1, few), omega (arith, rec.2))
+
+-- ---- the whole
+
+at_most : (count : ℕ) → min count MAX_COMMITS ≤ 200000
+at_most count = omega arith
+
+pub sample_sound : (count start : ℕ) → IsSound (sample count start)
 unfolding sample
-sample_low count start low = ids-below (2 ^ 62) (sample count start) (low_from count 0 start (omega (arith, low)))
+sample_sound count start =
+    let low = at_most count in record {
+      formed = sound_from (min count MAX_COMMITS) 0 start [] no_events (omega (arith, low));
+      spelled = formed_from (min count MAX_COMMITS) 0 start (omega (arith, low));
+      trees = trees_from (min count MAX_COMMITS) 0 start [] no_events (omega (arith, low));
+    }
+
+pub sample_low : (count start : ℕ) → AreIdsBelow (2 ^ 62) (sample count start)
+unfolding sample
+sample_low count start =
+    let low = at_most count in
+    ids-below (2 ^ 62) (sample count start) (low_from (min count MAX_COMMITS) 0 start (omega (arith, low)))
+
+pub sample_events_few : (count start : ℕ) → length (sample count start) ≤ MAX_EVENTS
+unfolding sample
+sample_events_few count start = omega (arith, at_most count, (counts_from (min count MAX_COMMITS) 1 start).0)
+
+pub sample_ops_few : (count start : ℕ) → ops_in (sample count start) ≤ MAX_OPERATIONS
+unfolding sample
+sample_ops_few count start = omega (arith, at_most count, (counts_from (min count MAX_COMMITS) 1 start).1)
+
+pub sample_aliases_few : (count start : ℕ) → alias_count (sample count start) ≤ MAX_ALIASES
+unfolding sample
+sample_aliases_few count start = rw (counts_from (min count MAX_COMMITS) 1 start).2 (lit≤ tt)

@@ -1,5 +1,5 @@
 -- The sample: a history of any size on one branch, which a number determines. (own)
-use Rattle.std.specs.Prelude.{ℕ, zero, suc, ◌+◌, ◌-◌, ◌*◌, ◌/◌, ◌%◌, ◌^◌, false, ◌==◌, ◌&&◌, nat_le, nat_lt, List, [], ◌∷◌, ◌++◌, None, codes, decimal, if◌then◌else◌}
+use Rattle.std.specs.Prelude.{ℕ, zero, suc, ◌+◌, ◌-◌, ◌*◌, ◌/◌, ◌%◌, ◌^◌, false, ◌==◌, ◌&&◌, nat_le, nat_lt, List, [], ◌∷◌, ◌++◌, None, codes, decimal, min, if◌then◌else◌}
 use Rattle.plain_model.specs.declared.operation.Mode.TheVariants.{Plain}
 use Rattle.plain_model.specs.declared.operation.Content.TheVariants.{Blob as OfBlob}
 use Rattle.plain_model.specs.declared.operation.FileOp.{FileOp}
@@ -9,6 +9,7 @@ use Rattle.plain_model.specs.declared.event.PlainEvent.{PlainEvent}
 use Rattle.plain_model.specs.declared.event.PlainEvent.TheVariants.{Blob, Commit}
 use Rattle.plain_model.specs.Paths.{Bytes}
 use Rattle.plain_model.specs.Text.{line}
+use Rattle.sample_history.specs.declared.limit.TheConstants.{MAX_COMMITS}
 
 -- ---- numbers by chance
 
@@ -75,6 +76,6 @@ sample_from (suc left) i x =
     let r = drawn (stepped x) in
     blob_of i r ∷ commit_of i r ∷ sample_from left (i + 1) (stepped x)
 
--- as many commits as the count says, from the number with which x begins
+-- as many commits as the count says, up to the most that a sample may have, from the number with which x begins
 unfoldable pub sample : ℕ → ℕ → List PlainEvent
-sample count start = sample_from count 1 start
+sample count start = sample_from (min count MAX_COMMITS) 1 start

@@ -4,6 +4,7 @@ ghost use Rattle.plain_model.specs.Lookups.{AreIdsBelow};
 ghost use Rattle.plain_model.specs.Soundness.{IsSound};
 ghost use Rattle.sample_history.specs.Sample.{drawn, sample, stepped};
 
+use crate::limit::MAX_COMMITS;
 use crate::parts::{blob_of, commit_of};
 use plain_model::{EventList, NoMemory};
 use std::alloc::Global;
@@ -22,19 +23,17 @@ fn drawn(state: u64) -> u64
     state / (1 << 33)
 }
 
-/// A history of so many commits, each with a blob of its own, on one branch. Some commits have a
+/// A history of so many commits, but no more than `MAX_COMMITS`, each with a blob of its own, on one branch. Some commits have a
 /// second parent, and some delete a path. The same numbers give the same history. (own)
 #[tactic(auto, unfolding(crate::specs::Sample::sample))]
-pub fn sample_events(alloc: Global, count: u32, start: u64) -> Result<EventList, NoMemory>
-    requires some { 1 ≤ count }
-    requires few { count ≤ 200000 }
+pub fn sample_events(alloc: Global, count: u64, start: u64) -> Result<EventList, NoMemory>
     ensures list { IfOk result (λ list. list ≡ sample count start) }
     ensures sound { IfOk result (λ list. IsSound list) }
     ensures low { IfOk result (λ list. AreIdsBelow (2 ^ 62) list) }
 {
     let mut list = EventList::new(alloc)?;
     let mut state = start;
-    for before in 0..count as u64 {
+    for before in 0..count.min(MAX_COMMITS) {
         state = stepped(state);
         let drawn = drawn(state);
         list.push(blob_of(alloc, before + 1, drawn)?)?;
