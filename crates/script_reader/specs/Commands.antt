@@ -1,13 +1,15 @@
 -- What a line orders: a command, or that a macro is run. (reposurgeon manual, of each command word its section; what is at fault: own)
-use Rattle.std.specs.Prelude.{Bool, List, [], ◌∷◌, length, nat_lt, Option, Some, None, Result, Ok, Err, bytes_eq, codes, if◌then◌else◌}
+use Rattle.std.specs.Prelude.{ℕ, Bool, List, [], ◌∷◌, length, nat_lt, Option, Some, None, Result, Ok, Err, bytes_eq, codes, if◌then◌else◌}
 use Rattle.plain_model.specs.Paths.{Bytes}
 use Rattle.plain_model.specs.declared.fault.Fault.{Fault}
 use Rattle.plain_model.specs.declared.fault.Fault.TheVariants as fault
 use Rattle.plain_model.specs.declared.fault.Which.TheVariants as limit
 use Rattle.plain_model.specs.declared.limit.TheConstants.{MAX_LINE_BYTES}
+use Rattle.sample_history.specs.declared.limit.TheConstants.{MAX_COMMITS}
 use Rattle.script_reader.specs.Answering.{◌>>=◌}
 use Rattle.script_reader.specs.Keywords.{keyword_of}
 use Rattle.script_reader.specs.Names.{repo_name, is_given_name, is_repo_name}
+use Rattle.script_reader.specs.Numbers.{said_between}
 use Rattle.script_reader.specs.Redirections.{begins_with_sign, redirected}
 use Rattle.script_reader.specs.Selecting.{Front, front_of, is_superfluous}
 use Rattle.script_reader.specs.Words.{head_of, after_head, words_of, text_of}
@@ -18,6 +20,7 @@ use Rattle.script_reader.specs.declared.command.Listing.{Listing}
 use Rattle.script_reader.specs.declared.command.Listing.TheVariants as listing
 use Rattle.script_reader.specs.declared.command.Order.{Order}
 use Rattle.script_reader.specs.declared.command.Order.TheVariants as order
+use Rattle.script_reader.specs.declared.number.TheConstants.{MAX_START}
 use Rattle.script_reader.specs.declared.keyword.Keyword.{Keyword}
 use Rattle.script_reader.specs.declared.keyword.Keyword.TheVariants as keyword
 use Rattle.script_reader.specs.declared.redirection.Direction.TheVariants.{Input, Output}
@@ -139,6 +142,17 @@ names_form words = output_in words >>= λ to. Ok (command.Names to)
 unfoldable pub summary_form : List Word → Result Command Fault
 summary_form words = output_in words >>= λ to. Ok (command.Summary to)
 
+-- `sample COUNT START`, after COUNT
+abbrev pub sample_start : ℕ → List Word → Result Command Fault
+sample_start count [] = Err (fault.BadWords (codes "sample"))
+sample_start count (word ∷ words) =
+    or_at_fault word (said_between 0 MAX_START (whole_in word)) >>= λ start. alone (command.Sample count start) words
+
+-- `sample COUNT START`
+unfoldable pub sample_form : List Word → Result Command Fault
+sample_form [] = Err (fault.BadWords (codes "sample"))
+sample_form (word ∷ words) = or_at_fault word (said_between 1 MAX_COMMITS (whole_in word)) >>= λ count. sample_start count words
+
 -- `[sel] do NAME [WORD ..]`
 unfoldable pub do_form : Option Bytes → List Word → Result Call Fault
 do_form selection [] = Err (fault.BadWords (codes "do"))
@@ -164,6 +178,7 @@ form_of selection keyword.Manifest words = steps (show_form selection listing.Ma
 form_of selection keyword.Assign words = steps (assign_form selection words)
 form_of selection keyword.Names words = steps (names_form words)
 form_of selection keyword.Summary words = steps (summary_form words)
+form_of selection keyword.Sample words = steps (sample_form words)
 form_of selection keyword.Do words = do_form selection words >>= λ call. Ok (order.Do call)
 form_of selection keyword.Define words = Err (fault.BadWords (codes "define"))
 

@@ -20,5 +20,6 @@ keyword_of word =
     if bytes_eq word (codes "assign") then Some keyword.Assign else
     if bytes_eq word (codes "names") then Some keyword.Names else
     if bytes_eq word (codes "summary") then Some keyword.Summary else
+    if bytes_eq word (codes "sample") then Some keyword.Sample else
     if bytes_eq word (codes "do") then Some keyword.Do else
     if bytes_eq word (codes "define") then Some keyword.Define else None

@@ -60,6 +60,11 @@ pub enum Command {
     Summary {
         to: Option<ScriptText>,
     },
+    /// Loads a history of so many commits that the number `start` determines.
+    Sample {
+        count: u64,
+        start: u64,
+    },
 }
 
 /// What is printed of events.

@@ -18,6 +18,8 @@ ghost use Rattle.script_reader.specs.Commands.{
   read_form,
   read_of,
   renumber_form,
+  sample_form,
+  sample_start,
   show_form,
   steps,
   summary_form,
@@ -26,12 +28,14 @@ ghost use Rattle.script_reader.specs.Commands.{
   whole_in,
   write_form,
 };
+ghost use Rattle.script_reader.specs.Numbers.{said_between};
 ghost use Rattle.script_reader.specs.Redirections.{redirected};
 ghost use Rattle.script_reader.specs.Words.{text_of};
 
 use crate::command::{Call, Command, Listing, Order};
 use crate::definition::is_given_name;
 use crate::keyword::Keyword;
+use crate::number::{MAX_START, number_between};
 use crate::redirection::{Direction, begins_with_sign, redirected};
 use crate::repo_name::{is_repo_name, repo_name};
 use crate::script::LineList;
@@ -39,6 +43,7 @@ use crate::script_text::ScriptText;
 use crate::selecting::WrittenSelection;
 use crate::word::Word;
 use plain_model::{Fault, Halt, Items, NoMemory, Text};
+use sample_history::MAX_COMMITS;
 use std::alloc::Global;
 
 /// The refusal of a line with this word, which is the first at fault.
@@ -251,6 +256,52 @@ fn summary(alloc: Global, words: &[Word]) -> Result<Command, Halt>
     Ok(Command::Summary { to })
 }
 
+// The number that a word says, in a range.
+fn number_in(alloc: Global, word: &Word, least: u64, most: u64) -> Result<u64, Halt>
+    ensures { Returns (λ number. number) result
+        (or_at_fault word.now (said_between least most (whole_in word.now))) }
+{
+    let number = match word {
+        Word::Plain(text) | Word::Quoted(text) => number_between(least, most, text.as_bytes()),
+        Word::Broken(_) => None,
+    };
+    match number {
+        Some(number) => Ok(number),
+        None => Err(at_fault(alloc, word)),
+    }
+}
+
+// `sample COUNT START`, after COUNT
+fn sample_start(alloc: Global, count: u64, words: &[Word]) -> Result<Command, Halt>
+    ensures { Returns (λ command. command) result (sample_start count words.now) }
+{
+    match words {
+        [] => Err(bad_words(alloc, b"sample")),
+        [word] => Ok(Command::Sample {
+            count,
+            start: number_in(alloc, word, 0, MAX_START)?,
+        }),
+        [word, next, ..] => {
+            let _ = number_in(alloc, word, 0, MAX_START)?;
+            Err(at_fault(alloc, next))
+        }
+    }
+}
+
+// `sample COUNT START`
+#[tactic(auto, unfolding(crate::specs::Commands::sample_form))]
+fn sample(alloc: Global, words: &[Word]) -> Result<Command, Halt>
+    ensures { Returns (λ command. command) result (sample_form words.now) }
+{
+    match words {
+        [] => Err(bad_words(alloc, b"sample")),
+        [word, others @ ..] => {
+            let count = number_in(alloc, word, 1, MAX_COMMITS)?;
+            sample_start(alloc, count, others)
+        }
+    }
+}
+
 // A word as a text, before such others. Only the last word can be a redirection.
 fn text_before(alloc: Global, others: &[Word], word: &Word) -> Result<ScriptText, Halt>
     ensures { Returns (λ text. text) result
@@ -325,6 +376,7 @@ pub fn form(
         Keyword::Assign => steps(assign(alloc, selection, words)),
         Keyword::Names => steps(names(alloc, words)),
         Keyword::Summary => steps(summary(alloc, words)),
+        Keyword::Sample => steps(sample(alloc, words)),
         Keyword::Do => Ok(Order::Do(call(alloc, selection, words)?)),
         Keyword::Define => Err(bad_words(alloc, b"define")),
     }

@@ -19,6 +19,7 @@ pub enum Keyword {
     Assign,
     Names,
     Summary,
+    Sample,
     Do,
     Define,
 }
@@ -55,6 +56,8 @@ impl Keyword {
             Some(Keyword::Names)
         } else if word == b"summary".as_slice() {
             Some(Keyword::Summary)
+        } else if word == b"sample".as_slice() {
+            Some(Keyword::Sample)
         } else if word == b"do".as_slice() {
             Some(Keyword::Do)
         } else if word == b"define".as_slice() {
