@@ -27,6 +27,7 @@ use Rattle.selection_eval.specs.Given.{AreNamesOnce, GivesOnce, HaveOwnIds}
 use Rattle.selection_eval.specs.Names.{Names, assigned}
 use Rattle.selection_parser.specs.Plain.{PlainSelection}
 use Rattle.selection_parser.specs.Reading.{selection_at}
+use Rattle.sample_history.specs.Sample.{sample}
 use Rattle.script_reader.specs.Commands.{order_of}
 use Rattle.script_reader.specs.Macros.{called}
 use Rattle.script_reader.specs.declared.command.Command.{Command}
@@ -39,7 +40,7 @@ use Rattle.history_machine.specs.Lawful.{IsLawful, IsLawfulHistory, IsLawfulRepo
 use Rattle.script_reader.specs.Answering.{◌>>=◌}
 use Rattle.history_machine.specs.Loading.{loaded, over, read_of}
 use Rattle.history_machine.specs.Machine.{Turn}
-use Rattle.history_machine.specs.Sessions.{Repo, Scope, Session, after_assign, after_choose, after_drop, after_drop_chosen, after_read, after_renumber, all_events, calling, carried, changes, chosen, find_repo, in_scope, line_step, no_events, ordered, read_repo, ready, reports, room, scope_of, selected, stands_for, step, there, unassigned, unless, unused, with_repo, without_repo}
+use Rattle.history_machine.specs.Sessions.{Repo, Scope, Session, after_assign, after_choose, after_drop, after_drop_chosen, after_read, after_renumber, after_sample, all_events, calling, carried, changes, chosen, find_repo, in_scope, line_step, no_events, ordered, read_repo, ready, reports, room, sample_name, scope_of, selected, stands_for, step, there, unassigned, unless, unused, with_repo, without_repo}
 use Rattle.history_machine.proofs.Steps.{found}
 
 abbrev AreLawful : List Repo → Type 0
@@ -164,6 +165,10 @@ module _
     (own_ids : (events : List PlainEvent) → IsSound events → HaveOwnIds events)
     (once : (events : List PlainEvent) → HaveOwnIds events → (names : Names) → AreNamesOnce names
     → (selection : PlainSelection) → GivesOnce (denote selection events names).value)
+    (sampled : (count start : ℕ) → IsSound (sample count start))
+    (few_sampled_events : (count start : ℕ) → length (sample count start) ≤ MAX_EVENTS)
+    (few_sampled_ops : (count start : ℕ) → ops_in (sample count start) ≤ MAX_OPERATIONS)
+    (few_sampled_aliases : (count start : ℕ) → alias_count (sample count start) ≤ MAX_ALIASES)
   where
     read_lawful : (name : Bytes) (file : Option Bytes) (events : List PlainEvent) → read_of name file ≡ Ok events → IsLawfulHistory events
     read_lawful name None events h = absurd cc
@@ -228,6 +233,22 @@ module _
         more repos (read_repo free history) (subst AreLawful (room_same s.repos repos is) h)
         (record { history = loaded_lawful files file history is_read; names = tt; spent = omega arith }))))
 
+    sample_lawful : (count start : ℕ) → IsLawfulHistory (sample count start)
+    sample_lawful count start = record {
+      sound = sampled count start;
+      few_events = few_sampled_events count start;
+      few_operations = few_sampled_ops count start;
+      few_aliases = few_sampled_aliases count start;
+    }
+
+    sample_well : (s : Session) (count start : ℕ) → IsLawful s → ChangesWell (after_sample s count start)
+    unfolding after_sample
+    sample_well s count start h =
+        well_after (room s.repos) (λ repos. unused sample_name (find_repo sample_name repos) >>= λ free. Ok (with_read s repos free (sample count start))) (λ repos is.
+        well_after (unused sample_name (find_repo sample_name repos)) (λ free. Ok (with_read s repos free (sample count start))) (λ free is_free.
+        more repos (read_repo free (sample count start)) (subst AreLawful (room_same s.repos repos is) h)
+        (record { history = sample_lawful count start; names = tt; spent = omega arith })))
+
     choose_well : (s : Session) (name : Bytes) → IsLawful s → ChangesWell (after_choose s name)
     unfolding after_choose
     choose_well s name h = well_after (there name (find_repo name s.repos)) (λ repo. Ok (record s { choice = Some name })) (λ repo is. h)
@@ -283,6 +304,7 @@ module _
     carried_well s files ids command.Renumber h k = changes_well (after_renumber s) (renumber_well s h)
     carried_well s files ids (command.Show selection what to) h k = reports_well s to _ h
     carried_well s files ids (command.Assign selection name) h k = changes_well (after_assign s ids name) (assign_well s ids name h k)
+    carried_well s files ids (command.Sample count start) h k = changes_well (after_sample s count start) (sample_well s count start h)
     carried_well s files ids (command.Names to) h k = reports_well s to _ h
     carried_well s files ids (command.Summary to) h k = reports_well s to _ h
 

@@ -16,6 +16,7 @@ use Rattle.listing.specs.Stamps.{stamp_text}
 use Rattle.listing.specs.Summaries.{resolve_text, summary_text}
 use Rattle.listing.specs.TreeListings.{manifest_text}
 use Rattle.renumbering.specs.Renumbered.{renumbered}
+use Rattle.sample_history.specs.Sample.{sample}
 use Rattle.script_reader.specs.Answering.{◌>>=◌}
 use Rattle.script_reader.specs.Commands.{order_of}
 use Rattle.script_reader.specs.Macros.{Macro, called, with_macro}
@@ -70,7 +71,7 @@ abbrev pub with_repo : Repo → List Repo → List Repo
 with_repo new [] = []
 with_repo new (r ∷ repos) = if bytes_eq new.name r.name then new ∷ repos else r ∷ with_repo new repos
 
--- a history that has just been read: no list has a name
+-- a history that has just been read or made: no list has a name
 abbrev pub read_repo : Bytes → List PlainEvent → Repo
 read_repo name history = record { name = name; history = history; next = next_number history; names = [] }
 
@@ -147,6 +148,16 @@ unfoldable pub after_read : Session → Files → Bytes → Bytes → Result Ses
 after_read s files file name =
     room s.repos >>= λ repos. unused name (find_repo name repos) >>= λ free. loaded files file >>= λ history.
     Ok (record s { repos = repos ++ read_repo free history ∷ []; choice = Some free })
+
+-- the name of the repository that `sample` loads
+abbrev pub sample_name : Bytes
+sample_name = codes "sample"
+
+-- `sample COUNT START`: a history of so many commits, which the number determines, is loaded last, and chosen
+unfoldable pub after_sample : Session → ℕ → ℕ → Result Session Fault
+after_sample s count start =
+    room s.repos >>= λ repos. unused sample_name (find_repo sample_name repos) >>= λ free.
+    Ok (record s { repos = repos ++ read_repo free (sample count start) ∷ []; choice = Some free })
 
 -- `choose NAME`
 unfoldable pub after_choose : Session → Bytes → Result Session Fault
@@ -227,6 +238,7 @@ carried s files ids command.DropChosen = changes (after_drop_chosen s)
 carried s files ids command.Renumber = changes (after_renumber s)
 carried s files ids (command.Show selection what to) = reports s to (of_chosen s (shown what ids))
 carried s files ids (command.Assign selection name) = changes (after_assign s ids name)
+carried s files ids (command.Sample count start) = changes (after_sample s count start)
 carried s files ids (command.Names to) = reports s to (of_chosen s (λ repo. names_text repo.history))
 carried s files ids (command.Summary to) = reports s to (of_chosen s (λ repo. summary_text repo.name repo.history))
 

@@ -17,6 +17,7 @@ ghost use Rattle.history_machine.specs.Sessions.{Repo, Session, chosen, line_ste
 use renumbering::{
     ids_stay, nothing_else_changes, renumbering_keeps_soundness, renumbering_keeps_trees,
 };
+use sample_history::samples_are_lawful;
 use selection_eval::{selections_are_without_repeats, sound_histories_are_such};
 use soundness_laws::{what_is_read_is_sound, what_is_read_passes_no_limit};
 
@@ -68,6 +69,7 @@ pub fn a_step_keeps_it()
     nothing_else_changes();
     selections_are_without_repeats();
     sound_histories_are_such();
+    samples_are_lawful();
 }
 
 /// The chosen history of such a session is sound and within the limits.
