@@ -1,4 +1,4 @@
-//! What a session holds, and one command. The parts: `loading` reads histories, `choosing` chooses and forgets them,
+//! What a session holds, and one command. The parts: `loading` reads and makes histories, `choosing` chooses and forgets them,
 //! `changing` edits them, `showing` makes the texts that are written and listed.
 ghost use Rattle.std.specs.Prelude.{◌≡◌, ◌≤◌, IfOk, OnErr, OnOk};
 ghost use Rattle.byte_patterns.specs.Judging.{Judges};
@@ -173,6 +173,7 @@ impl Session {
             Command::Renumber => Ok(self.renumber()?),
             Command::Show { what, to, .. } => self.show(*what, ids, store, out, to),
             Command::Assign { name, .. } => Ok(self.assign(ids, name.as_slice())?),
+            Command::Sample { count, start } => Ok(self.sample(*count, *start)?),
             Command::Names { to } => self.names(store, out, to),
             Command::Summary { to } => self.summary(store, out, to),
         }

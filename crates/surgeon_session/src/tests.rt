@@ -61,7 +61,7 @@ fn each_command_prints_and_writes_its_text(rt: HostRuntime) -> Result<(), Fail> 
     let alloc = rt.alloc();
     let index: &[u8] =
         b"     1 blob :7\n     2 commit :9 refs/heads/main\n     3 reset :9 refs/tags/v\n";
-    let rows: [(&str, &[u8], &[u8], &[u8]); 13] = [
+    let rows: [(&str, &[u8], &[u8], &[u8]); 14] = [
         (
             "list",
             b"read <1.fi\nlist",
@@ -107,6 +107,12 @@ fn each_command_prints_and_writes_its_text(rt: HostRuntime) -> Result<(), Fail> 
             RENUMBERED,
         ),
         ("write", b"read <1.fi\nrenumber\nwrite", RENUMBERED, b""),
+        (
+            "sample",
+            b"sample 1 0\nwrite\nchoose",
+            b"blob\nmark :1\ndata 10\n167951807\n\ncommit refs/heads/master\nmark :2\nauthor S <s@example.com> 60 +0000\ncommitter S <s@example.com> 60 +0000\ndata 9\ncommit 1\n\nM 100644 :1 d8/f1\n\n* sample\n",
+            b"",
+        ),
         (
             "choose",
             b"read <1.fi\nread <2.fi\nchoose\nchoose 1\nchoose",
