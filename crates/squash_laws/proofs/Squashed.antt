@@ -1,0 +1,81 @@
+-- What a squash leaves is sound, and after a push forward each commit that stays has the tree that it had.
+use Rattle.std.proofs.Common.{◌≡◌, ℕ, Bool, true, false, not, List, [], ◌∷◌, refl, sym, subst, ◌∙◌, Ok, IsTrue}
+use Rattle.std.specs.Prelude.{◌&&◌, IsSome}
+use Rattle.std.specs.List.{AllByRecursion}
+use Rattle.plain_model.specs.declared.id.AnyId.{AnyId}
+use Rattle.plain_model.specs.declared.id.AnyId.TheVariants as any
+use Rattle.plain_model.specs.declared.event.PlainEvent.{PlainEvent}
+use Rattle.plain_model.specs.declared.event.PlainEvent.TheVariants.{Blob, Commit, Tag, Reset, Pass}
+use Rattle.plain_model.specs.Histories.{Node, nodes, tree}
+use Rattle.plain_model.specs.Soundness.{IsCommitOf, IsFormedEvent, IsSound, has_id}
+use Rattle.edit_laws.specs.Equations.{Fits}
+use Rattle.edit_laws.specs.Parts.{CanBeSettled, HasFewParents, IsLawful}
+use Rattle.edit_laws.specs.Settling.{is_ready}
+use Rattle.edit_laws.proofs.Lists.{OfNodes, events_of_nodes}
+use Rattle.edit_laws.proofs.Settles.{settled_ids, settled_sound, settled_trees, settling_ends, sound_settles}
+use Rattle.edit_laws.proofs.Swept.{swept_commit, swept_nodes}
+use Rattle.squash_laws.specs.Removed.{is_removed, all_left, without_set}
+use Rattle.squash_laws.specs.Squash.{comment_after, squashed, takes}
+use Rattle.squash_laws.specs.declared.policy.Lean.{Lean}
+use Rattle.squash_laws.specs.declared.policy.Push.TheVariants as push
+use Rattle.squash_laws.specs.declared.policy.Policy.{Policy}
+use Rattle.squash_laws.proofs.Forward.{left_fits}
+use Rattle.squash_laws.proofs.Left.{IsFine, commits_left, fine, ready_ops, without_settles}
+use Rattle.squash_laws.proofs.Takes.{taken_ops, target_stays}
+
+-- the operations of a sound history are lawful, and their blobs are there
+pub fine_nodes : (events : List PlainEvent) → IsSound events → AllByRecursion (λ (n : Node). AllByRecursion (IsFine events) n.ops) (nodes events)
+fine_nodes events h = let s = sound_settles events h in events_of_nodes (λ (n : Node). AllByRecursion (IsFine events) n.ops) events (each events s.lawful s.spelled s.complete)
+  where
+    each : (es : List PlainEvent) → AllByRecursion IsLawful es → AllByRecursion IsFormedEvent es →
+        AllByRecursion (λ e. IsTrue (is_ready events e)) es →
+        AllByRecursion (OfNodes (λ (n : Node). AllByRecursion (IsFine events) n.ops)) es
+    each [] l f r = tt
+    each (Commit id mark branch author committer encoding comment parents ops aliases ∷ es) l f r =
+        ((fine events ops l.0.5 f.0.1 (ready_ops events parents ops r.0), tt), each es l.1 f.1 r.1)
+    each (Blob id mark bytes ∷ es) l f r = (tt, each es l.1 f.1 r.1)
+    each (Tag id name target tagger comment mark ∷ es) l f r = (tt, each es l.1 f.1 r.1)
+    each (Reset id branch target ∷ es) l f r = (tt, each es l.1 f.1 r.1)
+    each (Pass id line ∷ es) l f r = (tt, each es l.1 f.1 r.1)
+
+module _ (set : List AnyId) (events : List PlainEvent) (h : IsSound events) where
+  pub squash_settles : (how : Policy) → CanBeSettled (without_set set events (takes set events how))
+  squash_settles how =
+      without_settles set events (takes set events how) h
+      (λ c parents ops own. taken_ops set events (IsFine events) (tt, tt, tt) (fine_nodes events h) how.push c parents ops own)
+      (λ c t k is. target_stays set events how.push how.tags c t k is)
+
+  -- a squash comes to its end
+  pub squash_ends : (how : Policy) → (new : List PlainEvent) × (squashed set events how ≡ Ok new)
+  squash_ends how = settling_ends (without_set set events (takes set events how)) (squash_settles how)
+
+  -- its commits are those that aren't removed
+  pub squash_commits : (how : Policy) (new : List PlainEvent) → squashed set events how ≡ Ok new → (c : ℕ) → has_id new (any.Commit c) ≡ has_id events (any.Commit c) && not (is_removed set c)
+  squash_commits how new is c =
+      settled_ids (without_set set events (takes set events how)) new is (any.Commit c)
+      ∙ swept_commit events (all_left set events (takes set events how)) c
+      ∙ commits_left set events (takes set events how) c
+
+  pub squash_sound : (how : Policy) (new : List PlainEvent) → squashed set events how ≡ Ok new → AllByRecursion HasFewParents new → ((c : ℕ) → IsCommitOf new c → IsSome (tree new c)) → IsSound new
+  squash_sound how new is few trees = settled_sound (without_set set events (takes set events how)) new (squash_settles how) is few trees
+
+  -- ---- push forward
+
+  pub forward_keeps : (tags : Lean) (new : List PlainEvent) → squashed set events (record { push = push.Forward; tags = tags }) ≡ Ok new → (c : ℕ) → IsCommitOf new c → tree new c ≡ tree events c
+  forward_keeps tags new is c there =
+      let taking = takes set events (record { push = push.Forward; tags = tags }) in
+      settled_trees (tree events) (without_set set events taking) new
+      (subst (AllByRecursion (Fits (tree events))) (sym (swept_nodes events (all_left set events taking))) (left_fits set events tags (comment_after set events push.Forward) h))
+      is c there
+
+  pub was_there : (how : Policy) (new : List PlainEvent) → squashed set events how ≡ Ok new → (c : ℕ) → IsCommitOf new c → IsCommitOf events c
+  was_there how new is c there = first (has_id events (any.Commit c)) (not (is_removed set c)) (sym (squash_commits how new is c) ∙ there)
+    where
+      first : (a b : Bool) → a && b ≡ true → a ≡ true
+      first true b h = refl
+      first false b h = h
+
+  pub forward_sound : (tags : Lean) (new : List PlainEvent) → squashed set events (record { push = push.Forward; tags = tags }) ≡ Ok new → AllByRecursion HasFewParents new → IsSound new
+  forward_sound tags new is few =
+      squash_sound (record { push = push.Forward; tags = tags }) new is few
+      (λ c there. subst IsSome (sym (forward_keeps tags new is c there)) (h.trees c (was_there (record { push = push.Forward; tags = tags }) new is c there)))

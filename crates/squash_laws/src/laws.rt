@@ -1,0 +1,112 @@
+//! Laws of a squash, first of what is left, then of trees. Each function's contract is one, and its body is empty, or
+//! calls the law that the tree check finds what has no tree.
+ghost use Rattle.std.specs.Prelude.{◌≡◌, ◌≤◌, ◌&&◌, ℕ, List, Ok, IsOk, IsTrue, length, not};
+ghost use Rattle.std.specs.List.{AllByRecursion};
+ghost use Rattle.plain_model.specs.declared.event.PlainEvent.{PlainEvent};
+ghost use Rattle.plain_model.specs.declared.id.AnyId.{AnyId};
+ghost use Rattle.plain_model.specs.declared.id.AnyId.TheVariants as any;
+ghost use Rattle.plain_model.specs.Histories.{nodes, tree};
+ghost use Rattle.plain_model.specs.Lookups.{AreIdsBelow, alias_count};
+ghost use Rattle.plain_model.specs.Snapshots.{shown_tree};
+ghost use Rattle.plain_model.specs.Soundness.{IsCommitOf, IsSound, has_id};
+ghost use Rattle.plain_model.specs.Streams.{is_marked};
+ghost use Rattle.edit_laws.specs.Equations.{Fits};
+ghost use Rattle.edit_laws.specs.Passing.{IsWithinLimits};
+ghost use Rattle.squash_laws.specs.declared.policy.Lean.{Lean};
+ghost use Rattle.squash_laws.specs.declared.policy.Policy.{Policy};
+ghost use Rattle.squash_laws.specs.declared.policy.Push.TheVariants as push;
+ghost use Rattle.squash_laws.specs.Faults.{squash_of};
+ghost use Rattle.squash_laws.specs.Remaining.{HasOperationsOf, IsOneOf};
+ghost use Rattle.squash_laws.specs.Removed.{is_removed};
+ghost use Rattle.squash_laws.specs.Squash.{last_hanging, squashed};
+
+use manifest_cache::the_check_finds_what_has_no_tree;
+
+/// Settling what a squash leaves comes to its end, so no parents run in a circle.
+pub fn a_squash_comes_to_its_end()
+    ensures { (how : Policy) (set : List AnyId) (events : List PlainEvent) → IsSound events →
+        IsOk (squashed set events how) }
+{}
+
+/// After a squash the commits that aren't of the set are there, and no others.
+pub fn a_squash_removes_its_commits()
+    ensures { (how : Policy) (set : List AnyId) (events new : List PlainEvent) → IsSound events →
+        squash_of how set events ≡ Ok new → (c : ℕ) →
+        has_id new (any.Commit c) ≡ has_id events (any.Commit c) && not (is_removed set c) }
+{}
+
+/// A sound history stays sound.
+pub fn a_squash_keeps_soundness()
+    ensures { (how : Policy) (set : List AnyId) (events new : List PlainEvent) → IsSound events →
+        squash_of how set events ≡ Ok new → IsSound new }
+{
+    the_check_finds_what_has_no_tree();
+}
+
+/// No event, id or mark is added, nor an alias, and ids stay below whatever bound they were.
+pub fn nothing_is_added()
+    ensures events { (how : Policy) (set : List AnyId) (events new : List PlainEvent) →
+        IsSound events → squash_of how set events ≡ Ok new → length new ≤ length events }
+    ensures ids { (how : Policy) (set : List AnyId) (events new : List PlainEvent) →
+        IsSound events → squash_of how set events ≡ Ok new → (id : AnyId) →
+        IsTrue (has_id new id) → IsTrue (has_id events id) }
+    ensures marks { (how : Policy) (set : List AnyId) (events new : List PlainEvent) →
+        IsSound events → squash_of how set events ≡ Ok new → (mark : ℕ) →
+        IsTrue (is_marked new mark) → IsTrue (is_marked events mark) }
+    ensures aliases { (how : Policy) (set : List AnyId) (events new : List PlainEvent) →
+        IsSound events → squash_of how set events ≡ Ok new → alias_count new ≤ alias_count events }
+    ensures below { (how : Policy) (set : List AnyId) (events new : List PlainEvent) (next : ℕ) →
+        IsSound events → squash_of how set events ≡ Ok new →
+        AreIdsBelow next events → AreIdsBelow next new }
+{}
+
+/// Each event that stays is as it was, but for the comment, the parents and the operations of a commit and the target of
+/// a tag or a reset: marks and aliases, branches and names, people, encodings and blobs are the same.
+pub fn what_stays_is_as_it_was()
+    ensures { (how : Policy) (set : List AnyId) (events new : List PlainEvent) → IsSound events →
+        squash_of how set events ≡ Ok new → AllByRecursion (IsOneOf events) new }
+{}
+
+/// What isn't refused is within the limits.
+pub fn a_squash_keeps_the_limits()
+    ensures { (how : Policy) (set : List AnyId) (events new : List PlainEvent) → IsSound events →
+        squash_of how set events ≡ Ok new → IsWithinLimits new }
+{}
+
+/// After a push forward each commit that is there has the tree that it had, with the same bytes in it.
+pub fn a_push_forward_keeps_trees()
+    ensures trees { (set : List AnyId) (events : List PlainEvent) (tags : Lean)
+        (new : List PlainEvent) → IsSound events →
+        squash_of (record { push = push.Forward; tags = tags }) set events ≡ Ok new → (c : ℕ) →
+        IsCommitOf new c → tree new c ≡ tree events c }
+    ensures shown { (set : List AnyId) (events : List PlainEvent) (tags : Lean)
+        (new : List PlainEvent) → IsSound events →
+        squash_of (record { push = push.Forward; tags = tags }) set events ≡ Ok new → (c : ℕ) →
+        IsCommitOf new c → shown_tree new c ≡ shown_tree events c }
+{}
+
+/// After a push back a commit has the tree of the last removed commit that hung on it, and where none did, its own.
+pub fn a_push_back_gives_the_last_tree()
+    ensures trees { (set : List AnyId) (events : List PlainEvent) (tags : Lean)
+        (new : List PlainEvent) → IsSound events →
+        squash_of (record { push = push.Back; tags = tags }) set events ≡ Ok new → (c : ℕ) →
+        IsCommitOf new c → tree new c ≡ tree events (last_hanging set events c) }
+    ensures shown { (set : List AnyId) (events : List PlainEvent) (tags : Lean)
+        (new : List PlainEvent) → IsSound events →
+        squash_of (record { push = push.Back; tags = tags }) set events ≡ Ok new → (c : ℕ) →
+        IsCommitOf new c → shown_tree new c ≡ shown_tree events (last_hanging set events c) }
+{}
+
+/// After a deletion each commit has the operations that it had, and its tree is what they make of its first parent's.
+pub fn a_deletion_replays_what_remains()
+    ensures ops { (set : List AnyId) (events : List PlainEvent) (tags : Lean)
+        (new : List PlainEvent) → IsSound events →
+        squash_of (record { push = push.Discard; tags = tags }) set events ≡ Ok new →
+        AllByRecursion (HasOperationsOf events) (nodes new) }
+    ensures trees { (set : List AnyId) (events : List PlainEvent) (tags : Lean)
+        (new : List PlainEvent) → IsSound events →
+        squash_of (record { push = push.Discard; tags = tags }) set events ≡ Ok new →
+        AllByRecursion (Fits (tree new)) (nodes new) }
+{
+    the_check_finds_what_has_no_tree();
+}
