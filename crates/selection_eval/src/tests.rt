@@ -1,6 +1,8 @@
-ghost use Rattle.std.specs.Prelude.{◌≡◌, ◌∷◌, [], IfOk, OnOk};
+ghost use Rattle.std.specs.Prelude.{◌≡◌, ◌∷◌, [], IfOk, IsTrue, OnOk};
 ghost use Rattle.plain_model.specs.declared.event.PlainEvent.TheVariants as a;
 ghost use Rattle.selection_eval.specs.Examples.{commit, exported, put_file, put_link, signed};
+ghost use Rattle.selection_parser.specs.Texts.{has_utf8_texts};
+ghost use Rattle.selection_parser.specs.Views.{plain_of};
 
 use crate::*;
 use byte_patterns::RegexPatterns;
@@ -10,7 +12,7 @@ use plain_model::{
     AnyId, BlobId, CommitId, Content, EventList, FileOp, Halt, Items, Mark, Mode, ObjectId, Path,
     Person, PlainEvent, ResetId, Signed, TagId, Text, When,
 };
-use selection_parser::parse;
+use selection_parser::{Selection, parse};
 use std::alloc::Global;
 use std::test::*;
 
@@ -193,26 +195,51 @@ fn push_numbers(events: &Events, ids: &[AnyId], out: &mut Text) -> Result<(), Fa
     Ok(())
 }
 
+fn push_halt(alloc: Global, halt: Halt, out: &mut Text) -> Result<(), Fail> {
+    match halt {
+        Halt::Refused(fault) => {
+            let said = fault.text(alloc)?;
+            out.push_all(said.as_slice())?;
+        }
+        Halt::Memory => out.push_all(b"memory")?,
+    }
+    Ok(())
+}
+
+// Puts the numbers of the events of a selection, or its refusal as it is printed.
+fn push_resolved(
+    alloc: Global,
+    events: &Events,
+    names: &Names,
+    selection: &Selection,
+    out: &mut Text,
+) -> Result<(), Fail>
+    requires { IsTrue (has_utf8_texts (plain_of selection.now)) }
+{
+    let mut manifests = Manifests::new(alloc)?;
+    let mut patterns = RegexPatterns::new(alloc, 0);
+    let answer = eval(
+        alloc,
+        selection,
+        events,
+        &mut manifests,
+        names,
+        &mut patterns,
+    );
+    match answer {
+        Ok(ids) => push_numbers(events, ids.as_slice(), out),
+        Err(halt) => push_halt(alloc, halt, out),
+    }
+}
+
 // The numbers of the events of a selection, each after a blank, or its refusal as it is printed.
 fn resolved(alloc: Global, events: &Events, names: &Names, line: &str) -> Result<Text, Fail> {
     let mut out = text(alloc, b"")?;
-    let mut manifests = Manifests::new(alloc)?;
-    let mut patterns = RegexPatterns::new(alloc, 0);
-    match parse(alloc, line) {
-        Ok((selection, _)) => match eval(
-            alloc,
-            &selection,
-            events,
-            &mut manifests,
-            names,
-            &mut patterns,
-        ) {
-            Ok(ids) => push_numbers(events, ids.as_slice(), &mut out)?,
-            Err(Halt::Refused(fault)) => out.push_all(fault.text(alloc)?.as_slice())?,
-            Err(Halt::Memory) => out.push_all(b"memory")?,
-        },
-        Err(_) => out.push_all(b"no selection")?,
-    }
+    let (selection, _) = match parse(alloc, line) {
+        Ok(read) => read,
+        Err(_) => return text(alloc, b"no selection"),
+    };
+    push_resolved(alloc, events, names, &selection, &mut out)?;
     Ok(out)
 }
 
