@@ -1,7 +1,7 @@
 use crate::{Halted, Session};
 use byte_patterns::RegexPatterns;
 use plain_model::{Fault, Items, Status, Text};
-use script_reader::{Order, Script};
+use script_reader::{Command, Order, Script};
 use std::alloc::Global;
 use std::test::Fail;
 use surgeon_store::{FileEntry, FileList, Store, SureSink, SureStore};
@@ -162,22 +162,33 @@ fn a_refusal_ends_the_run(rt: HostRuntime) -> Result<(), Fail> {
     Ok(())
 }
 
-// What a command of a line answers, in a word.
-fn answer(alloc: Global, session: &mut Session, line: &str) -> Result<&'static str, Fail> {
+// An answer, in a word.
+fn in_a_word(answer: Result<(), Halted>) -> &'static str {
+    match answer {
+        Ok(()) => "done",
+        Err(Halted::Refused(Fault::NoRepo)) => "nothing chosen",
+        Err(Halted::Refused(Fault::NoSuchRepo { .. })) => "not loaded",
+        Err(Halted::Refused(Fault::NameAssigned { .. })) => "assigned",
+        Err(Halted::Refused(_)) => "another refusal",
+        Err(_) => "broken off",
+    }
+}
+
+// The command of a line.
+fn command_of(alloc: Global, line: &str) -> Result<Command, Fail> {
+    match Order::read(alloc, line) {
+        Ok(Order::Step(command)) => Ok(command),
+        _ => Err(Fail::from("no command")),
+    }
+}
+
+// What a command answers, in a word.
+fn answer(alloc: Global, session: &mut Session, command: &Command) -> Result<&'static str, Fail> {
     let mut store = SureStore::new(alloc, files(alloc)?)?;
     let mut out = SureSink::new(alloc)?;
-    let Ok(Order::Step(command)) = Order::read(alloc, line) else {
-        return Ok("no command");
-    };
     let mut patterns = RegexPatterns::new(alloc, 0);
-    match session.step(&command, &mut store, &mut out, &mut patterns) {
-        Ok(()) => Ok("done"),
-        Err(Halted::Refused(Fault::NoRepo)) => Ok("nothing chosen"),
-        Err(Halted::Refused(Fault::NoSuchRepo { .. })) => Ok("not loaded"),
-        Err(Halted::Refused(Fault::NameAssigned { .. })) => Ok("assigned"),
-        Err(Halted::Refused(_)) => Ok("another refusal"),
-        Err(_) => Ok("broken off"),
-    }
+    let answer = session.step(command, &mut store, &mut out, &mut patterns);
+    Ok(in_a_word(answer))
 }
 
 #[test]
@@ -197,7 +208,9 @@ fn a_session_goes_on_from_command_to_command(rt: HostRuntime) -> Result<(), Fail
         ("names", "nothing chosen"),
     ];
     for (line, want) in rows {
-        assert_eq!(rt; answer(alloc, &mut session, line)?, want, "{line}");
+        let command = command_of(alloc, line)?;
+        let said = answer(alloc, &mut session, &command)?;
+        assert_eq!(rt; said, want, "{line}");
     }
     Ok(())
 }
