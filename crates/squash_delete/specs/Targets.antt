@@ -1,0 +1,30 @@
+-- To which commits the tags and resets of a history go.
+use Rattle.std.specs.Prelude.{ℕ, ◌≡◌, List, length, Option, Some, None, slice_get, slice_index_or, if◌then◌else◌}
+use Rattle.plain_model.specs.declared.id.AnyId.{AnyId}
+use Rattle.plain_model.specs.declared.event.PlainEvent.{PlainEvent}
+use Rattle.plain_model.specs.declared.event.PlainEvent.TheVariants.{Blob, Commit, Tag, Reset, Pass}
+use Rattle.squash_laws.specs.Removed.{is_removed}
+use Rattle.squash_laws.specs.Squash.{moved}
+use Rattle.squash_laws.specs.declared.policy.Lean.{Lean}
+
+-- where a tag or a reset goes, from where a commit's go
+abbrev pub target_for : (ℕ → Option ℕ) → PlainEvent → Option ℕ
+target_for goes_to (Tag id name target tagger comment mark) = goes_to target
+target_for goes_to (Reset id branch (Some target)) = goes_to target
+target_for goes_to (Reset id branch None) = None
+target_for goes_to (Blob id mark bytes) = None
+target_for goes_to (Commit id mark branch author committer encoding comment parents ops aliases) = None
+target_for goes_to (Pass id line) = None
+
+-- a table has them, place by place
+pub record AreTargets (goes_to : ℕ → Option ℕ) (events : List PlainEvent) (table : List (Option ℕ)) : Type 0 where
+  pub count : length table ≡ length events
+  pub target : (k : ℕ) (e : PlainEvent) → slice_get events k ≡ Some e → slice_index_or table k None ≡ target_for goes_to e
+
+-- those of removed commits go nowhere
+abbrev pub discarded : List AnyId → ℕ → Option ℕ
+discarded set c = if is_removed set c then None else Some c
+
+-- those of removed commits go on
+abbrev pub moved_to : List AnyId → List PlainEvent → Lean → ℕ → Option ℕ
+moved_to set events tags c = if is_removed set c then moved set events tags c else Some c
