@@ -402,10 +402,10 @@ fn a_script_ends_with_its_status_and_its_line(rt: HostRuntime) -> Result<(), Fai
             b"surgeon: line 1: refused 20 UnknownCommand word=frob\n",
         ),
         (
-            "a number in front",
+            "a selection where nothing is chosen",
             b"# note\n1 list\n",
             Status::Refused,
-            b"surgeon: line 2: refused 20 UnknownCommand word=1\n",
+            b"surgeon: line 2: refused 30 NoRepo\n",
         ),
         (
             "a word too many",
