@@ -24,8 +24,7 @@ use Rattle.plain_model.specs.declared.fault.Halt.TheVariants as halt
 use Rattle.plain_model.specs.Faults.{Returns}
 use Rattle.graph_walk.specs.Outcome.{IsCauseOf}
 use Rattle.manifest_cache.specs.Checking.{tree_check, unless}
-use Rattle.squash_laws.specs.Examples.{delete_how}
-use Rattle.squash_laws.specs.Faults.{checked_after, fault_before, squash_of, trees_checked}
+use Rattle.squash_laws.specs.Faults.{checked_after, delete_how, fault_before, squash_of, trees_checked}
 use Rattle.squash_laws.specs.Removed.{is_removed, without_set}
 use Rattle.squash_laws.specs.Squash.{squashed, takes}
 use Rattle.squash_laws.specs.declared.policy.Push.{Push}

@@ -4,8 +4,6 @@ use Rattle.plain_model.specs.declared.id.AnyId.{AnyId}
 use Rattle.plain_model.specs.declared.event.PlainEvent.{PlainEvent}
 use Rattle.plain_model.specs.declared.event.PlainEvent.TheVariants.{Blob, Commit, Tag, Reset, Pass}
 use Rattle.squash_laws.specs.Removed.{is_removed}
-use Rattle.squash_laws.specs.Squash.{moved}
-use Rattle.squash_laws.specs.declared.policy.Lean.{Lean}
 
 -- where a tag or a reset goes, from where a commit's go
 abbrev pub target_for : (ℕ → Option ℕ) → PlainEvent → Option ℕ
@@ -24,7 +22,3 @@ pub record AreTargets (goes_to : ℕ → Option ℕ) (events : List PlainEvent) 
 -- those of removed commits go nowhere
 abbrev pub discarded : List AnyId → ℕ → Option ℕ
 discarded set c = if is_removed set c then None else Some c
-
--- those of removed commits go on
-abbrev pub moved_to : List AnyId → List PlainEvent → Lean → ℕ → Option ℕ
-moved_to set events tags c = if is_removed set c then moved set events tags c else Some c

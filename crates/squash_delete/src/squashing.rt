@@ -8,8 +8,7 @@ ghost use Rattle.plain_model.specs.Soundness.{IsSound};
 ghost use Rattle.squash_delete.specs.Judged.{AreMany, IsLeft, ParentsAre};
 ghost use Rattle.squash_delete.specs.Leaving.{staying, with_own_parents};
 ghost use Rattle.squash_delete.specs.Targets.{AreTargets};
-ghost use Rattle.squash_laws.specs.Examples.{delete_how};
-ghost use Rattle.squash_laws.specs.Faults.{squash_of};
+ghost use Rattle.squash_laws.specs.Faults.{delete_how, squash_of};
 ghost use Rattle.squash_laws.specs.Removed.{Takings};
 ghost use Rattle.squash_laws.specs.Squash.{takes};
 

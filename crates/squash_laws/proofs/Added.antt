@@ -23,7 +23,7 @@ use Rattle.squash_laws.specs.Remaining.{IsOneOf, unlinked}
 use Rattle.squash_laws.specs.Removed.{Takings, all_left, is_removed, left_of, parents_after, without_set}
 use Rattle.squash_laws.specs.Squash.{takes}
 use Rattle.squash_laws.specs.declared.policy.Policy.{Policy}
-use Rattle.squash_laws.proofs.Due.{due_parts}
+use Rattle.squash_laws.proofs.Done.{done_parts}
 use Rattle.squash_laws.proofs.Left.{ids_left, marks_left, one_left, one_moved}
 
 -- ---- sums
@@ -156,7 +156,7 @@ module _ (how : Policy) (set : List AnyId) (events new : List PlainEvent) (h : I
   taking_of = takes set events how
 
   abbrev settled_to : settle (without_set set events taking_of) ≡ Ok new
-  settled_to = (due_parts how set events new h d).is
+  settled_to = (done_parts how set events new h d).is
 
   pub no_event : length new ≤ length events
   no_event =

@@ -106,14 +106,14 @@ module _ (set : List AnyId) (events : List PlainEvent) where
   abbrev gone : ℕ → Bool
   gone c = is_removed set c
 
-  known_behind : (xs older : Past) (p : ℕ) → knows older p ≡ true → knows (xs ++ older) p ≡ true
-  known_behind [] older p h = h
-  known_behind (x ∷ xs) older p h = known_later x (xs ++ older) p (known_behind xs older p h)
+  known_still : (xs older : Past) (p : ℕ) → knows older p ≡ true → knows (xs ++ older) p ≡ true
+  known_still [] older p h = h
+  known_still (x ∷ xs) older p h = known_later x (xs ++ older) p (known_still xs older p h)
 
   back_before : (xs older : Past) → IsLinkedPast (xs ++ older) → (p : ℕ) → knows older p ≡ true → back gone (xs ++ older) (p ∷ []) ≡ back gone older (p ∷ [])
   back_before [] older s p k = refl
   back_before (x ∷ xs) older s p k =
-      back_other gone x (xs ++ older) p [] (not_fresh x (xs ++ older) p s.0 (known_behind xs older p k)) ∙ back_before xs older s.2 p k
+      back_other gone x (xs ++ older) p [] (not_fresh x (xs ++ older) p s.0 (known_still xs older p k)) ∙ back_before xs older s.2 p k
 
   abbrev hangs_on : Past → ℕ → Node → Bool
   hangs_on whole c n = gone n.id && is_it c (back gone whole (n.id ∷ []))
@@ -149,7 +149,7 @@ module _ (set : List AnyId) (events : List PlainEvent) where
   hanging_is : IsLinkedPast (past events) → (c : ℕ) → hanging set events c ≡ hung gone (past events) c
   hanging_is s c = ap (filter (hangs_on (past events) c)) (sym (reverse-reverse (nodes events))) ∙ hung_in [] (past events) s c
 
-  -- ---- trees behind the push back
+  -- ---- trees after the push back
 
   -- the tree of the last commit that hangs on one, or its own
   abbrev pub pulled_tree : ℕ → Option Tree

@@ -1,6 +1,6 @@
 pub mod Added
 pub mod Back
-pub mod Due
+pub mod Done
 pub mod Forward
 pub mod Hung
 pub mod Left

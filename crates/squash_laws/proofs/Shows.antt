@@ -29,7 +29,7 @@ use Rattle.squash_laws.specs.Squash.{last_hanging, takes}
 use Rattle.squash_laws.specs.declared.policy.Lean.{Lean}
 use Rattle.squash_laws.specs.declared.policy.Push.TheVariants as push
 use Rattle.squash_laws.specs.declared.policy.Policy.{Policy}
-use Rattle.squash_laws.proofs.Due.{CheckFinds, back_due_sound, back_trees, due_parts, due_sound, due_trees, forward_due_sound}
+use Rattle.squash_laws.proofs.Done.{CheckFinds, back_done_sound, back_trees, done_parts, done_sound, done_trees, forward_done_sound}
 use Rattle.squash_laws.proofs.Left.{one_left, one_moved}
 
 -- ---- blobs
@@ -56,13 +56,13 @@ module _ (set : List AnyId) (events : List PlainEvent) (taking : Takings) where
 shown_new : (set : List AnyId) (events : List PlainEvent) (how : Policy) (new : List PlainEvent) → IsSound events →
     squash_of how set events ≡ Ok new → IsSound new → (c d : ℕ) → tree new c ≡ tree events d → shown_tree new c ≡ shown_tree events d
 shown_new set events how new h d sound c e same =
-    shown_alike events new (bytes_new set events (takes set events how) h new (due_parts how set events new h d).is) (sound_settles new sound).complete c e same
+    shown_alike events new (bytes_new set events (takes set events how) h new (done_parts how set events new h d).is) (sound_settles new sound).complete c e same
 
 pub forward_shown : (set : List AnyId) (events : List PlainEvent) (tags : Lean) (new : List PlainEvent) → IsSound events → squash_of (record { push = push.Forward; tags = tags }) set events ≡ Ok new → (c : ℕ) → IsCommitOf new c → shown_tree new c ≡ shown_tree events c
-forward_shown set events tags new h d c there = shown_new set events (record { push = push.Forward; tags = tags }) new h d (forward_due_sound set events tags new h d) c c (due_trees set events tags new h d c there)
+forward_shown set events tags new h d c there = shown_new set events (record { push = push.Forward; tags = tags }) new h d (forward_done_sound set events tags new h d) c c (done_trees set events tags new h d c there)
 
 pub back_shown : (set : List AnyId) (events : List PlainEvent) (tags : Lean) (new : List PlainEvent) → IsSound events → squash_of (record { push = push.Back; tags = tags }) set events ≡ Ok new → (c : ℕ) → IsCommitOf new c → shown_tree new c ≡ shown_tree events (last_hanging set events c)
-back_shown set events tags new h d c there = shown_new set events (record { push = push.Back; tags = tags }) new h d (back_due_sound set events tags new h d) c (last_hanging set events c) (back_trees set events tags new h d c there)
+back_shown set events tags new h d c there = shown_new set events (record { push = push.Back; tags = tags }) new h d (back_done_sound set events tags new h d) c (last_hanging set events c) (back_trees set events tags new h d c there)
 
 -- ---- a deletion
 
@@ -110,7 +110,7 @@ module _ (set : List AnyId) (events : List PlainEvent) (tags : Lean) where
       (all_filter (OfNodes (HasOperationsOf events)) (λ e. not (is_left_over events left e)) left
       (all_flat (OfNodes (λ (n : Node). node_at (past events) n.id ≡ Some n)) (OfNodes (HasOperationsOf events)) (left_of set events (takes set events how)) as_left events
       (nodes_of_events (λ (n : Node). node_at (past events) n.id ≡ Some n) events its)))
-      (due_parts how set events new h d).is)
+      (done_parts how set events new h d).is)
 
   pub deleted_fits : CheckFinds → (new : List PlainEvent) → IsSound events → squash_of how set events ≡ Ok new → AllByRecursion (Fits (tree new)) (nodes new)
-  deleted_fits finds new h d = let parts = in_parts new (due_sound finds how set events new h d) in trees_fit new parts.once parts.in_order
+  deleted_fits finds new h d = let parts = in_parts new (done_sound finds how set events new h d) in trees_fit new parts.once parts.in_order

@@ -46,9 +46,6 @@ tags_back_how = record { push = push.Forward; tags = lean.Back }
 abbrev pub back_how : Policy
 back_how = record { push = push.Back; tags = lean.Forward }
 
-abbrev pub delete_how : Policy
-delete_how = record { push = push.Discard; tags = lean.Forward }
-
 -- the commits with these ids
 abbrev pub commits : List ℕ → List AnyId
 commits [] = []

@@ -1,7 +1,6 @@
 use Rattle.std.proofs.Common.{◌∙◌, ap, refl, sym}
 use Rattle.event_arena.specs.declared.plan.Plan.{Plan}
-use Rattle.squash_laws.specs.Examples.{delete_how}
-use Rattle.squash_laws.specs.Faults.{squash_of}
+use Rattle.squash_laws.specs.Faults.{delete_how, squash_of}
 use Rattle.squash_delete.specs.Judged.{limit_passed}
 use Rattle.squash_delete.proofs.Answered.{a_limit, after_linked, check_fault, done_or, left_complete, left_of_args, no_limit, settle_fault, squash_checked, squash_limited, within_after}
 use Rattle.squash_delete.proofs.squashing.delete.Goals as goal

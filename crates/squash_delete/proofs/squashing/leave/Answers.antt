@@ -2,7 +2,7 @@ use Rattle.std.proofs.Common.{◌∙◌, List, ap}
 use Rattle.plain_model.specs.declared.event.PlainEvent.{PlainEvent}
 use Rattle.event_arena.specs.Graphs.{Change}
 use Rattle.edit_laws.specs.Sweeping.{swept}
-use Rattle.squash_laws.specs.Examples.{delete_how}
+use Rattle.squash_laws.specs.Faults.{delete_how}
 use Rattle.squash_laws.specs.Squash.{takes}
 use Rattle.squash_delete.proofs.Answered.{deleted_same, deleted_targets}
 use Rattle.squash_delete.proofs.LeavingLemmas.{same_but}

@@ -65,9 +65,9 @@ passed : (to : Push) (checks : Result (Unit {0}) Fault) (x new : List PlainEvent
 passed to (Ok tt) x new e h = let is : x ≡ new = cc in (is, both_pass to x e)
 passed to (Err why) x new e h = absurd cc
 
-pub due_parts : (how : Policy) (set : List AnyId) (events new : List PlainEvent) → IsSound events →
+pub done_parts : (how : Policy) (set : List AnyId) (events new : List PlainEvent) → IsSound events →
     squash_of how set events ≡ Ok new → IsDone how set events new
-due_parts how set events new h d = first (fault_before how.push set events) refl d
+done_parts how set events new h d = first (fault_before how.push set events) refl d
   where
     second : (r : Result (List PlainEvent) (List PlainEvent)) → squashed set events how ≡ r →
         fault_before how.push set events ≡ None →
@@ -95,17 +95,17 @@ due_parts how set events new h d = first (fault_before how.push set events) refl
     first (Some why) e d = absurd cc
 
 -- it is within the limits
-pub due_limits : (how : Policy) (set : List AnyId) (events new : List PlainEvent) → IsSound events →
+pub done_limits : (how : Policy) (set : List AnyId) (events new : List PlainEvent) → IsSound events →
     squash_of how set events ≡ Ok new → IsWithinLimits new
-due_limits how set events new h d = (limits_hold new).0 (due_parts how set events new h d).limits
+done_limits how set events new h d = (limits_hold new).0 (done_parts how set events new h d).limits
 
 -- a push forward that isn't refused leaves a sound history
-pub forward_due_sound : (set : List AnyId) (events : List PlainEvent) (tags : Lean) (new : List PlainEvent) →
+pub forward_done_sound : (set : List AnyId) (events : List PlainEvent) (tags : Lean) (new : List PlainEvent) →
     IsSound events → squash_of (record { push = push.Forward; tags = tags }) set events ≡ Ok new → IsSound new
-forward_due_sound set events tags new h d =
+forward_done_sound set events tags new h d =
     let how : Policy = record { push = push.Forward; tags = tags } in
-    let done = due_parts how set events new h d in
-    forward_sound set events h tags new done.is (due_limits how set events new h d).few_parents
+    let done = done_parts how set events new h d in
+    forward_sound set events h tags new done.is (done_limits how set events new h d).few_parents
 
 -- where ids occur once, no event has that of a later one
 distinct_once : (es : List PlainEvent) → ((id : AnyId) → tally (of_id id) es ≤ 1) → AreDistinct es
@@ -123,16 +123,16 @@ distinct_once (e ∷ es) once = (
         absurd (true≢false (sym (has_own_id e) ∙ others))
 
 -- so does a deletion
-pub delete_due_sound : CheckFinds → (set : List AnyId) (events : List PlainEvent) (tags : Lean) (new : List PlainEvent) →
+pub delete_done_sound : CheckFinds → (set : List AnyId) (events : List PlainEvent) (tags : Lean) (new : List PlainEvent) →
     IsSound events → squash_of (record { push = push.Discard; tags = tags }) set events ≡ Ok new → IsSound new
-delete_due_sound finds set events tags new h d =
+delete_done_sound finds set events tags new h d =
     let how : Policy = record { push = push.Discard; tags = tags } in
-    let done = due_parts how set events new h d in
+    let done = done_parts how set events new h d in
     let left = without_set set events (takes set events how) in
     let can = squash_settles set events h how in
     let once = settled_once left new can.once (settled (λ e. Unit {0}) left new (any_event left) done.is) in
     let linked = linked_in_order new once (settled_in_order left new done.is) in
-    squash_sound set events h how new done.is (due_limits how set events new h d).few_parents
+    squash_sound set events h how new done.is (done_limits how set events new h d).few_parents
     ((finds new (distinct_once new once.ids) linked).1 done.trees)
 
 -- ---- push back
@@ -140,33 +140,33 @@ delete_due_sound finds set events tags new h d =
 pub back_trees : (set : List AnyId) (events : List PlainEvent) (tags : Lean) (new : List PlainEvent) → IsSound events → squash_of (record { push = push.Back; tags = tags }) set events ≡ Ok new → (c : ℕ) → IsCommitOf new c → tree new c ≡ tree events (last_of c (hanging set events c))
 back_trees set events tags new h d c there =
     let how : Policy = record { push = push.Back; tags = tags } in
-    let done = due_parts how set events new h d in
+    let done = done_parts how set events new h d in
     let taking = takes set events how in
     settled_trees (pulled_tree set events) (without_set set events taking) new
     (subst (AllByRecursion (Fits (pulled_tree set events))) (sym (swept_nodes events (all_left set events taking))) (pulled_fits set events h done.before tags))
     done.is c there
 
-pub back_due_sound : (set : List AnyId) (events : List PlainEvent) (tags : Lean) (new : List PlainEvent) → IsSound events → squash_of (record { push = push.Back; tags = tags }) set events ≡ Ok new → IsSound new
-back_due_sound set events tags new h d =
+pub back_done_sound : (set : List AnyId) (events : List PlainEvent) (tags : Lean) (new : List PlainEvent) → IsSound events → squash_of (record { push = push.Back; tags = tags }) set events ≡ Ok new → IsSound new
+back_done_sound set events tags new h d =
     let how : Policy = record { push = push.Back; tags = tags } in
-    let done = due_parts how set events new h d in
-    squash_sound set events h how new done.is (due_limits how set events new h d).few_parents
+    let done = done_parts how set events new h d in
+    squash_sound set events h how new done.is (done_limits how set events new h d).few_parents
     (λ c there. subst IsSome (sym (back_trees set events tags new h d c there))
     (pulled_there set events h done.before tags c (was_there set events h how new done.is c there)))
 
 -- ---- any squash
 
-pub due_sound : CheckFinds → (how : Policy) (set : List AnyId) (events new : List PlainEvent) → IsSound events → squash_of how set events ≡ Ok new → IsSound new
-due_sound finds how set events new h d = go how.push refl
+pub done_sound : CheckFinds → (how : Policy) (set : List AnyId) (events new : List PlainEvent) → IsSound events → squash_of how set events ≡ Ok new → IsSound new
+done_sound finds how set events new h d = go how.push refl
   where
     go : (p : Push) → how.push ≡ p → IsSound new
-    go push.Forward e = forward_due_sound set events how.tags new h (ap (λ p. squash_of (record { push = p; tags = how.tags }) set events) (sym e) ∙ d)
-    go push.Back e = back_due_sound set events how.tags new h (ap (λ p. squash_of (record { push = p; tags = how.tags }) set events) (sym e) ∙ d)
-    go push.Discard e = delete_due_sound finds set events how.tags new h (ap (λ p. squash_of (record { push = p; tags = how.tags }) set events) (sym e) ∙ d)
+    go push.Forward e = forward_done_sound set events how.tags new h (ap (λ p. squash_of (record { push = p; tags = how.tags }) set events) (sym e) ∙ d)
+    go push.Back e = back_done_sound set events how.tags new h (ap (λ p. squash_of (record { push = p; tags = how.tags }) set events) (sym e) ∙ d)
+    go push.Discard e = delete_done_sound finds set events how.tags new h (ap (λ p. squash_of (record { push = p; tags = how.tags }) set events) (sym e) ∙ d)
 
 -- the commits that aren't removed are there, and no others
-pub due_commits : (how : Policy) (set : List AnyId) (events new : List PlainEvent) → IsSound events → squash_of how set events ≡ Ok new → (c : ℕ) → has_id new (any.Commit c) ≡ has_id events (any.Commit c) && not (is_removed set c)
-due_commits how set events new h d c = squash_commits set events h how new (due_parts how set events new h d).is c
+pub done_commits : (how : Policy) (set : List AnyId) (events new : List PlainEvent) → IsSound events → squash_of how set events ≡ Ok new → (c : ℕ) → has_id new (any.Commit c) ≡ has_id events (any.Commit c) && not (is_removed set c)
+done_commits how set events new h d c = squash_commits set events h how new (done_parts how set events new h d).is c
 
-pub due_trees : (set : List AnyId) (events : List PlainEvent) (tags : Lean) (new : List PlainEvent) → IsSound events → squash_of (record { push = push.Forward; tags = tags }) set events ≡ Ok new → (c : ℕ) → IsCommitOf new c → tree new c ≡ tree events c
-due_trees set events tags new h d c there = forward_keeps set events h tags new (due_parts (record { push = push.Forward; tags = tags }) set events new h d).is c there
+pub done_trees : (set : List AnyId) (events : List PlainEvent) (tags : Lean) (new : List PlainEvent) → IsSound events → squash_of (record { push = push.Forward; tags = tags }) set events ≡ Ok new → (c : ℕ) → IsCommitOf new c → tree new c ≡ tree events c
+done_trees set events tags new h d c there = forward_keeps set events h tags new (done_parts (record { push = push.Forward; tags = tags }) set events new h d).is c there
