@@ -1,21 +1,21 @@
 -- What the steps of a squash answer is what is specified.
-use Rattle.std.proofs.Common.{◌≡◌, ◌∙◌, ℕ, Bool, true, false, cond, not, inl, inr, List, [], ◌∷◌, Option, Some, None, Result, Ok, Err, refl, sym, ap, subst, map, true≢false}
-use Rattle.std.specs.Prelude.{◌||◌, is_some, nat_lt, unwrap_or, length}
-use Rattle.std.proofs.lemmas.Bool.{cases_Bool}
+use Rattle.std.proofs.Common.{◌≡◌, ◌∙◌, ℕ, Bool, true, false, cond, not, List, [], ◌∷◌, Option, Some, None, Result, Ok, Err, refl, sym, ap, subst, suc, ◌≤◌, ◌<◌, filter, arith, length-append, map}
+use Rattle.std.specs.Prelude.{nat_lt, length}
 use Rattle.plain_model.specs.declared.id.AnyId.{AnyId}
-use Rattle.plain_model.specs.declared.id.AnyId.TheVariants as any
 use Rattle.plain_model.specs.declared.fault.Fault.{Fault}
+use Rattle.plain_model.specs.declared.fault.Fault.TheVariants as fault
+use Rattle.plain_model.specs.declared.fault.Which.TheVariants as limit
 use Rattle.plain_model.specs.declared.limit.TheConstants.{MAX_EVENTS, MAX_OPERATIONS}
 use Rattle.plain_model.specs.declared.event.PlainEvent.{PlainEvent}
 use Rattle.plain_model.specs.declared.event.PlainEvent.TheVariants.{Blob, Commit, Tag, Reset, Pass}
 use Rattle.plain_model.specs.Histories.{IsLinkedPast, nodes, past}
-use Rattle.plain_model.specs.Lookups.{is_listed}
 use Rattle.plain_model.specs.Soundness.{IsSound}
 use Rattle.history_laws.specs.FirstParents.{ops_along}
 use Rattle.edit_laws.specs.Parts.{AreComplete}
 use Rattle.edit_laws.specs.Passing.{limit_fault}
 use Rattle.edit_laws.specs.Settling.{settle}
-use Rattle.edit_laws.specs.Sweeping.{swept}
+use Rattle.edit_laws.specs.Sweeping.{is_left_over, swept}
+use Rattle.event_arena.specs.Graphs.{Change}
 use Rattle.edit_laws.proofs.Settled.{settled}
 use Rattle.edit_laws.proofs.Settles.{any_event, settled_in_order, settled_once}
 use Rattle.edit_laws.proofs.Trees.{linked_in_order}
@@ -23,19 +23,24 @@ use Rattle.plain_model.specs.declared.fault.Halt.{Halt}
 use Rattle.plain_model.specs.declared.fault.Halt.TheVariants as halt
 use Rattle.plain_model.specs.Faults.{Returns}
 use Rattle.graph_walk.specs.Outcome.{IsCauseOf}
-use Rattle.manifest_cache.specs.Checking.{tree_check, unless}
-use Rattle.squash_laws.specs.Faults.{checked_after, delete_how, fault_before, squash_of, trees_checked}
-use Rattle.squash_laws.specs.Removed.{is_removed, without_set}
+use Rattle.manifest_cache.specs.Checking.{unless}
+use Rattle.squash_laws.specs.Faults.{checked_after, fault_before, squash_of, trees_checked}
+use Rattle.squash_laws.specs.Removed.{Takings, without_set}
 use Rattle.squash_laws.specs.Squash.{squashed, takes}
 use Rattle.squash_laws.specs.declared.policy.Push.{Push}
 use Rattle.squash_laws.specs.declared.policy.Policy.{Policy}
 use Rattle.squash_laws.proofs.Squashed.{squash_ends, squash_settles}
-use Rattle.squash_delete.specs.Judged.{IsLeft, limit_passed}
-use Rattle.squash_delete.specs.Leaving.{event_after, goes, staying, with_own_parents}
-use Rattle.squash_delete.specs.Targets.{AreTargets, discarded, target_for}
+use Rattle.squash_delete.specs.Judged.{IsLeft, IsLeftOf, ParentsAre, judged, limit_passed}
+use Rattle.squash_delete.specs.Leaving.{event_after, goes, staying, with_takings}
+use Rattle.squash_delete.specs.Sources.{count_ops}
+use Rattle.squash_delete.specs.Targets.{AreTargets, target_for}
+use Rattle.squash_delete.specs.declared.counting.Left.{Left}
+use Rattle.squash_delete.specs.declared.counting.Left.TheVariants.{All, ManyOperations}
+use Rattle.plan_limits.proofs.Counting.{more_than, not_more}
 use Rattle.squash_delete.proofs.JudgedLemmas.{judged_alike}
 use Rattle.squash_delete.proofs.LeavingLemmas.{left_staying}
-use Rattle.squash_delete.proofs.Tables.{IsTableTo, table_all}
+use Rattle.squash_delete.specs.Tables.{IsTableTo}
+use Rattle.squash_delete.proofs.Tables.{table_all}
 
 -- ---- the outcome
 
@@ -136,12 +141,12 @@ module _ (how : Policy) (set : List AnyId) (events : List PlainEvent) (h : IsSou
       absurd (left_settles how set events h none few left cause.2.left l passed cause.2.never)
 
 -- what the tree check refuses
-pub check_fault : {X : Type 0} (view : X → List PlainEvent) (new : List PlainEvent) (answer : Result (List PlainEvent) Fault) →
-    answer ≡ done_or new (tree_check new) → (why : Halt) → Returns {X = Unit {0}} {Y = Unit {0}} (λ done. done) (Err why) (tree_check new) → Returns view (Err why) answer
-check_fault view new answer is halt.Memory checked = tt
-check_fault view new answer is (halt.Refused fault) checked = is ∙ ap (done_or new) checked
+pub check_fault : {X : Type 0} (view : X → List PlainEvent) (new : List PlainEvent) (answer : Result (List PlainEvent) Fault) (checks : Result (Unit {0}) Fault) →
+    answer ≡ done_or new checks → (why : Halt) → Returns {X = Unit {0}} {Y = Unit {0}} (λ done. done) (Err why) checks → Returns view (Err why) answer
+check_fault view new answer checks is halt.Memory checked = tt
+check_fault view new answer checks is (halt.Refused fault) checked = is ∙ ap (done_or new) checked
 
--- ---- a deletion
+-- ---- where tags and resets go
 
 -- the entry of a tag or a reset is where it goes
 abbrev pub TargetIs : (ℕ → Option ℕ) → PlainEvent → Option ℕ → Type 0
@@ -161,40 +166,97 @@ targets_alike f g same (Blob id mark bytes) = refl
 targets_alike f g same (Commit id mark branch author committer encoding comment parents ops aliases) = refl
 targets_alike f g same (Pass id line) = refl
 
-module _ (set : List AnyId) (events : List PlainEvent) where
-  pub deleted_targets : (table : List (Option ℕ)) → AreTargets (discarded set) events table → AreTargets (takes set events delete_how).target events table
-  deleted_targets table t = record {
-    count = t.count;
-    target = λ k e is. t.target k e is ∙ targets_alike (discarded set) (takes set events delete_how).target (λ c. refl) e;
-  }
+-- a table of targets is one of those that go to the same
+pub same_targets : (f g : ℕ → Option ℕ) → ((c : ℕ) → f c ≡ g c) → (events : List PlainEvent) (table : List (Option ℕ)) →
+    AreTargets f events table → AreTargets g events table
+same_targets f g same events table t = record {
+  count = t.count;
+  target = λ k e is. t.target k e is ∙ targets_alike f g same e;
+}
 
-  module _ (par : List ℕ → List ℕ) where
-    kept_on : (listed removed : Bool) (target : ℕ) → listed || not (is_some (cond removed None (Some target))) ≡ false → unwrap_or (cond removed None (Some target)) target ≡ target
-    kept_on true true target h = absurd (true≢false h)
-    kept_on true false target h = absurd (true≢false h)
-    kept_on false true target h = absurd (true≢false h)
-    kept_on false false target h = refl
+-- ---- what is left
 
-    same_one : (e : PlainEvent) → goes set (takes set events delete_how) e ≡ false → with_own_parents par e ≡ event_after par (takes set events delete_how) e
-    same_one (Commit id mark branch author committer encoding comment parents ops aliases) h = refl
-    same_one (Blob id mark bytes) h = refl
-    same_one (Tag id name target tagger comment mark) h =
-        ap (λ t. Tag id name t tagger comment mark) (sym (kept_on (is_listed (any.Tag id) set) (is_removed set target) target h))
-    same_one (Reset id branch (Some target)) h =
-        ap (λ t. Reset id branch (Some t)) (sym (kept_on (is_listed (any.Reset id) set) (is_removed set target) target h))
-    same_one (Reset id branch None) h = refl
-    same_one (Pass id line) h = refl
+-- sweeping takes no operation away, nor does a move
+ops_swept : (old whole es : List PlainEvent) → count_ops (filter (λ e. not (is_left_over old whole e)) es) ≡ count_ops es
+ops_swept old whole [] = refl
+ops_swept old whole (Blob id mark bytes ∷ es) = by (is_left_over old whole (Blob id mark bytes)) (ops_swept old whole es)
+  where
+    by : (b : Bool) → count_ops (filter (λ e. not (is_left_over old whole e)) es) ≡ count_ops es →
+        count_ops (cond (not b) (Blob id mark bytes ∷ filter (λ e. not (is_left_over old whole e)) es) (filter (λ e. not (is_left_over old whole e)) es)) ≡ count_ops es
+    by true rest = rest
+    by false rest = rest
+ops_swept old whole (Commit id mark branch author committer encoding comment parents ops aliases ∷ es) =
+    let rest = ops_swept old whole es in
+    let one = length-append ops (ops_along (nodes (filter (λ e. not (is_left_over old whole e)) es))) in
+    let all = length-append ops (ops_along (nodes es)) in
+    omega arith
+ops_swept old whole (Tag id name target tagger comment mark ∷ es) = ops_swept old whole es
+ops_swept old whole (Reset id branch target ∷ es) = ops_swept old whole es
+ops_swept old whole (Pass id line ∷ es) = ops_swept old whole es
 
-    -- commits that stay change in their parents alone
-    pub deleted_same : (es : List PlainEvent) → map (with_own_parents par) (staying set (takes set events delete_how) es) ≡ map (event_after par (takes set events delete_how)) (staying set (takes set events delete_how) es)
-    deleted_same [] = refl
-    deleted_same (e ∷ es) = elim (cases_Bool (goes set (takes set events delete_how) e)) [
-      | inl gone ↦ rw gone (deleted_same es)
-      | inr stays ↦ rw stays (ap (λ l. with_own_parents par e ∷ l) (deleted_same es) ∙ ap (λ x. x ∷ map (event_after par (takes set events delete_how)) (staying set (takes set events delete_how) es)) (same_one e stays))
-    ]
+ops_moved : (par : List ℕ → List ℕ) (takes : Takings) (es : List PlainEvent) → count_ops (map (event_after par takes) es) ≡ count_ops (map (with_takings par takes) es)
+ops_moved par takes [] = refl
+ops_moved par takes (Commit id mark branch author committer encoding comment parents ops aliases ∷ es) =
+    let rest = ops_moved par takes es in
+    let one = length-append (takes.ops id parents ops) (ops_along (nodes (map (event_after par takes) es))) in
+    let all = length-append (takes.ops id parents ops) (ops_along (nodes (map (with_takings par takes) es))) in
+    omega arith
+ops_moved par takes (Blob id mark bytes ∷ es) = ops_moved par takes es
+ops_moved par takes (Tag id name target tagger comment mark ∷ es) = ops_moved par takes es
+ops_moved par takes (Reset id branch (Some target) ∷ es) = ops_moved par takes es
+ops_moved par takes (Reset id branch None ∷ es) = ops_moved par takes es
+ops_moved par takes (Pass id line ∷ es) = ops_moved par takes es
+
+filter_short : (test : PlainEvent → Bool) (es : List PlainEvent) → length (filter test es) ≤ length es
+filter_short test [] = omega arith
+filter_short test (e ∷ es) = by (test e) (filter_short test es)
+  where
+    by : (b : Bool) → length (filter test es) ≤ length es → length (cond b (e ∷ filter test es) (filter test es)) ≤ suc (length es)
+    by true rest = omega arith
+    by false rest = omega arith
+
+map_long : (f : PlainEvent → PlainEvent) (es : List PlainEvent) → length (map f es) ≡ length es
+map_long f [] = refl
+map_long f (e ∷ es) = ap suc (map_long f es)
+
+-- there are too many operations, and not too many events
+pub many_left : (set : List AnyId) (events : List PlainEvent) (taking : Takings) (par : List ℕ → List ℕ) (few : Bool) (old new : Change) →
+    ParentsAre set events taking few par → length events ≤ MAX_EVENTS → MAX_OPERATIONS < count_ops (map (with_takings par taking) (staying set taking events)) →
+    IsLeftOf set events taking old ManyOperations new
+many_left set events taking par few old new are short many =
+    let moved = map (event_after par taking) (staying set taking events) in
+    let swept_less = filter_short (λ e. not (is_left_over events moved e)) moved in
+    let moved_long = map_long (event_after par taking) (staying set taking events) in
+    let stay_less = filter_short (λ e. not (goes set taking e)) events in
+    let sweeping = ops_swept events moved moved in
+    let moving = ops_moved par taking (staying set taking events) in
+    (few, swept events moved, (par, are, refl), omega arith, omega arith)
+
+-- all is left in a plan
+pub record AllIsLeft (set : List AnyId) (events : List PlainEvent) (taking : Takings) (old new : Change) : Type 0 where
+  pub few : Bool
+  pub others : new ≡ record old { after = new.after }
+  pub is : IsLeft set events taking few new.after
+  pub within : limit_passed few new.after ≡ None
+
+pub all_is_left : (set : List AnyId) (events : List PlainEvent) (taking : Takings) (old new : Change) (left : Left) →
+    IsLeftOf set events taking old left new → judged left new.after ≡ None → AllIsLeft set events taking old new
+all_is_left set events taking old new (All few) l none = record { few = few; others = l.0; is = l.1; within = none }
+all_is_left set events taking old new ManyOperations l none = absurd cc
+
+pub judged_fault : (how : Policy) (set : List AnyId) (events : List PlainEvent) → IsSound events → fault_before how.push set events ≡ None →
+    (old new : Change) (left : Left) (why : Fault) → IsLeftOf set events (takes set events how) old left new → judged left new.after ≡ Some why →
+    squash_of how set events ≡ Err why
+judged_fault how set events h none old new (All few) why l some = squash_limited how set events h none few new.after why l.1 some
+judged_fault how set events h none old new ManyOperations why l some =
+    squash_limited how set events h none l.0 l.1 why l.2 (passed l.1 l.3 l.4 ∙ some)
+  where
+    passed : (left : List PlainEvent) → length left ≤ MAX_EVENTS → MAX_OPERATIONS < length (ops_along (nodes left)) →
+        limit_passed l.0 left ≡ Some (fault.Limit limit.Operations MAX_OPERATIONS)
+    passed left short many = rw (not_more MAX_EVENTS (length left) short, more_than MAX_OPERATIONS (length (ops_along (nodes left))) many) refl
 
 -- what is left of a removal is left of what it was made of
-pub left_of_args : (s set : List AnyId) (es events : List PlainEvent) (few : Bool) (left : List PlainEvent) → s ≡ set → es ≡ events →
-    IsLeft s es (takes s es delete_how) few left → IsLeft set events (takes set events delete_how) few left
-left_of_args s set es events few left a b l =
-    subst (λ (x : List AnyId). IsLeft x events (takes x events delete_how) few left) a (subst (λ (y : List PlainEvent). IsLeft s y (takes s y delete_how) few left) b l)
+pub left_of_args : (how : Policy) (s set : List AnyId) (es events : List PlainEvent) (old new : Change) (left : Left) → s ≡ set → es ≡ events →
+    IsLeftOf s es (takes s es how) old left new → IsLeftOf set events (takes set events how) old left new
+left_of_args how s set es events old new left a b l =
+    subst (λ (x : List AnyId). IsLeftOf x events (takes x events how) old left new) a (subst (λ (y : List PlainEvent). IsLeftOf s y (takes s y how) old left new) b l)

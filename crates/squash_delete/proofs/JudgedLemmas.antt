@@ -1,8 +1,7 @@
 -- The limits of what is left are those of the history after, whatever parents its commits have for now.
-use Rattle.std.proofs.Common.{◌≡◌, ◌∙◌, ℕ, zero, suc, ◌+◌, ◌≤◌, ◌<◌, Bool, true, false, cond, not, List, [], ◌∷◌, ◌++◌, take, drop, take-append-drop, Option, Some, None, refl, sym, ap, subst, length, map, filter, flat_map, arith, true≢false, length-append, IsTrue}
+use Rattle.std.proofs.Common.{◌≡◌, ◌∙◌, ℕ, zero, suc, ◌≤◌, ◌<◌, Bool, true, false, cond, not, List, [], ◌∷◌, ◌++◌, Option, Some, None, refl, sym, ap, subst, length, map, filter, flat_map, arith, true≢false, IsTrue}
 use Rattle.std.specs.Prelude.{◌||◌, ◌&&◌, nat_lt, slice_get, Ok, if◌then◌else◌}
 use Rattle.std.specs.List.{AllByRecursion, list_any}
-use Rattle.std.proofs.lemmas.Bool.Decides.{nat_tests}
 use Rattle.std.proofs.lemmas.List.Folds.{list_any-append}
 use Rattle.std.proofs.lemmas.Option.{none-some, same_Some}
 use Rattle.plain_model.specs.declared.id.AnyId.{AnyId}
@@ -21,8 +20,8 @@ use Rattle.edit_laws.specs.Parts.{HasFewParents, one_if, tally}
 use Rattle.edit_laws.specs.Passing.{limit_fault}
 use Rattle.edit_laws.specs.Settling.{settle}
 use Rattle.edit_laws.specs.Sweeping.{is_left_over, is_named, swept}
-use Rattle.edit_laws.proofs.Lists.{none_passing, some_passing, tally_append}
-use Rattle.event_arena.proofs.ListLemmas.{take-all, take-item}
+use Rattle.edit_laws.proofs.Lists.{none_passing, some_passing}
+use Rattle.plan_limits.proofs.Counting.{aliases_counted, more_than, not_more, ops_counted, own_aliases, own_ops}
 use Rattle.edit_laws.proofs.Settles.{settled_sums}
 use Rattle.edit_laws.proofs.Sound.{in_parts}
 use Rattle.event_arena.proofs.SoundLemmas.{sound-once}
@@ -31,85 +30,6 @@ use Rattle.squash_laws.specs.Removed.{Takings, is_removed, parents_after, withou
 use Rattle.squash_delete.specs.Judged.{IsLeft, ParentsAre, limit_passed}
 use Rattle.squash_delete.specs.Leaving.{event_after, goes, staying}
 use Rattle.squash_delete.proofs.LeavingLemmas.{left_staying, unremoved_parents}
-
--- ---- sums
-
-abbrev pub one : PlainEvent → ℕ
-one e = 1
-
-counted : (es : List PlainEvent) → tally one es ≡ length es
-counted [] = refl
-counted (e ∷ es) = let rest = counted es in omega arith
-
-abbrev pub own_ops : PlainEvent → ℕ
-own_ops e = length (ops_along (nodes (e ∷ [])))
-
-pub ops_counted : (es : List PlainEvent) → tally own_ops es ≡ length (ops_along (nodes es))
-ops_counted [] = refl
-ops_counted (Commit id mark branch author committer encoding comment parents ops aliases ∷ es) =
-    let rest = ops_counted es in
-    let own : own_ops (Commit id mark branch author committer encoding comment parents ops aliases) ≡ length ops = length-append ops [] ∙ (let z : length ops + 0 ≡ length ops = omega arith in z) in
-    let whole = length-append ops (ops_along (nodes es)) in
-    omega arith
-ops_counted (Blob id mark bytes ∷ es) = let rest = ops_counted es in omega arith
-ops_counted (Tag id name target tagger comment mark ∷ es) = let rest = ops_counted es in omega arith
-ops_counted (Reset id branch target ∷ es) = let rest = ops_counted es in omega arith
-ops_counted (Pass id line ∷ es) = let rest = ops_counted es in omega arith
-
-abbrev pub own_aliases : PlainEvent → ℕ
-own_aliases e = alias_count (e ∷ [])
-
-pub aliases_counted : (es : List PlainEvent) → tally own_aliases es ≡ alias_count es
-aliases_counted [] = refl
-aliases_counted (Commit id mark branch author committer encoding comment parents ops aliases ∷ es) = let rest = aliases_counted es in omega arith
-aliases_counted (Blob id mark bytes ∷ es) = let rest = aliases_counted es in omega arith
-aliases_counted (Tag id name target tagger comment mark ∷ es) = let rest = aliases_counted es in omega arith
-aliases_counted (Reset id branch target ∷ es) = let rest = aliases_counted es in omega arith
-aliases_counted (Pass id line ∷ es) = let rest = aliases_counted es in omega arith
-
--- one event more, and no more than all
-pub tally_item : (f : PlainEvent → ℕ) (es : List PlainEvent) (k : ℕ) (e : PlainEvent) → slice_get es k ≡ Some e →
-    tally f (take (suc k) es) ≡ tally f (take k es) + f e
-tally_item f es k e at =
-    let more : tally f (take (suc k) es) ≡ tally f (take k es ++ e ∷ []) = ap (tally f) (take-item es k e at) in
-    let both = tally_append f (take k es) (e ∷ []) in
-    omega arith
-
-pub tally_less : (f : PlainEvent → ℕ) (es : List PlainEvent) (k : ℕ) → tally f (take k es) ≤ tally f es
-tally_less f es k =
-    let parts : tally f (take k es ++ drop k es) ≡ tally f es = ap (tally f) (take-append-drop k es) in
-    let both = tally_append f (take k es) (drop k es) in
-    omega arith
-
-pub more_than : (most n : ℕ) → most < n → nat_lt most n ≡ true
-more_than most n h = grind (arith, nat_tests)
-
-pub not_more : (most n : ℕ) → n ≤ most → nat_lt most n ≡ false
-not_more most n h = grind (arith, nat_tests)
-
--- counted so far, and the next event passes the limit, or it doesn't
-module _ (f : PlainEvent → ℕ) (count : List PlainEvent → ℕ) (counted : (es : List PlainEvent) → tally f es ≡ count es) (most : ℕ) where
-  pub count_more : (es : List PlainEvent) (k total more : ℕ) (e : PlainEvent) → slice_get es k ≡ Some e → total ≡ count (take k es) → more ≡ f e →
-      total + more ≡ count (take (suc k) es)
-  count_more es k total more e at so_far own =
-      let item = tally_item f es k e at in
-      let old = counted (take k es) in
-      let new = counted (take (suc k) es) in
-      omega arith
-
-  pub count_passed : (es : List PlainEvent) (k total more : ℕ) (e : PlainEvent) → slice_get es k ≡ Some e → total ≡ count (take k es) → more ≡ f e →
-      most < total + more → true ≡ nat_lt most (count es)
-  count_passed es k total more e at so_far own passed =
-      let now = count_more es k total more e at so_far own in
-      let new = counted (take (suc k) es) in
-      let less = tally_less f es (suc k) in
-      let whole = counted es in
-      sym (more_than most (count es) (omega arith))
-
-  pub count_within : (es : List PlainEvent) (k total : ℕ) → length es ≤ k → total ≡ count (take k es) → total ≤ most → false ≡ nat_lt most (count es)
-  count_within es k total all so_far low =
-      let same : count (take k es) ≡ count es = ap count (take-all es k all) in
-      sym (not_more most (count es) (omega arith))
 
 -- ---- other parents change no sum
 
@@ -178,6 +98,15 @@ module _ (takes : Takings) (par other : List ℕ → List ℕ) where
   aliases_alike (Reset id branch (Some target)) = refl
   aliases_alike (Reset id branch None) = refl
   aliases_alike (Pass id line) = refl
+
+-- ---- how many events
+
+abbrev pub one : PlainEvent → ℕ
+one e = 1
+
+counted : (es : List PlainEvent) → tally one es ≡ length es
+counted [] = refl
+counted (e ∷ es) = let rest = counted es in omega arith
 
 -- the first limit that numbers pass
 abbrev limit_of : ℕ → ℕ → Bool → ℕ → Option Fault

@@ -25,7 +25,8 @@ use Rattle.graph_walk.proofs.PlaceLemmas.{has_id_place, item_at}
 use Rattle.graph_walk.proofs.TurnLemmas.{all_at}
 use Rattle.squash_laws.specs.Removed.{Takings, all_left, is_removed, left_of, parents_after}
 use Rattle.squash_delete.specs.Leaving.{event_after, goes, staying, with_all_parents, with_own_parents, with_takings}
-use Rattle.squash_delete.proofs.Passes.{none_left, so_far, so_far_all, step_changed, step_gone, step_same}
+use Rattle.squash_delete.specs.Passes.{so_far}
+use Rattle.squash_delete.proofs.Passes.{none_left, so_far_all, step_changed, step_gone, step_same}
 
 -- ---- ids stay
 

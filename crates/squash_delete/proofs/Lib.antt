@@ -1,7 +1,12 @@
 pub mod Answered
+pub mod ChainLemmas
+pub mod HangLemmas
 pub mod JudgedLemmas
 pub mod LeavingLemmas
+pub mod MovingLemmas
 pub mod NodeLemmas
 pub mod Passes
 pub mod SweepLemmas
 pub mod Tables
+pub mod TakingLemmas
+pub mod WayLemmas

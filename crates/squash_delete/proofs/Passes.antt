@@ -12,6 +12,7 @@ use Rattle.event_arena.specs.Once.{AreDistinct}
 use Rattle.event_arena.proofs.ListLemmas.{drop-item, take-all, take-item}
 use Rattle.event_arena.proofs.OnceLemmas.{distinct-absent}
 use Rattle.event_arena.proofs.SpentLemmas.{absent-cons, cons-absent}
+use Rattle.squash_delete.specs.Passes.{so_far}
 
 -- ---- an event between others
 
@@ -75,11 +76,8 @@ none_left (suc k) (x ∷ xs) h = none_left k xs (omega arith)
 -- ---- of a list of events those that stay, the first of which have become what they become
 
 module _ (keep : PlainEvent → Bool) (p g : PlainEvent → PlainEvent) where
-  abbrev pub so_far : ℕ → List PlainEvent → List PlainEvent
-  so_far k events = map g (filter keep (take k events)) ++ map p (filter keep (drop k events))
-
   -- all of them
-  pub so_far_all : (k : ℕ) (events : List PlainEvent) → length events ≤ k → so_far k events ≡ map g (filter keep events)
+  pub so_far_all : (k : ℕ) (events : List PlainEvent) → length events ≤ k → so_far keep p g k events ≡ map g (filter keep events)
   so_far_all k events h =
       ap (λ (xs : List PlainEvent). map g (filter keep xs) ++ map p (filter keep (drop k events))) (take-all events k h)
       ∙ ap (λ (ys : List PlainEvent). map g (filter keep events) ++ map p (filter keep ys)) (none_left k events h)
@@ -92,16 +90,16 @@ module _ (keep : PlainEvent → Bool) (p g : PlainEvent → PlainEvent) where
     abbrev rest : List PlainEvent
     rest = filter keep (drop (suc k) events)
 
-    here : so_far k events ≡ map g front ++ map p (filter keep (e ∷ drop (suc k) events))
+    here : so_far keep p g k events ≡ map g front ++ map p (filter keep (e ∷ drop (suc k) events))
     here = ap (λ (ys : List PlainEvent). map g front ++ map p (filter keep ys)) (drop-item events k e is)
 
-    further : so_far (suc k) events ≡ map g (front ++ filter keep (e ∷ [])) ++ map p rest
+    further : so_far keep p g (suc k) events ≡ map g (front ++ filter keep (e ∷ [])) ++ map p rest
     further =
         ap (λ (xs : List PlainEvent). map g (filter keep xs) ++ map p rest) (take-item events k e is)
         ∙ ap (λ (xs : List PlainEvent). map g xs ++ map p rest) (filter_append keep (take k events) (e ∷ []))
 
     -- one that goes
-    pub step_gone : keep e ≡ false → so_far k events ≡ so_far (suc k) events
+    pub step_gone : keep e ≡ false → so_far keep p g k events ≡ so_far keep p g (suc k) events
     step_gone gone =
         let now : map g front ++ map p (filter keep (e ∷ drop (suc k) events)) ≡ map g front ++ map p rest =
         ap (λ (ys : List PlainEvent). map g front ++ map p ys) (filter_gone keep e (drop (suc k) events) gone) in
@@ -111,7 +109,7 @@ module _ (keep : PlainEvent → Bool) (p g : PlainEvent → PlainEvent) where
         here ∙ now ∙ sym (further ∙ then_)
 
     -- one that stays is the last of those in front
-    kept_further : keep e ≡ true → map g front ++ g e ∷ map p rest ≡ so_far (suc k) events
+    kept_further : keep e ≡ true → map g front ++ g e ∷ map p rest ≡ so_far keep p g (suc k) events
     kept_further stays =
         let whole : map g (front ++ filter keep (e ∷ [])) ++ map p rest ≡ map g front ++ g e ∷ map p rest =
         ap (λ (xs : List PlainEvent). map g (front ++ xs) ++ map p rest) (filter_kept keep e [] stays)
@@ -119,11 +117,11 @@ module _ (keep : PlainEvent → Bool) (p g : PlainEvent → PlainEvent) where
         ∙ append_assoc (map g front) (g e ∷ []) (map p rest) in
         sym (further ∙ whole)
 
-    at_hand : keep e ≡ true → so_far k events ≡ map g front ++ p e ∷ map p rest
+    at_hand : keep e ≡ true → so_far keep p g k events ≡ map g front ++ p e ∷ map p rest
     at_hand stays = here ∙ ap (λ (ys : List PlainEvent). map g front ++ map p ys) (filter_kept keep e (drop (suc k) events) stays)
 
     -- one that has become it already
-    pub step_same : g e ≡ p e → so_far k events ≡ so_far (suc k) events
+    pub step_same : g e ≡ p e → so_far keep p g k events ≡ so_far keep p g (suc k) events
     step_same same = elim (cases_Bool (keep e)) [
       | inl stays ↦
           at_hand stays ∙ ap (λ (x : PlainEvent). map g front ++ x ∷ map p rest) (sym same) ∙ kept_further stays
@@ -140,16 +138,16 @@ module _ (keep : PlainEvent → Bool) (p g : PlainEvent → PlainEvent) where
           ∙ absent_mapped g g_id (id_of e) front (absent_filtered keep (id_of e) (take k events) before)
 
       -- it is found
-      pub step_found : find_event (id_of e) (so_far k events) ≡ Some (p e)
+      pub step_found : find_event (id_of e) (so_far keep p g k events) ≡ Some (p e)
       step_found =
-          ap (λ id. find_event id (so_far k events)) (sym (p_id e))
+          ap (λ id. find_event id (so_far keep p g k events)) (sym (p_id e))
           ∙ ap (find_event (id_of (p e))) (at_hand stays)
           ∙ find_after (map g front) (map p rest) (p e) absent
 
       -- and changed
-      pub step_changed : (f : PlainEvent → PlainEvent) → f (p e) ≡ g e → changed (id_of e) f (so_far k events) ≡ so_far (suc k) events
+      pub step_changed : (f : PlainEvent → PlainEvent) → f (p e) ≡ g e → changed (id_of e) f (so_far keep p g k events) ≡ so_far keep p g (suc k) events
       step_changed f is_g =
-          ap (λ id. changed id f (so_far k events)) (sym (p_id e))
+          ap (λ id. changed id f (so_far keep p g k events)) (sym (p_id e))
           ∙ ap (changed (id_of (p e)) f) (at_hand stays)
           ∙ changed_after f (map g front) (map p rest) (p e) absent
           ∙ ap (λ (x : PlainEvent). map g front ++ x ∷ map p rest) is_g

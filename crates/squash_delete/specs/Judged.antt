@@ -1,5 +1,5 @@
 -- What is left before it is settled, and the limits of it.
-use Rattle.std.specs.Prelude.{ℕ, ◌≡◌, ◌<◌, Bool, true, false, not, List, length, map, nat_lt, Option, Some, None, slice_get, if◌then◌else◌}
+use Rattle.std.specs.Prelude.{ℕ, ◌≡◌, ◌<◌, ◌≤◌, Bool, true, false, not, List, length, map, nat_lt, Option, Some, None, slice_get, if◌then◌else◌}
 use Rattle.plain_model.specs.declared.id.AnyId.{AnyId}
 use Rattle.plain_model.specs.declared.limit.TheConstants.{MAX_ALIASES, MAX_EVENTS, MAX_OPERATIONS, MAX_PARENTS}
 use Rattle.plain_model.specs.declared.fault.Fault.{Fault}
@@ -8,11 +8,14 @@ use Rattle.plain_model.specs.declared.fault.Which.TheVariants as limit
 use Rattle.plain_model.specs.declared.event.PlainEvent.{PlainEvent}
 use Rattle.plain_model.specs.Histories.{nodes}
 use Rattle.plain_model.specs.Lookups.{alias_count}
+use Rattle.event_arena.specs.Graphs.{Change}
 use Rattle.history_laws.specs.FirstParents.{ops_along}
 use Rattle.edit_laws.specs.Sweeping.{swept}
 use Rattle.graph_walk.specs.Expansions.{AreFew, parent_changes}
 use Rattle.squash_laws.specs.Removed.{Takings, parents_after}
 use Rattle.squash_delete.specs.Leaving.{event_after, staying}
+use Rattle.squash_delete.specs.declared.counting.Left.{Left}
+use Rattle.squash_delete.specs.declared.counting.Left.TheVariants.{All, ManyOperations}
 
 -- some commit gets more parents than a commit can have
 abbrev pub AreMany : List (ℕ × List ℕ) → Type 0
@@ -37,3 +40,15 @@ limit_passed few left =
     else if not few then Some (fault.Limit limit.Parents MAX_PARENTS)
     else if nat_lt MAX_ALIASES (alias_count left) then Some (fault.Limit limit.Aliases MAX_ALIASES)
     else None
+
+-- the first limit that is passed by what is left
+abbrev pub judged : Left → List PlainEvent → Option Fault
+judged (All few) left = limit_passed few left
+judged ManyOperations left = Some (fault.Limit limit.Operations MAX_OPERATIONS)
+
+-- What a plan leaves: all is left in it, or there are too many operations and not too many events.
+abbrev pub IsLeftOf : List AnyId → List PlainEvent → Takings → Change → Left → Change → Type 0
+IsLeftOf set events takes old (All few) new = (new ≡ record old { after = new.after }) × IsLeft set events takes few new.after
+IsLeftOf set events takes old ManyOperations new =
+    (few : Bool) × (left : List PlainEvent) × IsLeft set events takes few left
+    × (length left ≤ MAX_EVENTS) × (MAX_OPERATIONS < length (ops_along (nodes left)))

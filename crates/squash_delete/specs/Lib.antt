@@ -1,5 +1,13 @@
+pub mod Backing
+pub mod Chains
 pub mod Flags
+pub mod Hangings
 pub mod Judged
 pub mod Leaving
+pub mod Passes
 pub mod Removing
+pub mod Sources
+pub mod Tables
+pub mod Taking
 pub mod Targets
+pub mod Ways

@@ -4,6 +4,8 @@ use Rattle.plain_model.specs.declared.id.AnyId.{AnyId}
 use Rattle.plain_model.specs.declared.event.PlainEvent.{PlainEvent}
 use Rattle.plain_model.specs.declared.event.PlainEvent.TheVariants.{Blob, Commit, Tag, Reset, Pass}
 use Rattle.squash_laws.specs.Removed.{is_removed}
+use Rattle.squash_laws.specs.Squash.{moved}
+use Rattle.squash_laws.specs.declared.policy.Lean.{Lean}
 
 -- where a tag or a reset goes, from where a commit's go
 abbrev pub target_for : (ℕ → Option ℕ) → PlainEvent → Option ℕ
@@ -18,6 +20,10 @@ target_for goes_to (Pass id line) = None
 pub record AreTargets (goes_to : ℕ → Option ℕ) (events : List PlainEvent) (table : List (Option ℕ)) : Type 0 where
   pub count : length table ≡ length events
   pub target : (k : ℕ) (e : PlainEvent) → slice_get events k ≡ Some e → slice_index_or table k None ≡ target_for goes_to e
+
+-- those of removed commits move, the way to which they lean first
+abbrev pub moving : List AnyId → List PlainEvent → Lean → ℕ → Option ℕ
+moving set events tags c = if is_removed set c then moved set events tags c else Some c
 
 -- those of removed commits go nowhere
 abbrev pub discarded : List AnyId → ℕ → Option ℕ

@@ -1,16 +1,23 @@
-//! The plan of a deletion: commits are removed, and those that stay keep their operations. Read in this order: `removal`,
-//! `targets`, `leaving` (which events go), `parents`, `sweeping` (blobs), `counting` (limits), `squashing`.
+//! The plan of a squash: commits are removed, and those that stay take over what they had, or don't. Read in this order:
+//! `removal`, `ways` and `targets` (tags and resets), `leaving` (which events go), `parents`, `chains` and `hangings` (what
+//! is taken over, forward and back), `taking`, `moving`, `sweeping` (blobs), `counting` (limits), `backing`, `squashing`.
 #![tactic(auto)]
 
+mod backing;
+mod chains;
 mod counting;
+mod hangings;
 mod leaving;
+mod moving;
 mod parents;
 mod removal;
 mod squashing;
 mod sweeping;
+mod taking;
 mod targets;
 #[cfg(test)]
 mod tests;
+mod ways;
 
-pub use squashing::delete;
+pub use squashing::squash;
 pub use sweeping::sweep;

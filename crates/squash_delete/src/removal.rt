@@ -1,7 +1,7 @@
 //! What a squash removes from a history.
 ghost use Rattle.std.specs.Prelude.{◌≡◌, ◌<◌, Some, false, length, replicate, slice_get, IfOk, IsSome};
 ghost use Rattle.graph_walk.specs.Flags.{FlagsOf};
-ghost use Rattle.plain_model.specs.Lookups.{find_event, id_of, is_listed};
+ghost use Rattle.plain_model.specs.Lookups.{event_parents, find_event, id_of, is_listed, place_of};
 ghost use Rattle.plain_model.specs.Soundness.{IsSound};
 ghost use Rattle.plain_model.specs.declared.id.AnyId.TheVariants.{Commit};
 ghost use Rattle.squash_laws.specs.Removed.{is_removed};
@@ -10,6 +10,16 @@ use event_arena::Events;
 use plain_model::{AnyId, CommitId, IdList, NoMemory, PlainEvent};
 use std::alloc::Global;
 use std::marker::Model;
+
+/// The parents of an event; none where it is no commit.
+pub fn parents_of(event: &PlainEvent) -> &[CommitId]
+    ensures { result.now ≡ event_parents event.now }
+{
+    match event {
+        PlainEvent::Commit { parents, .. } => parents.as_slice(),
+        _ => &[],
+    }
+}
 
 // No flag at any place.
 fn no_flags(alloc: Global, events: &Events) -> Result<Vec<bool>, NoMemory>
@@ -107,6 +117,16 @@ impl<'a> Removal<'a> {
             result ≡ is_listed (id_of event) self.now.set }
     {
         self.flags[place]
+    }
+
+    /// The place of a commit.
+    pub fn place(&self, commit: CommitId) -> usize
+        requires { IsSome (find_event (Commit commit) self.now.events) }
+        ensures place { place_of (Commit commit) self.now.events ≡ Some result }
+        ensures within { result < length self.now.events }
+    {
+        let _count = self.events.count();
+        self.events.place(AnyId::Commit(commit)).unwrap()
     }
 
     /// Whether a commit is one of the set.

@@ -1,28 +1,30 @@
-//! The plan of a deletion.
+//! The plan of a squash.
 ghost use Rattle.std.specs.Prelude.{◌≡◌, length, map, IfOk, MatchOption, OnOk};
-ghost use Rattle.edit_laws.specs.Sweeping.{swept};
 ghost use Rattle.graph_walk.specs.Expansions.{AreFew, parent_changes};
 ghost use Rattle.manifest_cache.specs.Kept.{AgreesWith};
 ghost use Rattle.plain_model.specs.Faults.{Returns};
+ghost use Rattle.plain_model.specs.Histories.{IsLinkedPast, past};
 ghost use Rattle.plain_model.specs.Soundness.{IsSound};
-ghost use Rattle.squash_delete.specs.Judged.{AreMany, IsLeft, ParentsAre};
+ghost use Rattle.squash_delete.specs.Judged.{AreMany, IsLeftOf, ParentsAre};
 ghost use Rattle.squash_delete.specs.Leaving.{staying, with_own_parents};
 ghost use Rattle.squash_delete.specs.Targets.{AreTargets};
-ghost use Rattle.squash_laws.specs.Faults.{delete_how, squash_of};
+ghost use Rattle.squash_laws.specs.Faults.{squash_of, trees_checked};
 ghost use Rattle.squash_laws.specs.Removed.{Takings};
 ghost use Rattle.squash_laws.specs.Squash.{takes};
 
-use crate::counting::judge;
+use crate::backing::fault_before;
+use crate::counting::{Left, judge};
 use crate::leaving::leaving;
+use crate::moving::{move_all, take_over};
 use crate::parents::give_parents;
 use crate::removal::Removal;
 use crate::sweeping::sweep;
-use crate::targets::{Targets, kept_targets};
+use crate::targets::{Targets, targets};
 use event_arena::{Events, Plan};
 use graph_walk::{ParentChanges, parent_changes, settle};
 use manifest_cache::Manifests;
-use plain_model::{AnyId, Halt, NoMemory};
-use squash_laws::a_squash_keeps_soundness;
+use plain_model::{AnyId, Halt, MAX_EVENTS, NoMemory};
+use squash_laws::{Policy, Push, a_squash_keeps_soundness};
 use std::alloc::Global;
 
 // The parents that commits get in place of removed ones, unless one gets more than a commit can have.
@@ -36,6 +38,19 @@ fn few_parents(alloc: Global, removal: &Removal) -> Result<Option<ParentChanges>
         Ok(changes) => Ok(Some(changes)),
         Err(Halt::Refused(_)) => Ok(None),
         Err(Halt::Memory) => Err(NoMemory),
+    }
+}
+
+// The trees of what is left, which only a deletion can break.
+fn check_trees(manifests: &mut Manifests, plan: &Plan, push: Push) -> Result<(), Halt>
+    requires agrees { AgreesWith plan.now.before manifests.old }
+    requires earlier { IsLinkedPast (past plan.now.after) }
+    ensures checked { Returns (λ done. done) result (trees_checked push plan.now.after) }
+    ensures kept { manifests.new ≡ manifests.old }
+{
+    match push {
+        Push::Discard => manifests.check(plan),
+        Push::Forward | Push::Back => Ok(()),
     }
 }
 
@@ -76,32 +91,41 @@ fn set_parents(alloc: Global, removal: &Removal, plan: &mut Plan) -> Result<bool
     }
 }
 
-// What a deletion leaves of a plan's list, not settled yet; answers whether each commit gets few enough parents.
-fn leave(alloc: Global, removal: &Removal, plan: &mut Plan) -> Result<bool, NoMemory>
+// What a squash leaves of a plan's list, not settled yet. Where a history has no more events than it may have, its
+// operations are judged while they are made, since a fork can repeat them without end.
+fn leave(alloc: Global, removal: &Removal, plan: &mut Plan, how: Policy) -> Result<Left, NoMemory>
     requires after { plan.old.after ≡ removal.now.events }
     requires before { plan.old.before ≡ removal.now.events }
-    ensures others { IfOk result (λ few. plan.new ≡ record plan.old { after = plan.new.after }) }
-    ensures left { IfOk result (λ few. IsLeft removal.now.set removal.now.events
-        (takes removal.now.set removal.now.events delete_how) few plan.new.after) }
+    ensures { IfOk result (λ left. IsLeftOf removal.now.set removal.now.events
+        (takes removal.now.set removal.now.events how) plan.old left plan.new) }
 {
-    let targets = kept_targets(alloc, removal)?;
+    let targets = targets(alloc, removal, how)?;
     take_away(alloc, plan, removal, &targets)?;
     let few = set_parents(alloc, removal, plan)?;
+    let bounded = removal.count() as u64 <= MAX_EVENTS;
+    let whole = take_over(alloc, removal, plan, how.push, bounded)?;
+    if !whole {
+        return Ok(Left::ManyOperations);
+    }
+    move_all(removal, plan, &targets)?;
     sweep(alloc, plan)?;
-    Ok(few)
+    Ok(Left::All { few })
 }
 
-/// The plan that removes the commits, tags, resets and passed lines of a set, with what tags and resets are on its
-/// commits. Commits that stay keep their operations and comments, and have what stands for their parents. Refused by the
-/// first limit that is passed, or the first operation that a tree refuses. (reposurgeon manual, `delete`.)
-pub fn delete(
+/// The plan that removes the commits, tags, resets and passed lines of a set. Operations and comments of its commits go
+/// forward to those that hang on them by first parents, back to the one that they hang on, or nowhere; tags and resets of
+/// them move, or go with discarded commits; commits that stay have what stands for their parents. Refused by the first
+/// commit that can't be pushed back, the first limit that is passed, or, after a deletion, the first operation that a tree
+/// refuses. (reposurgeon manual, `squash`.)
+pub fn squash(
     alloc: Global,
     events: &Events,
     manifests: &mut Manifests,
     set: &[AnyId],
+    how: Policy,
 ) -> Result<Plan, Halt>
     requires { AgreesWith events.now.list manifests.old }
-    ensures answer { Returns (λ plan. plan.after) result (squash_of delete_how set.now events.now.list) }
+    ensures answer { Returns (λ plan. plan.after) result (squash_of how set.now events.now.list) }
     ensures before { IfOk result (λ plan. plan.before ≡ events.now.list) }
     ensures made_at { IfOk result (λ plan. plan.made_at ≡ events.now.next_id) }
     ensures next { IfOk result (λ plan. plan.next ≡ events.now.next_id) }
@@ -110,15 +134,18 @@ pub fn delete(
 {
     let _count = events.count();
     let removal = Removal::new(alloc, events, set)?;
+    if let Some(fault) = fault_before(alloc, &removal, how.push)? {
+        return Err(Halt::Refused(fault));
+    }
     let mut plan = Plan::new(alloc, events)?;
-    let few = leave(alloc, &removal, &mut plan)?;
-    if let Err(fault) = judge(&plan, few) {
+    let left = leave(alloc, &removal, &mut plan, how)?;
+    if let Err(fault) = judge(&plan, left) {
         return Err(Halt::Refused(fault));
     }
     if let Err(halt) = settle(alloc, &mut plan) {
         return Err(halt);
     }
-    if let Err(halt) = manifests.check(&plan) {
+    if let Err(halt) = check_trees(manifests, &plan, how.push) {
         return Err(halt);
     }
     a_squash_keeps_soundness();

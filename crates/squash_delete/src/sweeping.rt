@@ -38,8 +38,8 @@ fn blob_of(op: &FileOp) -> Option<AnyId>
     }
 }
 
-// The operations of an event; none where it is no commit.
-fn ops_of(event: &PlainEvent) -> &[FileOp]
+/// The operations of an event; none where it is no commit.
+pub fn ops_of(event: &PlainEvent) -> &[FileOp]
     ensures { result.now ≡ event_ops event.now }
 {
     match event {

@@ -1,34 +1,52 @@
-use Rattle.std.proofs.Common.{◌∙◌, List, ap}
+use Rattle.std.proofs.Common.{◌∙◌, Bool, List, map, arith, ap, subst, sym}
+use Rattle.std.specs.Prelude.{nat_le}
 use Rattle.plain_model.specs.declared.event.PlainEvent.{PlainEvent}
+use Rattle.plain_model.specs.declared.limit.TheConstants.{MAX_EVENTS}
 use Rattle.event_arena.specs.Graphs.{Change}
 use Rattle.edit_laws.specs.Sweeping.{swept}
-use Rattle.squash_laws.specs.Faults.{delete_how}
 use Rattle.squash_laws.specs.Squash.{takes}
-use Rattle.squash_delete.proofs.Answered.{deleted_same, deleted_targets}
+use Rattle.squash_delete.specs.Leaving.{event_after, staying, with_own_parents}
+use Rattle.squash_delete.specs.Sources.{Ends}
+use Rattle.squash_delete.specs.Targets.{AreTargets}
+use Rattle.squash_delete.proofs.Answered.{many_left}
 use Rattle.squash_delete.proofs.LeavingLemmas.{same_but}
+use Rattle.squash_delete.proofs.MovingLemmas.{le_of}
 use Rattle.squash_delete.proofs.squashing.leave.Goals as goal
 
-pub returns-clause-others : goal.returns-clause-others
-returns-clause-others c =
+pub returns-then-not-whole : goal.returns-then-not-whole
+returns-then-not-whole c =
     let events = c.args.removal.now.events in
     let set = c.args.removal.now.set in
-    let taking = takes set events delete_how in
-    let away = c.in_ok-take_away.ensures taking (deleted_targets set events c.in_ok-targets.targets.items c.in_ok-targets.ensures) in
-    let given = c.in_ok-few.ensures taking (ap (λ (p : Change). p.after) away) in
-    same_but c.sweep.new.plan c.take_away.new.plan c.args.plan.now _ _ (c.in_ok-sweep.ensures.swept ∙ ap (λ (p : Change). record p { after = swept p.before p.after }) given.2) away
+    let taking = takes set events c.args.how in
+    let p = c.args.plan.now in
+    let away = c.in_ok-take_away.ensures taking c.in_ok-targets.ensures in
+    let given = c.in_ok-few.ensures taking (ap (λ (q : Change). q.after) away) in
+    let was = given.2 ∙ ap (λ (q : Change). record q { after = map (with_own_parents given.0) (staying set taking events) }) away in
+    let ends = subst (λ (b : Bool). Ends set events taking given.0 (nat_le c.count.result MAX_EVENTS) p c.take_over.new.plan b) c.if-not-whole.true (c.in_ok-whole.ensures given.0 c.args.how.tags p was) in
+    let short = le_of c.count.result MAX_EVENTS ends.0 in
+    let count = c.count.ensures.count in
+    many_left set events taking given.0 c.in_ok-few.few p c.take_over.new.plan given.1 (omega arith) ends.1
 
-pub returns-clause-left : goal.returns-clause-left
-returns-clause-left c =
+pub returns : goal.returns
+returns c =
     let events = c.args.removal.now.events in
     let set = c.args.removal.now.set in
-    let taking = takes set events delete_how in
-    let away = c.in_ok-take_away.ensures taking (deleted_targets set events c.in_ok-targets.targets.items c.in_ok-targets.ensures) in
-    let given = c.in_ok-few.ensures taking (ap (λ (p : Change). p.after) away) in
-    let before = ap (λ (p : Change). p.before) given.2 ∙ ap (λ (p : Change). p.before) away ∙ c.requires.before in
-    let after = ap (λ (p : Change). p.after) given.2 ∙ deleted_same set events given.0 events in (
-      given.0,
-      given.1,
-      ap (λ (p : Change). p.after) c.in_ok-sweep.ensures.swept
-          ∙ ap (λ (es : List PlainEvent). swept es c.set_parents.new.plan.after) before
-          ∙ ap (swept events) after,
+    let taking = takes set events c.args.how in
+    let p = c.args.plan.now in
+    let away = c.in_ok-take_away.ensures taking c.in_ok-targets.ensures in
+    let given = c.in_ok-few.ensures taking (ap (λ (q : Change). q.after) away) in
+    let was = given.2 ∙ ap (λ (q : Change). record q { after = map (with_own_parents given.0) (staying set taking events) }) away in
+    let taken = subst (λ (b : Bool). Ends set events taking given.0 (nat_le c.count.result MAX_EVENTS) p c.take_over.new.plan b) c.if-not-whole.false (c.in_ok-whole.ensures given.0 c.args.how.tags p was) in
+    let moved = c.in_ok-move_all.ensures given.0 taking (subst (AreTargets taking.target events) (sym c.deref.ensures.value) c.in_ok-targets.ensures) (ap (λ (q : Change). q.after) taken) in
+    let whole = moved ∙ ap (λ (q : Change). record q { after = map (event_after given.0 taking) (staying set taking events) }) taken in
+    let before = ap (λ (q : Change). q.before) whole ∙ c.requires.before in
+    let after = ap (λ (q : Change). q.after) whole in (
+      same_but c.sweep.new.plan c.move_all.new.plan p _ _ c.in_ok-sweep.ensures.swept whole,
+      (
+        given.0,
+        given.1,
+        ap (λ (q : Change). q.after) c.in_ok-sweep.ensures.swept
+            ∙ ap (λ (es : List PlainEvent). swept es c.move_all.new.plan.after) before
+            ∙ ap (swept events) after,
+      ),
     )

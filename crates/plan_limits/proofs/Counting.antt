@@ -1,0 +1,109 @@
+-- Sums over the events of a list, counted so far.
+use Rattle.std.proofs.Common.{◌≡◌, ◌∙◌, ℕ, zero, suc, ◌+◌, ◌≤◌, ◌<◌, Bool, true, false, List, [], ◌∷◌, ◌++◌, take, drop, take-append-drop, Some, refl, sym, ap, length, arith, length-append}
+use Rattle.std.specs.List.{list_any}
+use Rattle.std.specs.Prelude.{◌||◌, nat_lt, slice_get}
+use Rattle.std.proofs.Math.Bool.{or-true}
+use Rattle.std.proofs.lemmas.List.Folds.{list_any-append}
+use Rattle.std.proofs.lemmas.Option.{none-some, same_Some}
+use Rattle.std.proofs.lemmas.Bool.Decides.{nat_tests}
+use Rattle.plain_model.specs.declared.event.PlainEvent.{PlainEvent}
+use Rattle.plain_model.specs.declared.event.PlainEvent.TheVariants.{Blob, Commit, Tag, Reset, Pass}
+use Rattle.plain_model.specs.Histories.{nodes}
+use Rattle.plain_model.specs.Lookups.{alias_count}
+use Rattle.history_laws.specs.FirstParents.{ops_along}
+use Rattle.edit_laws.specs.Parts.{tally}
+use Rattle.edit_laws.proofs.Lists.{tally_append}
+use Rattle.event_arena.proofs.ListLemmas.{take-all, take-item}
+use Rattle.plan_limits.specs.Counts.{count_of, total_of}
+use Rattle.plan_limits.specs.declared.limits.Counted.{Counted}
+use Rattle.plan_limits.specs.declared.limits.Counted.TheVariants.{Operations, Aliases}
+
+-- ---- sums
+
+abbrev pub own_ops : PlainEvent → ℕ
+own_ops e = length (ops_along (nodes (e ∷ [])))
+
+pub ops_counted : (es : List PlainEvent) → tally own_ops es ≡ length (ops_along (nodes es))
+ops_counted [] = refl
+ops_counted (Commit id mark branch author committer encoding comment parents ops aliases ∷ es) =
+    let rest = ops_counted es in
+    let own : own_ops (Commit id mark branch author committer encoding comment parents ops aliases) ≡ length ops = length-append ops [] ∙ (let z : length ops + 0 ≡ length ops = omega arith in z) in
+    let whole = length-append ops (ops_along (nodes es)) in
+    omega arith
+ops_counted (Blob id mark bytes ∷ es) = let rest = ops_counted es in omega arith
+ops_counted (Tag id name target tagger comment mark ∷ es) = let rest = ops_counted es in omega arith
+ops_counted (Reset id branch target ∷ es) = let rest = ops_counted es in omega arith
+ops_counted (Pass id line ∷ es) = let rest = ops_counted es in omega arith
+
+abbrev pub own_aliases : PlainEvent → ℕ
+own_aliases e = alias_count (e ∷ [])
+
+pub aliases_counted : (es : List PlainEvent) → tally own_aliases es ≡ alias_count es
+aliases_counted [] = refl
+aliases_counted (Commit id mark branch author committer encoding comment parents ops aliases ∷ es) = let rest = aliases_counted es in omega arith
+aliases_counted (Blob id mark bytes ∷ es) = let rest = aliases_counted es in omega arith
+aliases_counted (Tag id name target tagger comment mark ∷ es) = let rest = aliases_counted es in omega arith
+aliases_counted (Reset id branch target ∷ es) = let rest = aliases_counted es in omega arith
+aliases_counted (Pass id line ∷ es) = let rest = aliases_counted es in omega arith
+
+-- one event more, and no more than all
+pub tally_item : (f : PlainEvent → ℕ) (es : List PlainEvent) (k : ℕ) (e : PlainEvent) → slice_get es k ≡ Some e →
+    tally f (take (suc k) es) ≡ tally f (take k es) + f e
+tally_item f es k e at =
+    let more : tally f (take (suc k) es) ≡ tally f (take k es ++ e ∷ []) = ap (tally f) (take-item es k e at) in
+    let both = tally_append f (take k es) (e ∷ []) in
+    omega arith
+
+pub tally_less : (f : PlainEvent → ℕ) (es : List PlainEvent) (k : ℕ) → tally f (take k es) ≤ tally f es
+tally_less f es k =
+    let parts : tally f (take k es ++ drop k es) ≡ tally f es = ap (tally f) (take-append-drop k es) in
+    let both = tally_append f (take k es) (drop k es) in
+    omega arith
+
+pub more_than : (most n : ℕ) → most < n → nat_lt most n ≡ true
+more_than most n h = grind (arith, nat_tests)
+
+pub not_more : (most n : ℕ) → n ≤ most → nat_lt most n ≡ false
+not_more most n h = grind (arith, nat_tests)
+
+-- counted so far, and the next event passes the limit, or it doesn't
+module _ (f : PlainEvent → ℕ) (count : List PlainEvent → ℕ) (counted : (es : List PlainEvent) → tally f es ≡ count es) (most : ℕ) where
+  pub count_more : (es : List PlainEvent) (k total more : ℕ) (e : PlainEvent) → slice_get es k ≡ Some e → total ≡ count (take k es) → more ≡ f e →
+      total + more ≡ count (take (suc k) es)
+  count_more es k total more e at so_far own =
+      let item = tally_item f es k e at in
+      let old = counted (take k es) in
+      let new = counted (take (suc k) es) in
+      omega arith
+
+  pub count_passed : (es : List PlainEvent) (k total more : ℕ) (e : PlainEvent) → slice_get es k ≡ Some e → total ≡ count (take k es) → more ≡ f e →
+      most < total + more → true ≡ nat_lt most (count es)
+  count_passed es k total more e at so_far own passed =
+      let now = count_more es k total more e at so_far own in
+      let new = counted (take (suc k) es) in
+      let less = tally_less f es (suc k) in
+      let whole = counted es in
+      sym (more_than most (count es) (omega arith))
+
+  pub count_within : (es : List PlainEvent) (k total : ℕ) → length es ≤ k → total ≡ count (take k es) → total ≤ most → false ≡ nat_lt most (count es)
+  count_within es k total all so_far low =
+      let same : count (take k es) ≡ count es = ap count (take-all es k all) in
+      sym (not_more most (count es) (omega arith))
+
+-- each of the two is a sum
+pub totals : (what : Counted) (es : List PlainEvent) → tally (count_of what) es ≡ total_of what es
+totals Operations es = ops_counted es
+totals Aliases es = aliases_counted es
+
+-- ---- whether an event passes a test
+
+pub any_item : (test : PlainEvent → Bool) (es : List PlainEvent) (k : ℕ) (e : PlainEvent) → slice_get es k ≡ Some e → test e ≡ true → list_any test es ≡ true
+any_item test [] k e at it = absurd (none-some e at)
+any_item test (x ∷ es) zero e at it = ap (λ b. b || list_any test es) (ap test (same_Some x e at) ∙ it)
+any_item test (x ∷ es) (suc k) e at it = ap (λ b. test x || b) (any_item test es k e at it) ∙ or-true (test x)
+
+pub none_item : (test : PlainEvent → Bool) (es : List PlainEvent) (k : ℕ) (e : PlainEvent) → slice_get es k ≡ Some e →
+    list_any test (take k es) ≡ false → test e ≡ false → list_any test (take (suc k) es) ≡ false
+none_item test es k e at none own =
+    ap (list_any test) (take-item es k e at) ∙ list_any-append test (take k es) (e ∷ [])
+    ∙ ap (λ b. b || (test e || false)) none ∙ ap (λ b. b || false) own

@@ -1,0 +1,75 @@
+-- Operations and comments that are taken over, and how a plan goes on while they are.
+use Rattle.std.proofs.Common.{◌≡◌, ◌∙◌, true, cond, inl, inr, List, [], ◌∷◌, ◌++◌, Some, refl, sym, ap, append_assoc}
+use Rattle.std.proofs.lemmas.Bool.{cases_Bool}
+use Rattle.std.specs.Prelude.{IsSome, is_some}
+use Rattle.plain_model.specs.declared.id.AnyId.{AnyId}
+use Rattle.plain_model.specs.declared.operation.FileOp.{FileOp}
+use Rattle.plain_model.specs.declared.event.PlainEvent.{PlainEvent}
+use Rattle.plain_model.specs.declared.event.PlainEvent.TheVariants.{Blob, Commit, Tag, Reset, Pass}
+use Rattle.plain_model.specs.Lookups.{find_event, id_of, same_id}
+use Rattle.plain_model.specs.Paths.{Bytes}
+use Rattle.event_arena.specs.Changes.{changed, with_ops}
+use Rattle.squash_laws.specs.Comments.{joined, joined_two}
+
+-- ---- comments
+
+joined_nil : (a : Bytes) → joined_two a [] ≡ a
+joined_nil [] = refl
+joined_nil (x ∷ a) = refl
+
+joined_three : (a b c : Bytes) → joined_two a (joined_two b c) ≡ joined_two (joined_two a b) c
+joined_three [] b c = refl
+joined_three (x ∷ a) [] c = refl
+joined_three (x ∷ a) (y ∷ b) [] = refl
+joined_three (x ∷ a) (y ∷ b) (z ∷ c) = ap (λ l. x ∷ l) (sym (append_assoc a (10 ∷ y ∷ b) (10 ∷ z ∷ c)))
+
+-- one comment more
+pub joined_push : (xs : List Bytes) (c : Bytes) → joined (xs ++ c ∷ []) ≡ joined_two (joined xs) c
+joined_push [] c = joined_nil c
+joined_push (x ∷ xs) c = ap (joined_two x) (joined_push xs c) ∙ joined_three x (joined xs) c
+
+-- and some more
+pub joined_more : (xs ys : List Bytes) → joined (joined xs ∷ ys) ≡ joined (xs ++ ys)
+joined_more [] ys = refl
+joined_more (x ∷ xs) ys = sym (joined_three x (joined xs) (joined ys)) ∙ ap (joined_two x) (joined_more xs ys)
+
+-- a comment more after a text
+pub joined_step : (text : Bytes) (xs : List Bytes) (c : Bytes) → joined_two (joined_two text (joined xs)) c ≡ joined_two text (joined (xs ++ c ∷ []))
+joined_step text xs c = sym (joined_three text (joined xs) c) ∙ ap (joined_two text) (sym (joined_push xs c))
+
+-- those before, its own and those after
+pub joined_all : (before : List Bytes) (own : Bytes) (after : List Bytes) →
+    joined (joined_two (joined before) own ∷ after) ≡ joined (before ++ own ∷ after)
+joined_all before own after =
+    ap (λ x. joined (x ∷ after)) (sym (joined_push before own)) ∙ joined_more (before ++ own ∷ []) after
+    ∙ ap joined (append_assoc before (own ∷ []) after)
+
+-- ---- two changes of one event
+
+pub changed_twice : (id : AnyId) (f g : PlainEvent → PlainEvent) → ((e : PlainEvent) → id_of (g e) ≡ id_of e) → (es : List PlainEvent) →
+    changed id f (changed id g es) ≡ changed id (λ e. f (g e)) es
+changed_twice id f g same [] = refl
+changed_twice id f g same (e ∷ es) = elim (cases_Bool (same_id id (id_of e))) [
+  | inl it ↦
+      let still : same_id id (id_of (g e)) ≡ true = ap (same_id id) (same e) ∙ it in
+      rw (it, still) refl
+  | inr no_it ↦ rw (no_it, no_it) (ap (λ l. e ∷ l) (changed_twice id f g same es))
+]
+
+-- a changed event is there still
+pub changed_there : (id : AnyId) (g : PlainEvent → PlainEvent) → ((e : PlainEvent) → id_of (g e) ≡ id_of e) → (es : List PlainEvent) →
+    IsSome (find_event id es) → IsSome (find_event id (changed id g es))
+changed_there id g same [] there = there
+changed_there id g same (e ∷ es) there = elim (cases_Bool (same_id id (id_of e))) [
+  | inl it ↦
+      let still : same_id id (id_of (g e)) ≡ true = ap (same_id id) (same e) ∙ it in
+      rw (it, still) refl
+  | inr no_it ↦ rw (no_it, no_it) (changed_there id g same es (sym (ap (λ b. is_some (cond b (Some e) (find_event id es))) no_it) ∙ there))
+]
+
+pub ops_id : (ops : List FileOp) (e : PlainEvent) → id_of (with_ops ops e) ≡ id_of e
+ops_id ops (Commit id mark branch author committer encoding comment parents old aliases) = refl
+ops_id ops (Blob id mark bytes) = refl
+ops_id ops (Tag id name target tagger comment mark) = refl
+ops_id ops (Reset id branch target) = refl
+ops_id ops (Pass id line) = refl

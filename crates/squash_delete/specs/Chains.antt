@@ -1,0 +1,72 @@
+-- The removed commits before a commit, by first parents, of which those without operations and comment are passed over.
+use Rattle.std.specs.Prelude.{ℕ, ◌≡◌, ◌≤◌, false, List, [], ◌∷◌, ◌++◌, length, map, flat_map, take, Option, Some, None, unwrap_or}
+use Rattle.std.specs.List.{AllByRecursion}
+use Rattle.std.specs.Option.{option_map_or}
+use Rattle.plain_model.specs.declared.id.AnyId.{AnyId}
+use Rattle.plain_model.specs.declared.id.AnyId.TheVariants as any
+use Rattle.plain_model.specs.declared.operation.FileOp.{FileOp}
+use Rattle.plain_model.specs.declared.event.PlainEvent.{PlainEvent}
+use Rattle.plain_model.specs.Histories.{past}
+use Rattle.plain_model.specs.Lookups.{event_parents, find_event, number_of}
+use Rattle.plain_model.specs.Paths.{Bytes}
+use Rattle.plain_model.specs.Soundness.{IsCommitOf}
+use Rattle.history_laws.specs.FirstParents.{ops_along}
+use Rattle.edit_laws.specs.Removal.{expand}
+use Rattle.manifest_cache.specs.Walks.{commit_id, ops_at}
+use Rattle.squash_laws.specs.Comments.{comment_of, joined}
+use Rattle.squash_laws.specs.Removed.{is_removed}
+use Rattle.squash_laws.specs.Squash.{comments_of, is_from_root, is_none, links}
+use Rattle.squash_delete.specs.declared.chains.Link.{Link}
+use Rattle.squash_delete.specs.Tables.{IsTableTo}
+
+-- the parents of the commit with the id
+abbrev pub parents_at : List PlainEvent → ℕ → List ℕ
+parents_at events c = option_map_or event_parents (find_event (any.Commit c) events) []
+
+-- its number in the list, from 1, and 0 for one that isn't there
+abbrev pub depth : List PlainEvent → ℕ → ℕ
+depth events c = unwrap_or (number_of (any.Commit c) events) 0
+
+-- the commits are earlier than so many events
+abbrev pub AreBefore : List PlainEvent → ℕ → List ℕ → Type 0
+AreBefore events k commits = AllByRecursion (IsCommitOf (take k events)) commits
+
+-- nothing is noted of a commit that stays
+abbrev pub no_link : Link
+no_link = record { nearest = None; from_root = false; is_over = false }
+
+module _ (set : List AnyId) (events : List PlainEvent) where
+  -- what a removed commit brings along: first what those before it bring
+  abbrev pub ops_to : Option ℕ → List FileOp
+  ops_to None = []
+  ops_to (Some d) = ops_along (links set events (parents_at events d)) ++ ops_at events d
+
+  abbrev pub comments_to : Option ℕ → List Bytes
+  comments_to None = []
+  comments_to (Some d) = comments_of set events (links set events (parents_at events d)) ++ comment_of events d ∷ []
+
+  -- the removed commits before one with these parents bring along what this commit does, which is one of so many events
+  pub record IsNearest (most : ℕ) (parents : List ℕ) (nearest : Option ℕ) : Type 0 where
+    pub ops : ops_along (links set events parents) ≡ ops_to nearest
+    pub comments : (more : List Bytes) →
+        joined (comments_of set events (links set events parents) ++ more) ≡ joined (comments_to nearest ++ more)
+    pub there : (d : ℕ) → nearest ≡ Some d → (1 ≤ depth events d) × (depth events d ≤ most)
+
+  -- what is noted of a commit
+  pub record Notes (c : ℕ) (link : Link) : Type 0 where
+    pub nearest : IsNearest (depth events c) (c ∷ []) link.nearest
+    pub from_root : link.from_root ≡ is_from_root (links set events (c ∷ []))
+    pub is_over : link.is_over ≡ is_none (expand (is_removed set) (past events) c)
+
+  abbrev pub LinkIs : PlainEvent → Link → Type 0
+  LinkIs e link = (c : ℕ) → commit_id e ≡ Some c → Notes c link
+
+  -- notes of the first commits
+  abbrev pub AreLinks : List Link → Type 0
+  AreLinks table = IsTableTo no_link LinkIs events (length table) table
+
+  -- these commits, the oldest first, have the operations and comments of the removed ones before a commit with these parents
+  pub record Carry (parents commits : List ℕ) : Type 0 where
+    pub ops : ops_along (links set events parents) ≡ flat_map (ops_at events) commits
+    pub comments : (more : List Bytes) →
+        joined (comments_of set events (links set events parents) ++ more) ≡ joined (map (comment_of events) commits ++ more)

@@ -1,0 +1,226 @@
+//! The removed commits before a commit, by first parents.
+ghost use Rattle.std.specs.Prelude.{
+  ◌≡◌,
+  ◌<◌,
+  ◌-◌,
+  ◌&&◌,
+  ◌||◌,
+  Some,
+  length,
+  not,
+  slice_get,
+  slice_index_or,
+  take,
+  IfOk,
+};
+ghost use Rattle.edit_laws.specs.Removal.{expand_all};
+ghost use Rattle.plain_model.specs.Histories.{past};
+ghost use Rattle.plain_model.specs.Soundness.{IsCommitOf};
+ghost use Rattle.squash_delete.specs.Chains.{
+  AreBefore,
+  AreLinks,
+  Carry,
+  IsNearest,
+  LinkIs,
+  Notes,
+  depth,
+  no_link,
+  parents_at,
+};
+ghost use Rattle.squash_laws.specs.Removed.{is_removed};
+ghost use Rattle.squash_laws.specs.Squash.{is_from_root, is_none, links};
+
+use crate::removal::{Removal, parents_of};
+use plain_model::{AnyId, CommitId, FileOp, NoMemory, PlainEvent};
+use std::alloc::Global;
+
+/// What is noted of a removed commit: the nearest one that has operations or a comment, itself or on the way down by first
+/// parents as long as they are removed; whether that way ends at a root; and whether nothing stands for it.
+#[derive(Clone, Copy)]
+pub struct Link {
+    nearest: Option<CommitId>,
+    from_root: bool,
+    is_over: bool,
+}
+
+// What is noted at a place.
+fn entry(table: &[Link], place: usize) -> Link
+    requires { place < length table.now }
+    ensures { result ≡ slice_index_or table.now place no_link }
+{
+    table[place]
+}
+
+// What is noted of an earlier commit.
+fn link_of(removal: &Removal, table: &[Link], commit: CommitId) -> Link
+    requires table { AreLinks removal.now.set removal.now.events table.now }
+    requires earlier { IsCommitOf (take (length table.now) removal.now.events) commit }
+    ensures { Notes removal.now.set removal.now.events commit result }
+{
+    let _count = removal.count();
+    entry(table, removal.place(commit))
+}
+
+// The nearest before a commit with these parents.
+fn nearest(removal: &Removal, table: &[Link], parents: &[CommitId]) -> Option<CommitId>
+    requires table { AreLinks removal.now.set removal.now.events table.now }
+    requires before { AreBefore removal.now.events (length table.now) parents.now }
+    ensures { (most : _) → AreBefore removal.now.events most parents.now →
+        IsNearest removal.now.set removal.now.events most parents.now result }
+{
+    let _count = removal.count();
+    let parent = parents.first()?;
+    link_of(removal, table, *parent).nearest
+}
+
+// Whether the removed commits before one with these parents begin at a root.
+fn are_from_root(removal: &Removal, table: &[Link], parents: &[CommitId]) -> bool
+    requires table { AreLinks removal.now.set removal.now.events table.now }
+    requires before { AreBefore removal.now.events (length table.now) parents.now }
+    ensures { result ≡ is_from_root (links removal.now.set removal.now.events parents.now) }
+{
+    match parents.first() {
+        Some(parent) => link_of(removal, table, *parent).from_root,
+        None => false,
+    }
+}
+
+// Whether nothing stands for these parents.
+fn are_over(removal: &Removal, table: &[Link], parents: &[CommitId]) -> bool
+    requires table { AreLinks removal.now.set removal.now.events table.now }
+    requires before { AreBefore removal.now.events (length table.now) parents.now }
+    ensures { result
+        ≡ is_none (expand_all (is_removed removal.now.set) (past removal.now.events) parents.now) }
+{
+    for parent in parents {
+        if !link_of(removal, table, *parent).is_over {
+            return false;
+        }
+    }
+    true
+}
+
+// Whether the way down from a removed commit with these parents ends at a root: it is one, or those before it begin at one.
+fn ends_at_root(removal: &Removal, table: &[Link], parents: &[CommitId]) -> bool
+    requires table { AreLinks removal.now.set removal.now.events table.now }
+    requires before { AreBefore removal.now.events (length table.now) parents.now }
+    ensures { result ≡ (is_none parents.now || is_from_root (links removal.now.set removal.now.events parents.now)) }
+{
+    parents.is_empty() || are_from_root(removal, table, parents)
+}
+
+// Whether a commit brings nothing along.
+fn is_idle(ops: &[FileOp], comment: &[u8]) -> bool
+    ensures { result ≡ (is_none ops.now && is_none comment.now) }
+{
+    ops.is_empty() && comment.is_empty()
+}
+
+// Nothing is noted.
+fn no_link() -> Link
+    ensures { result ≡ no_link }
+{
+    Link {
+        nearest: None,
+        from_root: false,
+        is_over: false,
+    }
+}
+
+// What is noted of the commit at a place.
+fn link_at(removal: &Removal, table: &[Link], place: usize) -> Link
+    requires place { place < length removal.now.events }
+    requires table { AreLinks removal.now.set removal.now.events table.now }
+    requires next { length table.now ≡ place }
+    ensures { (event : _) → slice_get removal.now.events place ≡ Some event →
+        LinkIs removal.now.set removal.now.events event result }
+{
+    let _count = removal.count();
+    if !removal.has_at(place) {
+        return no_link();
+    }
+    let event = removal.nth(place);
+    let PlainEvent::Commit {
+        id,
+        ops,
+        comment,
+        ..
+    } = event
+    else {
+        return no_link();
+    };
+    let parents = parents_of(event);
+    let nearest = if is_idle(ops.as_slice(), comment.as_slice()) {
+        nearest(removal, table, parents)
+    } else {
+        Some(*id)
+    };
+    Link {
+        nearest,
+        from_root: ends_at_root(removal, table, parents),
+        is_over: are_over(removal, table, parents),
+    }
+}
+
+/// What is noted of all commits, in one pass.
+pub fn links(alloc: Global, removal: &Removal) -> Result<Vec<Link>, NoMemory>
+    ensures count { IfOk result (λ table. length table.items ≡ length removal.now.events) }
+    ensures links { IfOk result
+        (λ table. AreLinks removal.now.set removal.now.events table.items) }
+{
+    let mut table = Vec::with_capacity(alloc, removal.count())?;
+    for place in 0..removal.count() {
+        let link = link_at(removal, &table, place);
+        table.push(link)?;
+    }
+    Ok(table)
+}
+
+// The nearest before a removed commit.
+fn nearest_before(removal: &Removal, table: &[Link], commit: CommitId) -> Option<CommitId>
+    requires count { length table.now ≡ length removal.now.events }
+    requires table { AreLinks removal.now.set removal.now.events table.now }
+    ensures { IsNearest removal.now.set removal.now.events
+        (depth removal.now.events commit - 1)
+        (parents_at removal.now.events commit) result }
+{
+    let _count = removal.count();
+    match removal.events().event(AnyId::Commit(commit)) {
+        Some(event) => nearest(removal, table, parents_of(event)),
+        None => None,
+    }
+}
+
+/// The removed commits before one with these parents that have operations or a comment, the oldest first.
+pub fn carried(
+    alloc: Global,
+    removal: &Removal,
+    table: &[Link],
+    parents: &[CommitId],
+) -> Result<Vec<CommitId>, NoMemory>
+    requires count { length table.now ≡ length removal.now.events }
+    requires table { AreLinks removal.now.set removal.now.events table.now }
+    requires before { AreBefore removal.now.events (length table.now) parents.now }
+    ensures { IfOk result
+        (λ commits. Carry removal.now.set removal.now.events parents.now commits.items) }
+{
+    let mut commits = Vec::new(alloc);
+    let mut at = nearest(removal, table, parents);
+    while let Some(commit) = at {
+        commits.push(commit)?;
+        at = nearest_before(removal, table, commit);
+    }
+    commits.reverse();
+    Ok(commits)
+}
+
+/// Whether a commit with these parents has to begin without files: the removed commits before it begin at a root, and it
+/// keeps a parent.
+pub fn begins_anew(removal: &Removal, table: &[Link], parents: &[CommitId]) -> bool
+    requires table { AreLinks removal.now.set removal.now.events table.now }
+    requires before { AreBefore removal.now.events (length table.now) parents.now }
+    ensures { result ≡ (is_from_root (links removal.now.set removal.now.events parents.now)
+        && not (is_none (expand_all (is_removed removal.now.set) (past removal.now.events) parents.now))) }
+{
+    are_from_root(removal, table, parents) && !are_over(removal, table, parents)
+}
