@@ -1,0 +1,38 @@
+//! Laws of a split. Each function's contract is one, and its body is empty. The commit is there, and no commit has the id of the
+//! copy.
+ghost use Rattle.std.specs.Prelude.{◌≡◌, ◌∷◌, ℕ, [], List, Ok, IsFalse};
+ghost use Rattle.plain_model.specs.declared.event.PlainEvent.{PlainEvent};
+ghost use Rattle.plain_model.specs.declared.id.AnyId.TheVariants as any;
+ghost use Rattle.plain_model.specs.Paths.{Bytes};
+ghost use Rattle.plain_model.specs.Soundness.{IsCommitOf, IsSound, has_id};
+ghost use Rattle.edit_laws.specs.Passing.{IsWithinLimits};
+ghost use Rattle.split_laws.specs.Split.{split_at_of, split_by_of};
+ghost use Rattle.split_laws.specs.SplitTrees.{KeepsTrees};
+
+/// After a split the copy has the tree that the commit had, and every other commit has its own, with the same bytes.
+pub fn a_split_keeps_trees()
+    ensures at { (copy number c : ℕ) (events new : List PlainEvent) → IsSound events →
+        IsCommitOf events c → IsFalse (has_id events (any.Commit copy)) →
+        split_at_of copy number (any.Commit c ∷ []) events ≡ Ok new → KeepsTrees c copy events new }
+    ensures by { (copy : ℕ) (path : Bytes) (c : ℕ) (events new : List PlainEvent) → IsSound events →
+        IsCommitOf events c → IsFalse (has_id events (any.Commit copy)) →
+        split_by_of copy path (any.Commit c ∷ []) events ≡ Ok new → KeepsTrees c copy events new }
+{}
+
+/// A sound history stays sound.
+pub fn a_split_keeps_soundness()
+    ensures at { (copy number c : ℕ) (events new : List PlainEvent) → IsSound events →
+        IsCommitOf events c → IsFalse (has_id events (any.Commit copy)) →
+        split_at_of copy number (any.Commit c ∷ []) events ≡ Ok new → IsSound new }
+    ensures by { (copy : ℕ) (path : Bytes) (c : ℕ) (events new : List PlainEvent) → IsSound events →
+        IsCommitOf events c → IsFalse (has_id events (any.Commit copy)) →
+        split_by_of copy path (any.Commit c ∷ []) events ≡ Ok new → IsSound new }
+{}
+
+/// What isn't refused is within the limits.
+pub fn a_split_keeps_the_limits()
+    ensures at { (copy number c : ℕ) (events new : List PlainEvent) →
+        split_at_of copy number (any.Commit c ∷ []) events ≡ Ok new → IsWithinLimits new }
+    ensures by { (copy : ℕ) (path : Bytes) (c : ℕ) (events new : List PlainEvent) →
+        split_by_of copy path (any.Commit c ∷ []) events ≡ Ok new → IsWithinLimits new }
+{}

@@ -1,0 +1,9 @@
+//! What `split` makes of a history, and why it is refused: definitions, and laws of them. Each function's contract is a law, or
+//! an example that the checker computes.
+#![tactic(auto)]
+
+mod examples;
+mod laws;
+
+pub use examples::{a_commit_becomes_two, a_split_is_refused};
+pub use laws::{a_split_keeps_soundness, a_split_keeps_the_limits, a_split_keeps_trees};
