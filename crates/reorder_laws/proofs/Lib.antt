@@ -1,0 +1,5 @@
+pub mod Line
+pub mod Places
+pub mod ReorderDone
+pub mod Reordered
+mod Rows
