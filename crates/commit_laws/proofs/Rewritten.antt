@@ -217,8 +217,8 @@ module _ (c : ℕ) (how : Rewrite) where
       (after : (xs : List PlainEvent) (e : PlainEvent) (es : List PlainEvent) → events ≡ xs ++ e ∷ es → id_of e ≡ any.Commit c → (parents : List ℕ) (ops : List FileOp) → AllByRecursion (IsHere xs) parents → AllByRecursion (There xs) (flat_map op_blobs ops)
       → AllByRecursion (IsHere xs) (how.parents parents) × AllByRecursion (There xs) (flat_map op_blobs (how.ops parents ops)))
     where
-      refers_behind : (xs : List PlainEvent) (e : PlainEvent) (es : List PlainEvent) → events ≡ xs ++ e ∷ es → is_ready xs e ≡ true → AllByRecursion (There xs) (referents_of (new_of e))
-      refers_behind xs (Commit id mark branch author committer encoding comment parents ops aliases) es is r = go (id == c) refl
+      refers_before : (xs : List PlainEvent) (e : PlainEvent) (es : List PlainEvent) → events ≡ xs ++ e ∷ es → is_ready xs e ≡ true → AllByRecursion (There xs) (referents_of (new_of e))
+      refers_before xs (Commit id mark branch author committer encoding comment parents ops aliases) es is r = go (id == c) refl
         where
           refs : AllByRecursion (There xs) (map any.Commit parents ++ flat_map op_blobs ops)
           refs = all_true (has_id xs) (map any.Commit parents ++ flat_map op_blobs ops) r
@@ -229,16 +229,16 @@ module _ (c : ℕ) (how : Rewrite) where
               let new = after xs (Commit id mark branch author committer encoding comment parents ops aliases) es is (ap any.Commit (eqb-true id c it)) parents ops (parents_here xs parents ops r) (all_rear (There xs) (map any.Commit parents) (flat_map op_blobs ops) refs) in
               all_join (There xs) (map any.Commit (how.parents parents)) (flat_map op_blobs (how.ops parents ops)) (here_parents xs (how.parents parents) new.0) new.1
           go false it = refs
-      refers_behind xs (Blob id mark bytes) es is r = tt
-      refers_behind xs (Tag id name target tagger comment mark) es is r = all_true (has_id xs) (any.Commit target ∷ []) r
-      refers_behind xs (Reset id branch None) es is r = tt
-      refers_behind xs (Reset id branch (Some target)) es is r = all_true (has_id xs) (any.Commit target ∷ []) r
-      refers_behind xs (Pass id line) es is r = tt
+      refers_before xs (Blob id mark bytes) es is r = tt
+      refers_before xs (Tag id name target tagger comment mark) es is r = all_true (has_id xs) (any.Commit target ∷ []) r
+      refers_before xs (Reset id branch None) es is r = tt
+      refers_before xs (Reset id branch (Some target)) es is r = all_true (has_id xs) (any.Commit target ∷ []) r
+      refers_before xs (Pass id line) es is r = tt
 
       order_on : (xs es : List PlainEvent) → events ≡ xs ++ es → AreInOrder xs es → AreInOrder (rewritten_all c how xs) (rewritten_all c how es)
       order_on xs [] is s = tt
       order_on xs (e ∷ es) is s = (
-        true_all (has_id (rewritten_all c how xs)) (referents_of (new_of e)) (there_same xs (referents_of (new_of e)) (refers_behind xs e es is s.0)),
+        true_all (has_id (rewritten_all c how xs)) (referents_of (new_of e)) (there_same xs (referents_of (new_of e)) (refers_before xs e es is s.0)),
         subst (λ (l : List PlainEvent). AreInOrder l (rewritten_all c how es)) (map-append new_of xs (e ∷ [])) (order_on (xs ++ e ∷ []) es (is ∙ sym (append_assoc xs (e ∷ []) es)) s.1),
       )
 

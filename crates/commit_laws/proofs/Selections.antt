@@ -11,6 +11,7 @@ use Rattle.plain_model.specs.Histories.{Node, nodes}
 use Rattle.plain_model.specs.Lookups.{id_of, is_listed}
 use Rattle.plain_model.specs.Soundness.{IsSound, are_distinct, has_id}
 use Rattle.edit_laws.specs.Parts.{of_id, one_if, tally}
+use Rattle.plain_model.proofs.Numbers.{eqb_turned}
 use Rattle.history_laws.proofs.Ids.{has_id-append}
 use Rattle.edit_laws.proofs.Lists.{some_passing}
 use Rattle.edit_laws.proofs.Sound.{in_parts}
@@ -18,9 +19,6 @@ use Rattle.commit_laws.specs.Selected.{are_apart, chosen, listed}
 use Rattle.commit_laws.proofs.Given.{IsHere}
 
 -- ---- in the order of the set
-
-turned : (a b : ℕ) → (a == b) ≡ (b == a)
-turned a b = grind (arith)
 
 pub chosen_here : (events : List PlainEvent) (set : List AnyId) → AllByRecursion (λ id. IsTrue (has_id events id)) set → AllByRecursion (IsHere events) (chosen set)
 chosen_here events [] a = tt
@@ -32,7 +30,7 @@ chosen_here events (any.Pass p ∷ set) a = chosen_here events set a.1
 
 pub any_chosen : (c : ℕ) (set : List AnyId) → list_any (λ m. m == c) (chosen set) ≡ is_listed (any.Commit c) set
 any_chosen c [] = refl
-any_chosen c (any.Commit d ∷ set) = λ i. turned d c i || any_chosen c set i
+any_chosen c (any.Commit d ∷ set) = λ i. eqb_turned d c i || any_chosen c set i
 any_chosen c (any.Blob b ∷ set) = any_chosen c set
 any_chosen c (any.Tag t ∷ set) = any_chosen c set
 any_chosen c (any.Reset r ∷ set) = any_chosen c set

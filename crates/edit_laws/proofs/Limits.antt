@@ -25,7 +25,7 @@ not_if false x o h = refl
 few : (most n : ℕ) → nat_lt most n ≡ false → n ≤ most
 few most n h = grind (arith, nat_tests)
 
-not_many : (most n : ℕ) → n ≤ most → nat_lt most n ≡ false
+pub not_many : (most n : ℕ) → n ≤ most → nat_lt most n ≡ false
 not_many most n h = grind (arith, nat_tests)
 
 all_few : (events : List PlainEvent) → list_any (λ e. nat_lt MAX_PARENTS (length (event_parents e))) events ≡ false →

@@ -6,12 +6,13 @@ use Rattle.plain_model.specs.declared.operation.Entry.{Entry}
 use Rattle.plain_model.specs.Paths.{Bytes, is_empty, is_below, is_at_or_below}
 use Rattle.plain_model.specs.Trees.{TreeOf, Tree, at}
 use Rattle.history_laws.proofs.PathLaws.{below_after}
+use Rattle.plain_model.proofs.Numbers.{eqb_turned}
 use Rattle.path_tree.specs.Folders.{Member, key_of, rest_of, is_file_key, is_folder_key, at_member, filled, tree_under, flat, AreSound}
 use Rattle.path_tree.specs.Folders.Member.{file, folder}
 use Rattle.path_tree.specs.Setting.{name_of, suffixes, expected, HasNone, Places, PlacesBelow, PutsUnder, FitsIf}
 use Rattle.path_tree.proofs.Keys.{whole, at_prefixed, at_flat, folder_all, AllSplit}
 use Rattle.path_tree.proofs.Looking.{at_filled, at_tree_under, fits_at}
-use Rattle.path_tree.proofs.Setting.{turned, not_slash, on_the_way, after_path}
+use Rattle.path_tree.proofs.Setting.{not_slash, on_the_way, after_path}
 
 -- ---- paths that begin with the same key
 
@@ -67,7 +68,7 @@ apart_by_key (b ∷ p) (c ∷ q) some h = by (b == 47) refl (c == 47) refl (apar
         → is_at_or_below (b ∷ p) (c ∷ q) ≡ false
     by true e true f again some h = absurd (true≢false h)
     by true e false f again some h = other (not_slash b c e f)
-    by false e true f again some h = other (turned b c ∙ not_slash c b f e)
+    by false e true f again some h = other (eqb_turned b c ∙ not_slash c b f e)
     by false e false f again some h = inner (b == c) again some h
 
 -- a name is no key of a folder
@@ -153,7 +154,7 @@ key_here (b ∷ p) (c ∷ q) h = by (b == 47) refl (c == 47) refl h (key_here p 
         → (is_file_key p ≡ true → bytes_eq p q ≡ bytes_eq p (key_of q))
         → ((b == c) && bytes_eq p q) ≡ bytes_eq (b ∷ p) (cond t (47 ∷ []) (c ∷ key_of q))
     by true e t f h again = absurd (true≢false (sym h))
-    by false e true f h again = ap (λ t. t && bytes_eq p q) (turned b c ∙ not_slash c b f e) ∙ sym (ap (λ t. t && bytes_eq p []) e)
+    by false e true f h again = ap (λ t. t && bytes_eq p q) (eqb_turned b c ∙ not_slash c b f e) ∙ sym (ap (λ t. t && bytes_eq p []) e)
     by false e false f h again = ap (λ t. (b == c) && t) (again h)
 
 below_here : (p q : Bytes) → is_file_key p ≡ true → is_below p q ≡ bytes_eq (p ++ 47 ∷ []) (key_of q)
@@ -162,7 +163,7 @@ below_here [] (c ∷ q) h = by (c == 47) refl
   where
     by : (t : Bool) → (c == 47) ≡ t → t ≡ bytes_eq (47 ∷ []) (cond t (47 ∷ []) (c ∷ key_of q))
     by true e = refl
-    by false e = sym (ap (λ t. t && bytes_eq [] (key_of q)) (turned 47 c ∙ e))
+    by false e = sym (ap (λ t. t && bytes_eq [] (key_of q)) (eqb_turned 47 c ∙ e))
 below_here (b ∷ p) [] h = refl
 below_here (b ∷ p) (c ∷ q) h = by (b == 47) refl (c == 47) refl h (below_here p q)
   where
@@ -170,7 +171,7 @@ below_here (b ∷ p) (c ∷ q) h = by (b == 47) refl (c == 47) refl h (below_her
         → (is_file_key p ≡ true → is_below p q ≡ bytes_eq (p ++ 47 ∷ []) (key_of q))
         → ((b == c) && is_below p q) ≡ bytes_eq (b ∷ p ++ 47 ∷ []) (cond t (47 ∷ []) (c ∷ key_of q))
     by true e t f h again = absurd (true≢false (sym h))
-    by false e true f h again = ap (λ t. t && is_below p q) (turned b c ∙ not_slash c b f e) ∙ sym (ap (λ t. t && bytes_eq (p ++ 47 ∷ []) []) e)
+    by false e true f h again = ap (λ t. t && is_below p q) (eqb_turned b c ∙ not_slash c b f e) ∙ sym (ap (λ t. t && bytes_eq (p ++ 47 ∷ []) []) e)
     by false e false f h again = ap (λ t. (b == c) && t) (again h)
 
 -- nothing has a name below it

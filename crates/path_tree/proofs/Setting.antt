@@ -2,6 +2,7 @@
 use Rattle.std.proofs.Common.{◌≡◌, ℕ, ◌==◌, Bool, true, false, cond, not, [], ◌∷◌, ◌++◌, length, drop, refl, sym, ap, subst, ◌∙◌, true≢false, append-nil, eqb-true, eq-eqb, bytes_eq}
 use Rattle.std.specs.Prelude.{◌&&◌}
 use Rattle.plain_model.specs.Paths.{Bytes, is_empty, is_below}
+use Rattle.plain_model.proofs.Numbers.{eqb_turned}
 use Rattle.path_tree.specs.Folders.{key_of, rest_of, is_file_key, is_folder_key}
 use Rattle.path_tree.specs.Setting.{name_of, ends_with_slash}
 use Rattle.path_tree.proofs.Keys.{whole}
@@ -14,15 +15,6 @@ not_slash b c e f = by (b == c) refl
     by : (t : Bool) → (b == c) ≡ t → t ≡ false
     by true h = absurd (true≢false (sym (sym (ap (λ x. x == 47) (eqb-true b c h)) ∙ e) ∙ f))
     by false h = refl
-
-pub turned : (b c : ℕ) → (b == c) ≡ (c == b)
-turned b c = by (b == c) refl (c == b) refl
-  where
-    by : (s : Bool) → (b == c) ≡ s → (t : Bool) → (c == b) ≡ t → s ≡ t
-    by true h true k = refl
-    by true h false k = absurd (true≢false (sym (eq-eqb c b (sym (eqb-true b c h))) ∙ k))
-    by false h true k = absurd (true≢false (sym (eq-eqb b c (sym (eqb-true c b k))) ∙ h))
-    by false h false k = refl
 
 -- ---- what is on the way
 
@@ -49,11 +41,11 @@ on_the_way (b ∷ p) (c ∷ q) h = by (b == 47) refl (c == 47) refl (on_the_way 
         → bytes_eq (cond s (47 ∷ []) (b ∷ key_of p)) (cond t (47 ∷ []) (c ∷ key_of q)) ≡ false
         → bytes_eq (cond s [] (b ∷ name_of p)) (cond t (47 ∷ []) (c ∷ key_of q)) ≡ ((c == b) && is_below q p)
     by true e true f again h = absurd (true≢false h)
-    by true e false f again h = sym (ap (λ t. t && is_below q p) (turned c b ∙ not_slash b c e f))
+    by true e false f again h = sym (ap (λ t. t && is_below q p) (eqb_turned c b ∙ not_slash b c e f))
     by false e true f again h =
         ap (λ t. t && bytes_eq (name_of p) []) e
         ∙ sym (ap (λ t. t && is_below q p) (not_slash c b f e))
-    by false e false f again h = inner (b == c) again h ∙ ap (λ t. t && is_below q p) (turned b c)
+    by false e false f again h = inner (b == c) again h ∙ ap (λ t. t && is_below q p) (eqb_turned b c)
 
 -- ---- what is after the path
 

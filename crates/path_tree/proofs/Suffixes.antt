@@ -14,6 +14,7 @@ use Rattle.plain_model.specs.Trees.{TreeOf, Tree, IsTree, at, put, put_all, subt
 use Rattle.plain_model.specs.Trees.Refusal.{PathBytes, MissingSource}
 use Rattle.history_laws.proofs.PathLaws.{IsRest}
 use Rattle.history_laws.proofs.TreeLaws.{by_bytes, at_where, at_put, has_where}
+use Rattle.plain_model.proofs.Numbers.{eqb_turned}
 use Rattle.path_tree.specs.declared.fault.ApplyFault.{ApplyFault}
 use Rattle.path_tree.specs.Answers.{moves, fault_of, TellsOf}
 use Rattle.path_tree.specs.Folders.{Member, prefixed, longest}
@@ -25,7 +26,6 @@ use Rattle.path_tree.specs.Sound.{AllPaths}
 use Rattle.path_tree.proofs.Orders.{turned_bytes, same_tree}
 use Rattle.path_tree.proofs.Keys.{prefixed_in_order}
 use Rattle.path_tree.proofs.Measures.{longest-prefixed, length-prefixed}
-use Rattle.path_tree.proofs.Setting.{turned}
 use Rattle.path_tree.proofs.Placing.{drop_own}
 
 pub suffixes_in_order : (m : Option Member) → FitsNode m → IsInOrder (suffixes m)
@@ -70,7 +70,7 @@ same_rest (b ∷ p) [] u h = refl
 same_rest (b ∷ p) (c ∷ q) u h =
     ap (λ t. (c == b) && t) (same_rest p q u h)
     ∙ by (c == b) (bytes_eq p q) (is_below p q) (bytes_eq (drop (length p) q) u)
-    ∙ ap (λ t. ((t && bytes_eq p q) || (t && is_below p q)) && bytes_eq (drop (length p) q) u) (turned c b)
+    ∙ ap (λ t. ((t && bytes_eq p q) || (t && is_below p q)) && bytes_eq (drop (length p) q) u) (eqb_turned c b)
   where
     by : (t x y z : Bool) → (t && ((x || y) && z)) ≡ (((t && x) || (t && y)) && z)
     by true x y z = refl
@@ -85,7 +85,7 @@ tie_rest p q u h =
     same_turned [] [] = refl
     same_turned [] (b ∷ y) = refl
     same_turned (a ∷ x) [] = refl
-    same_turned (a ∷ x) (b ∷ y) = ap (λ t. t && bytes_eq x y) (turned a b) ∙ ap (λ t. (b == a) && t) (same_turned x y)
+    same_turned (a ∷ x) (b ∷ y) = ap (λ t. t && bytes_eq x y) (eqb_turned a b) ∙ ap (λ t. (b == a) && t) (same_turned x y)
 
 at_rests : (p q : Bytes) (s : Tree) → AllRests s → at (prefixed p s) q ≡ cond (is_at_or_below p q) (at s (drop (length p) q)) None
 at_rests p q [] h = by (is_at_or_below p q)

@@ -12,6 +12,7 @@ use Rattle.plain_model.specs.Histories.{nodes}
 use Rattle.plain_model.specs.Lookups.{alias_count}
 use Rattle.history_laws.specs.FirstParents.{ops_along}
 use Rattle.edit_laws.specs.Parts.{tally}
+use Rattle.edit_laws.proofs.Limits.{not_many}
 use Rattle.edit_laws.proofs.Lists.{tally_append}
 use Rattle.event_arena.proofs.ListLemmas.{take-all, take-item}
 use Rattle.plan_limits.specs.Counts.{count_of, total_of}
@@ -63,9 +64,6 @@ tally_less f es k =
 pub more_than : (most n : ℕ) → most < n → nat_lt most n ≡ true
 more_than most n h = grind (arith, nat_tests)
 
-pub not_more : (most n : ℕ) → n ≤ most → nat_lt most n ≡ false
-not_more most n h = grind (arith, nat_tests)
-
 -- counted so far, and the next event passes the limit, or it doesn't
 module _ (f : PlainEvent → ℕ) (count : List PlainEvent → ℕ) (counted : (es : List PlainEvent) → tally f es ≡ count es) (most : ℕ) where
   pub count_more : (es : List PlainEvent) (k total more : ℕ) (e : PlainEvent) → slice_get es k ≡ Some e → total ≡ count (take k es) → more ≡ f e →
@@ -88,7 +86,7 @@ module _ (f : PlainEvent → ℕ) (count : List PlainEvent → ℕ) (counted : (
   pub count_within : (es : List PlainEvent) (k total : ℕ) → length es ≤ k → total ≡ count (take k es) → total ≤ most → false ≡ nat_lt most (count es)
   count_within es k total all so_far low =
       let same : count (take k es) ≡ count es = ap count (take-all es k all) in
-      sym (not_more most (count es) (omega arith))
+      sym (not_many most (count es) (omega arith))
 
 -- each of the two is a sum
 pub totals : (what : Counted) (es : List PlainEvent) → tally (count_of what) es ≡ total_of what es

@@ -16,6 +16,7 @@ use Rattle.plain_model.specs.declared.event.PlainEvent.TheVariants.{Blob, Commit
 use Rattle.plain_model.specs.Histories.{Node, node_at, past}
 use Rattle.plain_model.specs.Lookups.{children_of, is_listed, own_child}
 use Rattle.plain_model.specs.Soundness.{IsSound, are_distinct, has_id}
+use Rattle.plain_model.proofs.Numbers.{eqb_turned}
 use Rattle.history_laws.proofs.Lists.{all_imply}
 use Rattle.edit_laws.proofs.Lists.{OfNodes}
 use Rattle.commit_laws.specs.Selected.{IsSelection, chosen, event_number, listed, node_of}
@@ -24,9 +25,6 @@ use Rattle.commit_laws.proofs.Selections.{any_chosen, chosen_distinct, in_both, 
 use Rattle.reorder_laws.specs.Reorder.{instead, is_only, last_of, line_fault, lined_up}
 
 -- ---- lists
-
-turned : (a b : ℕ) → (a == b) ≡ (b == a)
-turned a b = grind (arith)
 
 -- what is true of all is true of one of them
 all_in : (P : ℕ → Type 0) (xs : List ℕ) (x : ℕ) → AllByRecursion P xs → list_any (λ m. m == x) xs ≡ true → P x
@@ -133,7 +131,7 @@ numbered_alike f g k (u ∷ us) a n = (a.0 ∙ n.0, numbered_alike f g (suc k) u
 
 others_apart : (u : ℕ) (us : List ℕ) → list_any (λ m. m == u) us ≡ false → AllByRecursion (λ x. (u == x) ≡ false) us
 others_apart u [] h = tt
-others_apart u (x ∷ xs) h = let parts = or_parts (x == u) (list_any (λ m. m == u) xs) h in (turned u x ∙ parts.0, others_apart u xs parts.1)
+others_apart u (x ∷ xs) h = let parts = or_parts (x == u) (list_any (λ m. m == u) xs) h in (eqb_turned u x ∙ parts.0, others_apart u xs parts.1)
 
 numbered : (k : ℕ) (us : List ℕ) → are_distinct us ≡ true → Numbered (line_number k us) k us
 numbered k [] d = tt
@@ -233,7 +231,7 @@ module _ (set : List AnyId) (events : List PlainEvent) (h : IsSound events) (sel
 
   -- all but the last have one child, which is of the line
   next_of : (u : ℕ) (us : List ℕ) → line_fault events u us ≡ None → (p : ℕ) → list_any (λ m. m == p) (u ∷ us) ≡ true → (p == last_of u us) ≡ false → (x : ℕ) × (is_only x (children_of p events) ≡ true) × (list_any (λ m. m == x) (u ∷ us) ≡ true)
-  next_of u [] e p k o = absurd (true≢false (sym (turned p u ∙ one (u == p) k) ∙ o))
+  next_of u [] e p k o = absurd (true≢false (sym (eqb_turned p u ∙ one (u == p) k) ∙ o))
     where
       one : (b : Bool) → b || false ≡ true → b ≡ true
       one true h = refl
@@ -377,7 +375,7 @@ module _ (set : List AnyId) (events : List PlainEvent) (h : IsSound events) (sel
     where
       go : (s : Bool) → (a == old) ≡ s → (t : Bool) → (b == old) ≡ t → (cond s new a == cond t new b) ≡ (a == b)
       go true p true q = eq-eqb new new refl ∙ sym (ap (λ n. n == b) (eqb-true a old p) ∙ ap (λ n. old == n) (eqb-true b old q) ∙ eq-eqb old old refl)
-      go true p false q = turned new b ∙ y q ∙ sym (ap (λ n. n == b) (eqb-true a old p) ∙ turned old b ∙ q)
+      go true p false q = eqb_turned new b ∙ y q ∙ sym (ap (λ n. n == b) (eqb-true a old p) ∙ eqb_turned old b ∙ q)
       go false p true q = x p ∙ sym (ap (λ n. a == n) (eqb-true b old q) ∙ p)
       go false p false q = refl
 

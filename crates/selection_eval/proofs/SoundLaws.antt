@@ -8,6 +8,7 @@ use Rattle.std.specs.FinMap.Entries as entries
 use Rattle.std.specs.declared.cmp.Ordering.{Ordering}
 use Rattle.std.specs.declared.cmp.Ordering.TheVariants.{Less, Equal, Greater}
 use Rattle.std.proofs.lemmas.Bool.{eq-eqb, eqb-true}
+use Rattle.plain_model.proofs.Numbers.{eqb_turned}
 use Rattle.plain_model.specs.Lookups.{id_of, is_listed, same_id}
 use Rattle.plain_model.specs.Paths.{Bytes}
 use Rattle.plain_model.specs.Snapshots.{refs, refs_after}
@@ -25,25 +26,16 @@ use Rattle.selection_eval.proofs.OnceParts.{or_second, same_eq, same_self}
 
 -- ---- ids
 
-eq_swap : (a b : ℕ) → (a == b) ≡ (b == a)
-eq_swap a b = go (a == b) (b == a) refl refl
-  where
-    go : (x y : Bool) → (a == b) ≡ x → (b == a) ≡ y → x ≡ y
-    go true true e f = refl
-    go false false e f = refl
-    go true false e f = let back : (b == a) ≡ true = eq-eqb b a (sym (eqb-true a b e)) in absurd cc
-    go false true e f = let back : (a == b) ≡ true = eq-eqb a b (sym (eqb-true b a f)) in absurd cc
-
 or_same : (a b c d : Bool) → a ≡ b → c ≡ d → (a || c) ≡ (b || d)
 or_same a b c d e f = rw (e, f) refl
 
 has_listed : (events : List PlainEvent) (id : AnyId) → has_id events id ≡ is_listed id (map id_of events)
 has_listed [] id = refl
-has_listed (Blob id mark bytes ∷ events) (any.Blob b) = or_same (id == b) (b == id) _ _ (eq_swap id b) (has_listed events (any.Blob b))
-has_listed (Commit id mark branch author committer encoding comment parents ops aliases ∷ events) (any.Commit b) = or_same (id == b) (b == id) _ _ (eq_swap id b) (has_listed events (any.Commit b))
-has_listed (Tag id name target tagger comment mark ∷ events) (any.Tag b) = or_same (id == b) (b == id) _ _ (eq_swap id b) (has_listed events (any.Tag b))
-has_listed (Reset id branch target ∷ events) (any.Reset b) = or_same (id == b) (b == id) _ _ (eq_swap id b) (has_listed events (any.Reset b))
-has_listed (Pass id line ∷ events) (any.Pass b) = or_same (id == b) (b == id) _ _ (eq_swap id b) (has_listed events (any.Pass b))
+has_listed (Blob id mark bytes ∷ events) (any.Blob b) = or_same (id == b) (b == id) _ _ (eqb_turned id b) (has_listed events (any.Blob b))
+has_listed (Commit id mark branch author committer encoding comment parents ops aliases ∷ events) (any.Commit b) = or_same (id == b) (b == id) _ _ (eqb_turned id b) (has_listed events (any.Commit b))
+has_listed (Tag id name target tagger comment mark ∷ events) (any.Tag b) = or_same (id == b) (b == id) _ _ (eqb_turned id b) (has_listed events (any.Tag b))
+has_listed (Reset id branch target ∷ events) (any.Reset b) = or_same (id == b) (b == id) _ _ (eqb_turned id b) (has_listed events (any.Reset b))
+has_listed (Pass id line ∷ events) (any.Pass b) = or_same (id == b) (b == id) _ _ (eqb_turned id b) (has_listed events (any.Pass b))
 has_listed (e ∷ events) other = has_listed events other
 
 -- the id of an event is new after earlier ones

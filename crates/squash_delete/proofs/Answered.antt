@@ -36,7 +36,8 @@ use Rattle.squash_delete.specs.Sources.{count_ops}
 use Rattle.squash_delete.specs.Targets.{AreTargets, target_for}
 use Rattle.squash_delete.specs.declared.counting.Left.{Left}
 use Rattle.squash_delete.specs.declared.counting.Left.TheVariants.{All, ManyOperations}
-use Rattle.plan_limits.proofs.Counting.{more_than, not_more}
+use Rattle.plan_limits.proofs.Counting.{more_than}
+use Rattle.edit_laws.proofs.Limits.{not_many}
 use Rattle.squash_delete.proofs.JudgedLemmas.{judged_alike}
 use Rattle.squash_delete.proofs.LeavingLemmas.{left_staying}
 use Rattle.squash_delete.specs.Tables.{IsTableTo}
@@ -253,7 +254,7 @@ judged_fault how set events h none old new ManyOperations why l some =
   where
     passed : (left : List PlainEvent) → length left ≤ MAX_EVENTS → MAX_OPERATIONS < length (ops_along (nodes left)) →
         limit_passed l.0 left ≡ Some (fault.Limit limit.Operations MAX_OPERATIONS)
-    passed left short many = rw (not_more MAX_EVENTS (length left) short, more_than MAX_OPERATIONS (length (ops_along (nodes left))) many) refl
+    passed left short many = rw (not_many MAX_EVENTS (length left) short, more_than MAX_OPERATIONS (length (ops_along (nodes left))) many) refl
 
 -- what is left of a removal is left of what it was made of
 pub left_of_args : (how : Policy) (s set : List AnyId) (es events : List PlainEvent) (old new : Change) (left : Left) → s ≡ set → es ≡ events →

@@ -6,6 +6,7 @@ use Rattle.std.proofs.lemmas.Option.{none-some, same_Some}
 use Rattle.std.specs.List.{AllByRecursion, list_all}
 use Rattle.std.specs.Option.{option_map_or}
 use Rattle.std.specs.Prelude.{◌==◌, IsSome, is_some, option_map, slice_get, unwrap_or}
+use Rattle.plain_model.proofs.Numbers.{eqb_turned}
 use Rattle.plain_model.specs.declared.id.AnyId.{AnyId}
 use Rattle.plain_model.specs.declared.id.AnyId.TheVariants as any
 use Rattle.plain_model.specs.declared.event.PlainEvent.{PlainEvent}
@@ -40,11 +41,8 @@ joined_without (x ∷ xs) more = ap (joined_two x) (joined_without xs more)
 -- the comment of a commit is that of its event
 pub comment_found : (events : List PlainEvent) (c : ℕ) → comment_of events c ≡ option_map_or event_comment (find_event (any.Commit c) events) []
 comment_found [] c = refl
-comment_found (Commit id mark branch author committer encoding comment parents ops aliases ∷ es) c = turned (id == c) (c == id) (same id c) (comment_found es c)
+comment_found (Commit id mark branch author committer encoding comment parents ops aliases ∷ es) c = turned (id == c) (c == id) (eqb_turned id c) (comment_found es c)
   where
-    same : (a b : ℕ) → (a == b) ≡ (b == a)
-    same a b = grind (arith)
-
     turned : (x y : Bool) → x ≡ y → comment_of es c ≡ option_map_or event_comment (find_event (any.Commit c) es) [] →
         cond x comment (comment_of es c) ≡ option_map_or event_comment (cond y (Some (Commit id mark branch author committer encoding comment parents ops aliases)) (find_event (any.Commit c) es)) []
     turned true true is rest = refl

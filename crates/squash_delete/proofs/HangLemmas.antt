@@ -30,7 +30,8 @@ use Rattle.squash_laws.specs.declared.policy.Lean.TheVariants as lean
 use Rattle.squash_laws.specs.declared.policy.Push.TheVariants as push
 use Rattle.squash_delete.specs.Backing.{AreCountedTo, own_fault}
 use Rattle.squash_delete.specs.Hangings.{AreHung, AreHungTo, hung}
-use Rattle.plan_limits.proofs.Counting.{more_than, not_more}
+use Rattle.plan_limits.proofs.Counting.{more_than}
+use Rattle.edit_laws.proofs.Limits.{not_many}
 use Rattle.squash_delete.proofs.NodeLemmas.{node_of}
 use Rattle.squash_delete.proofs.WayLemmas.{is_placed, own_commit}
 
@@ -289,7 +290,7 @@ module _ (set : List AnyId) (events : List PlainEvent) where
   no_fork mark p [] first few = absurd (none-some p first)
   no_fork mark p (q ∷ ps) first few =
       cond-false (nat_lt 1 (first_children events q)) (Some (PushbackFork mark)) None
-      (ap (λ c. nat_lt 1 (first_children events c)) (same_Some q p first) ∙ not_more 1 (first_children events p) few)
+      (ap (λ c. nat_lt 1 (first_children events c)) (same_Some q p first) ∙ not_many 1 (first_children events p) few)
 
   pub fault_step : (e : PlainEvent) (es : List PlainEvent) → first_back_fault set events (e ∷ es) ≡ option_or (own_fault set events e) (first_back_fault set events es)
   fault_step (Commit id mark branch author committer encoding comment parents ops aliases) es = refl

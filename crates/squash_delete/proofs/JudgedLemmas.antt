@@ -21,7 +21,8 @@ use Rattle.edit_laws.specs.Passing.{limit_fault}
 use Rattle.edit_laws.specs.Settling.{settle}
 use Rattle.edit_laws.specs.Sweeping.{is_left_over, is_named, swept}
 use Rattle.edit_laws.proofs.Lists.{none_passing, some_passing}
-use Rattle.plan_limits.proofs.Counting.{aliases_counted, more_than, not_more, ops_counted, own_aliases, own_ops}
+use Rattle.plan_limits.proofs.Counting.{aliases_counted, more_than, ops_counted, own_aliases, own_ops}
+use Rattle.edit_laws.proofs.Limits.{not_many}
 use Rattle.edit_laws.proofs.Settles.{settled_sums}
 use Rattle.edit_laws.proofs.Sound.{in_parts}
 use Rattle.event_arena.proofs.SoundLemmas.{sound-once}
@@ -184,7 +185,7 @@ module _ (set : List AnyId) (events : List PlainEvent) (takes : Takings) where
       by false true l = refl
       by false false l =
           ap (λ (ps : List ℕ). nat_lt MAX_PARENTS (length ps) || false) (unremoved_parents (is_removed set) (past events) parents once l)
-          ∙ ap (λ b. b || false) (not_more MAX_PARENTS (length parents) few)
+          ∙ ap (λ b. b || false) (not_many MAX_PARENTS (length parents) few)
   big_one (Blob id mark bytes) few once = refl
   big_one (Tag id name target tagger comment mark) few once = neither (goes set takes (Tag id name target tagger comment mark))
     where
@@ -227,7 +228,7 @@ module _ (set : List AnyId) (events : List PlainEvent) (takes : Takings) where
 
   none_long : (changes : List (ℕ × List ℕ)) → AreFew changes → list_any is_long changes ≡ false
   none_long [] h = refl
-  none_long (c ∷ cs) h = ap (λ b. b || list_any is_long cs) (not_more MAX_PARENTS (length c.1) h.0) ∙ none_long cs h.1
+  none_long (c ∷ cs) h = ap (λ b. b || list_any is_long cs) (not_many MAX_PARENTS (length c.1) h.0) ∙ none_long cs h.1
 
   some_long : (changes : List (ℕ × List ℕ)) (k : ℕ) (c : ℕ × List ℕ) → slice_get changes k ≡ Some c → MAX_PARENTS < length c.1 → list_any is_long changes ≡ true
   some_long [] k c is more = absurd (none-some c is)

@@ -31,7 +31,7 @@ module _ (set : List AnyId) (events : List PlainEvent) where
   AreSources (Before table) = (length table.items ≡ length events) × AreLinks set events table.items
   AreSources (After rows) = AreHung set events rows.items
 
-  -- an event of which no removed commit is told
+  -- an event that is no removed commit
   abbrev pub IsNoRemoved : PlainEvent → Type 0
   IsNoRemoved event = (c : ℕ) → commit_id event ≡ Some c → is_removed set c ≡ false
 
