@@ -4,4 +4,5 @@ pub mod Failing
 pub mod Memory
 pub mod Outside
 pub mod Promises
+pub mod Trouble
 pub mod WholeFiles

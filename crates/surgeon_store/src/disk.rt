@@ -8,6 +8,7 @@ ghost use Rattle.surgeon_store.specs.Disk.{DiskState, untouched, disk_store_of};
 
 use crate::outside::{CreateFault, Failed, OpenFault, Sink, Store, WriteFault};
 use crate::target::{MAX_TURNS, Target, write_some};
+use crate::trouble::{Doing, Trouble};
 use plain_model::{Items, NoMemory, Text};
 use std::alloc::Global;
 use std::io::{ErrorKind, Read};
@@ -35,15 +36,32 @@ fn read_some<R: Read>(reader: &mut R, piece: &mut [u8]) -> io::Result<usize>
     Err(io::Error::from(ErrorKind::Interrupted))
 }
 
+// A copy of a name, if there is one and memory for it.
+fn name_if_kept(name: &Option<Text>) -> Option<Text> {
+    match name {
+        Some(name) => name.copy().ok(),
+        None => None,
+    }
+}
+
+// Whether an error is that there is no memory.
+fn is_memory(error: &io::Error) -> bool {
+    error.kind() == ErrorKind::OutOfMemory
+}
+
 /// The files of the system, by their paths. A folder can be begun and then not be read.
 #[derive(Drop)]
 pub struct DiskStore<'a, R: Files> {
     alloc: Global,
     rt: &'a R,
     reading: Option<R::File>,
+    // The name of the file that is read, where there was memory to keep it.
+    reading_name: Option<Text>,
     target: Option<Target<R::File>>,
     // The name of the target.
     writing: Option<Text>,
+    // What failed last, for who runs the program; no contract speaks of it.
+    trouble: Option<Trouble>,
     read_faults: u64,
     write_faults: u64,
     misses: u64,
@@ -69,16 +87,23 @@ impl<'a, R: Files> DiskStore<'a, R> {
             alloc,
             rt,
             reading: None,
+            reading_name: None,
             target: None,
             writing: None,
+            trouble: None,
             read_faults: 0,
             write_faults: 0,
             misses: 0,
         }
     }
 
+    /// The last call of the system that failed; a file that is missing is no such failure.
+    pub fn trouble(&self) -> Option<&Trouble> {
+        self.trouble.as_ref()
+    }
+
     // The file that is written is in its place, where it is whole; none is written then.
-    fn let_go(&mut self) -> Result<(), Failed>
+    fn let_go(&mut self) -> io::Result<()>
         ensures { self.new ≡ self.old }
     {
         match self.target.take() {
@@ -102,6 +127,7 @@ impl<'a, R: Files> Store for DiskStore<'a, R> {
         match fs::open(self.rt, name) {
             Ok(file) => {
                 self.reading = Some(file);
+                self.reading_name = Items::of(self.alloc, name.as_bytes()).ok();
                 Ok(())
             }
             Err(error) => match error.kind() {
@@ -112,6 +138,11 @@ impl<'a, R: Files> Store for DiskStore<'a, R> {
                 ErrorKind::OutOfMemory => Err(OpenFault::Memory),
                 _ => {
                     raise(&mut self.read_faults);
+                    self.trouble = Some(Trouble {
+                        doing: Doing::Reading,
+                        name: Items::of(self.alloc, name.as_bytes()).ok(),
+                        reason: error,
+                    });
                     Err(OpenFault::Failed)
                 }
             },
@@ -124,9 +155,14 @@ impl<'a, R: Files> Store for DiskStore<'a, R> {
         };
         match read_some(file, piece) {
             Ok(count) => Ok(count),
-            Err(_) => {
+            Err(error) => {
                 self.reading = None;
                 raise(&mut self.read_faults);
+                self.trouble = Some(Trouble {
+                    doing: Doing::Reading,
+                    name: self.reading_name.take(),
+                    reason: error,
+                });
                 Err(Failed)
             }
         }
@@ -145,9 +181,14 @@ impl<'a, R: Files> Store for DiskStore<'a, R> {
                 self.writing = Some(kept);
                 Ok(())
             }
-            Err(CreateFault::Memory) => Err(CreateFault::Memory),
-            Err(CreateFault::Failed) => {
+            Err(error) if is_memory(&error) => Err(CreateFault::Memory),
+            Err(error) => {
                 raise(&mut self.write_faults);
+                self.trouble = Some(Trouble {
+                    doing: Doing::Writing,
+                    name: Some(kept),
+                    reason: error,
+                });
                 Err(CreateFault::Failed)
             }
         }
@@ -156,21 +197,37 @@ impl<'a, R: Files> Store for DiskStore<'a, R> {
     fn write(&mut self, piece: &[u8]) -> Result<usize, WriteFault> {
         let answer = match &mut self.target {
             Some(target) => target.write(piece),
-            None => Err(WriteFault::Failed),
+            None => Err(io::Error::from(ErrorKind::WriteZero)),
         };
-        if answer == Err(WriteFault::Failed) {
-            raise(&mut self.write_faults);
+        match answer {
+            Ok(count) => Ok(count),
+            Err(error) if is_memory(&error) => Err(WriteFault::Memory),
+            Err(error) => {
+                raise(&mut self.write_faults);
+                self.trouble = Some(Trouble {
+                    doing: Doing::Writing,
+                    name: name_if_kept(&self.writing),
+                    reason: error,
+                });
+                Err(WriteFault::Failed)
+            }
         }
-        answer
     }
 
     fn finish_write(&mut self) -> Result<(), Failed> {
-        self.writing = None;
-        let answer = self.let_go();
-        if answer.is_err() {
-            raise(&mut self.write_faults);
+        let name = self.writing.take();
+        match self.let_go() {
+            Ok(()) => Ok(()),
+            Err(error) => {
+                raise(&mut self.write_faults);
+                self.trouble = Some(Trouble {
+                    doing: Doing::Writing,
+                    name,
+                    reason: error,
+                });
+                Err(Failed)
+            }
         }
-        answer
     }
 }
 
@@ -179,6 +236,8 @@ impl<'a, R: Files> Store for DiskStore<'a, R> {
 pub struct StdSink<'a, R: Print> {
     rt: &'a R,
     faults: u64,
+    // What failed last, for who runs the program; no contract speaks of it.
+    trouble: Option<Trouble>,
 }
 
 impl<'a, R: Print> Model for StdSink<'a, R> {
@@ -193,7 +252,16 @@ impl<'a, R: Print> StdSink<'a, R> {
     pub fn new(rt: &'a R) -> StdSink<'a, R>
         ensures { result ≡ 0 }
     {
-        StdSink { rt, faults: 0 }
+        StdSink {
+            rt,
+            faults: 0,
+            trouble: None,
+        }
+    }
+
+    /// The last write that failed.
+    pub fn trouble(&self) -> Option<&Trouble> {
+        self.trouble.as_ref()
     }
 }
 
@@ -201,10 +269,18 @@ impl<'a, R: Print> Sink for StdSink<'a, R> {
     ghost state = { λ faults. record { written = None; faults = faults; around = alone } };
 
     fn write(&mut self, piece: &[u8]) -> Result<usize, WriteFault> {
-        let answer = write_some(&mut io::writer(self.rt), piece);
-        if answer == Err(WriteFault::Failed) {
-            raise(&mut self.faults);
+        match write_some(&mut io::writer(self.rt), piece) {
+            Ok(count) => Ok(count),
+            Err(error) if is_memory(&error) => Err(WriteFault::Memory),
+            Err(error) => {
+                raise(&mut self.faults);
+                self.trouble = Some(Trouble {
+                    doing: Doing::Printing,
+                    name: None,
+                    reason: error,
+                });
+                Err(WriteFault::Failed)
+            }
         }
-        answer
     }
 }

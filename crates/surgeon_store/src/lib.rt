@@ -11,6 +11,7 @@ mod sure;
 mod target;
 #[cfg(test)]
 mod tests;
+mod trouble;
 mod whole_files;
 mod writing;
 
@@ -21,5 +22,6 @@ pub use output::Output;
 pub use outside::{CreateFault, Failed, OpenFault, Sink, Store, WriteFault};
 pub use store_sink::StoreSink;
 pub use sure::{SureSink, SureStore};
+pub use trouble::{Doing, Trouble};
 pub use whole_files::{ReadEnd, open_file, read_file, read_front, write_file};
 pub use writing::{WriteEnd, write_all};

@@ -1,10 +1,8 @@
-//! A file of the system that is written, and takes the place of an older one only once it is whole. Nothing is reported of its
-//! bytes, so this module is trusted where others are proved.
+//! A file of the system that is written, and takes the place of an older one only once it is whole. Nothing is reported
+//! of its bytes, so this module is trusted where others are proved.
 ghost use Rattle.std.specs.Prelude.{◌≡◌, ◌≤◌, ◌<◌, length, IfOk};
-ghost use Rattle.surgeon_store.specs.declared.outside.CreateFault.TheVariants as create;
 
-use crate::outside::{CreateFault, Failed, WriteFault};
-use std::alloc::{AllocError, Global};
+use std::alloc::Global;
 use std::fs::{OpenFile, OpenOptions, Permissions};
 use std::io::{ErrorKind, Write};
 use std::path::PathBuf;
@@ -23,7 +21,8 @@ pub(crate) struct Target<F> {
     file: F,
     // What becomes of it once it is whole; nothing where it is written directly.
     change: Option<Change>,
-    is_whole: bool,
+    // Why it won't be whole.
+    fault: Option<io::Error>,
 }
 
 // A new file, and the path whose place it takes.
@@ -35,12 +34,15 @@ struct Change {
 
 impl Change {
     // The new file takes its place, if it was settled, or there is none.
-    fn carry_out<R: Files>(&self, rt: &R, settled: Result<(), Failed>) -> Result<(), Failed> {
-        if settled.is_ok() && fs::rename(rt, self.new.as_path(), self.path.as_path()).is_ok() {
-            return Ok(());
+    fn carry_out<R: Files>(&self, rt: &R, settled: io::Result<()>) -> io::Result<()> {
+        let placed = match settled {
+            Ok(()) => fs::rename(rt, self.new.as_path(), self.path.as_path()),
+            Err(error) => Err(error),
+        };
+        if placed.is_err() {
+            drop_new(rt, &self.new);
         }
-        drop_new(rt, &self.new);
-        Err(Failed)
+        placed
     }
 }
 
@@ -51,24 +53,9 @@ struct Place {
     permissions: Option<Permissions>,
 }
 
-impl From<AllocError> for CreateFault {
-    ghost from_gives = { λ _ fault. fault ≡ create.Memory };
-
-    fn from(_error: AllocError) -> CreateFault {
-        CreateFault::Memory
-    }
-}
-
-fn create_fault(error: &io::Error) -> CreateFault {
-    match error.kind() {
-        ErrorKind::OutOfMemory => CreateFault::Memory,
-        _ => CreateFault::Failed,
-    }
-}
-
 // Writes a byte or more of the piece, again where a signal interrupts. A writer that takes nothing of a
 // piece with bytes will not take the rest, which is a fault.
-pub(crate) fn write_some<W: Write>(writer: &mut W, piece: &[u8]) -> Result<usize, WriteFault>
+pub(crate) fn write_some<W: Write>(writer: &mut W, piece: &[u8]) -> io::Result<usize>
     ensures { IfOk result (λ n. (n ≤ length piece.now) × (0 < length piece.now → 1 ≤ n)) }
 {
     if piece.is_empty() {
@@ -76,52 +63,44 @@ pub(crate) fn write_some<W: Write>(writer: &mut W, piece: &[u8]) -> Result<usize
     }
     for _ in 0..MAX_TURNS {
         match writer.write(piece) {
-            Ok(0) => return Err(WriteFault::Failed),
-            Ok(count) => return Ok(count),
-            Err(error) => match error.kind() {
-                ErrorKind::Interrupted => {}
-                ErrorKind::OutOfMemory => return Err(WriteFault::Memory),
-                _ => return Err(WriteFault::Failed),
-            },
+            Ok(0) => return Err(io::Error::from(ErrorKind::WriteZero)),
+            Err(error) if error.kind() == ErrorKind::Interrupted => {}
+            answer => return answer,
         }
     }
-    Err(WriteFault::Failed)
+    Err(io::Error::from(ErrorKind::Interrupted))
 }
 
 // Has the system take what was written, so that a full disk shows here at the latest. What cannot be
 // synced, as a pipe or a device, has taken its bytes already.
-fn settle<F: Write + OpenFile>(file: &mut F) -> Result<(), Failed> {
-    if file.flush().is_err() {
-        return Err(Failed);
-    }
+fn settle<F: Write + OpenFile>(file: &mut F) -> io::Result<()> {
+    file.flush()?;
     match file.sync_all() {
         Ok(()) => Ok(()),
         Err(error) => match error.kind() {
             ErrorKind::InvalidInput | ErrorKind::Unsupported => Ok(()),
-            _ => Err(Failed),
+            _ => Err(error),
         },
     }
 }
 
-// The place of a regular file, or of none; a link is followed. Whatever else is there is written directly, and so is what
-// couldn't be written itself, so that the system says why.
-fn place_of<R: Files>(alloc: Global, rt: &R, name: &str) -> Result<Option<Place>, CreateFault> {
+// The place of a regular file, or of none; a link is followed. Whatever else is there is written directly, and so is
+// what couldn't be written itself, so that the system says why.
+fn place_of<R: Files>(alloc: Global, rt: &R, name: &str) -> io::Result<Option<Place>> {
     match rt.metadata(name) {
         Ok(found) if found.is_file() => {
             if OpenOptions::new().write(true).open(rt, name).is_err() {
                 return Ok(None);
             }
-            match rt.canonicalize(alloc, name) {
-                Ok(path) => Ok(Some(Place {
-                    path,
-                    permissions: Some(found.permissions()),
-                })),
-                Err(error) => Err(create_fault(&error)),
-            }
+            let path = rt.canonicalize(alloc, name)?;
+            Ok(Some(Place {
+                path,
+                permissions: Some(found.permissions()),
+            }))
         }
         Ok(_) => Ok(None),
         Err(error) => match error.kind() {
-            ErrorKind::OutOfMemory => Err(CreateFault::Memory),
+            ErrorKind::OutOfMemory => Err(error),
             // Nothing is there, not even a link.
             ErrorKind::NotFound if rt.symlink_metadata(name).is_err() => {
                 let path = PathBuf::from_str(alloc, name)?;
@@ -141,7 +120,7 @@ fn new_file<R: Files>(
     alloc: Global,
     rt: &R,
     path: &PathBuf<Global>,
-) -> Result<Option<(R::File, PathBuf<Global>)>, CreateFault> {
+) -> io::Result<Option<(R::File, PathBuf<Global>)>> {
     for number in 0..MAX_NAMES {
         let name = format!(in alloc; ".surgeon-new-{number}")?;
         let new = path.as_path().with_file_name(alloc, name.as_str())?;
@@ -154,11 +133,11 @@ fn new_file<R: Files>(
             Err(error) => match error.kind() {
                 ErrorKind::AlreadyExists => {}
                 ErrorKind::PermissionDenied | ErrorKind::ReadOnlyFilesystem => return Ok(None),
-                _ => return Err(create_fault(&error)),
+                _ => return Err(error),
             },
         }
     }
-    Err(CreateFault::Failed)
+    Err(io::Error::from(ErrorKind::AlreadyExists))
 }
 
 // Nothing is left of a new file.
@@ -167,13 +146,13 @@ fn drop_new<R: Files>(rt: &R, new: &PathBuf<Global>) {
 }
 
 impl<F: Write + OpenFile> Target<F> {
-    /// Begins to write a file: a new one beside the path, or the file itself where that is none of the file system's own or
-    /// where its folder takes no new file.
+    /// Begins to write a file: a new one beside the path, or the file itself where that is none of the file system's
+    /// own or where its folder takes no new file.
     pub(crate) fn begin<R: Files<File = F>>(
         alloc: Global,
         rt: &R,
         name: &str,
-    ) -> Result<Target<F>, CreateFault> {
+    ) -> io::Result<Target<F>> {
         let Some(place) = place_of(alloc, rt, name)? else {
             return Target::directly(rt, name);
         };
@@ -183,7 +162,7 @@ impl<F: Write + OpenFile> Target<F> {
         if let Some(permissions) = place.permissions {
             if let Err(error) = file.set_permissions(permissions) {
                 drop_new(rt, &new);
-                return Err(create_fault(&error));
+                return Err(error);
             }
         }
         Ok(Target {
@@ -192,43 +171,39 @@ impl<F: Write + OpenFile> Target<F> {
                 new,
                 path: place.path,
             }),
-            is_whole: true,
+            fault: None,
         })
     }
 
-    fn directly<R: Files<File = F>>(rt: &R, name: &str) -> Result<Target<F>, CreateFault> {
-        match fs::create(rt, name) {
-            Ok(file) => Ok(Target {
-                file,
-                change: None,
-                is_whole: true,
-            }),
-            Err(error) => Err(create_fault(&error)),
-        }
+    fn directly<R: Files<File = F>>(rt: &R, name: &str) -> io::Result<Target<F>> {
+        Ok(Target {
+            file: fs::create(rt, name)?,
+            change: None,
+            fault: None,
+        })
     }
 
     /// Writes a byte or more of the piece.
-    pub(crate) fn write(&mut self, piece: &[u8]) -> Result<usize, WriteFault>
+    pub(crate) fn write(&mut self, piece: &[u8]) -> io::Result<usize>
         ensures { IfOk result (λ n. (n ≤ length piece.now) × (0 < length piece.now → 1 ≤ n)) }
     {
         let answer = write_some(&mut self.file, piece);
-        if answer.is_err() {
-            self.is_whole = false;
+        if let Err(error) = answer {
+            self.fault = Some(error);
         }
         answer
     }
 
     /// What is written is in its place, where it is whole. Else the older file is left as it was, and no other.
-    pub(crate) fn finish<R: Files<File = F>>(self, rt: &R) -> Result<(), Failed> {
+    pub(crate) fn finish<R: Files<File = F>>(self, rt: &R) -> io::Result<()> {
         let Target {
             mut file,
             change,
-            is_whole,
+            fault,
         } = self;
-        let settled = if is_whole {
-            settle(&mut file)
-        } else {
-            Err(Failed)
+        let settled = match fault {
+            None => settle(&mut file),
+            Some(error) => Err(error),
         };
         match change {
             Some(change) => change.carry_out(rt, settled),

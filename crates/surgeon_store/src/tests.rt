@@ -1,3 +1,4 @@
+mod trouble;
 mod whole_files;
 
 use crate::*;
