@@ -18,6 +18,7 @@ use Rattle.plain_model.specs.Trees.{Tree}
 use Rattle.edit_laws.specs.Equations.{Fits}
 use Rattle.edit_laws.specs.Parts.{AreInOrder, AreOnce, HasFewParents, IsLawful, IsLawfulOp, of_id, of_mark, one_if, tally}
 use Rattle.edit_laws.specs.Settling.{is_ready}
+use Rattle.plain_model.proofs.Numbers.{eqb_turned}
 use Rattle.history_laws.proofs.LineLaws.{folded_more}
 use Rattle.history_laws.proofs.Ids.{has_id-append, has_id-cons, is_marked-append, same_id-true}
 use Rattle.history_laws.proofs.Lists.{all_imply, all_join}
@@ -34,9 +35,6 @@ use Rattle.edit_laws.proofs.Shown.{has_own_bytes, shown_alike}
 use Rattle.split_laws.specs.Split.{onto, split_event, split_list}
 
 -- ---- parts of lists
-
-turned : (a b : ℕ) → (a == b) ≡ (b == a)
-turned a b = grind (arith)
 
 -- the blobs of some operations are those of the first and of the others
 blobs_parts : (xs : List PlainEvent) (n : ℕ) (ops : List FileOp) → AllByRecursion (There xs) (flat_map op_blobs ops) → AllByRecursion (There xs) (flat_map op_blobs (take n ops)) × AllByRecursion (There xs) (flat_map op_blobs (drop n ops))
@@ -294,7 +292,7 @@ module _ (c copy mark kept : ℕ) where
     where
       go : (s : Bool) → (a == c) ≡ s → (t : Bool) → (b == c) ≡ t → (cond s copy a == cond t copy b) ≡ (a == b)
       go true p true q = eq-eqb copy copy refl ∙ sym (ap (λ n. n == b) (eqb-true a c p) ∙ ap (λ n. c == n) (eqb-true b c q) ∙ eq-eqb c c refl)
-      go true p false q = turned copy b ∙ y ∙ sym (ap (λ n. n == b) (eqb-true a c p) ∙ turned c b ∙ q)
+      go true p false q = eqb_turned copy b ∙ y ∙ sym (ap (λ n. n == b) (eqb-true a c p) ∙ eqb_turned c b ∙ q)
       go false p true q = x ∙ sym (ap (λ n. a == n) (eqb-true b c q) ∙ p)
       go false p false q = refl
 

@@ -17,11 +17,11 @@ use Rattle.split_laws.specs.SplitTrees.{KeepsTrees}
 use Rattle.split_laws.proofs.Halves.{copy_here, copy_tree, other_tree, split_shown, split_sound, still_here}
 
 -- what is true where a split isn't refused
-record IsDone (copy c number : ℕ) (events new : List PlainEvent) : Type 0 where
-  mark : ℕ
-  next : next_mark events ≡ Some mark
-  is : split_list c copy mark (number - 1) events ≡ new
-  low : limit_fault (split_list c copy mark (number - 1) events) ≡ None
+pub record IsDone (copy c number : ℕ) (events new : List PlainEvent) : Type 0 where
+  pub mark : ℕ
+  pub next : next_mark events ≡ Some mark
+  pub is : split_list c copy mark (number - 1) events ≡ new
+  pub low : limit_fault (split_list c copy mark (number - 1) events) ≡ None
 
 within : (x new : List PlainEvent) → unless_limit x ≡ Ok new → (x ≡ new) × (limit_fault x ≡ None)
 within x new h = go (limit_fault x) refl h
@@ -30,7 +30,7 @@ within x new h = go (limit_fault x) refl h
     go None is h = (cc, is)
     go (Some why) is h = absurd cc
 
-from_done : (copy c number : ℕ) (events new : List PlainEvent) → split_from copy c number events ≡ Ok new → IsDone copy c number events new
+pub from_done : (copy c number : ℕ) (events new : List PlainEvent) → split_from copy c number events ≡ Ok new → IsDone copy c number events new
 from_done copy c number events new h = go (nat_le 2 number && nat_le number (length (node_of events c).ops)) h
   where
     marked : (o : Option ℕ) → next_mark events ≡ o

@@ -1,8 +1,10 @@
 //! Laws of a split. Each function's contract is one, and its body is empty. The commit is there, and no commit has the id of the
 //! copy.
-ghost use Rattle.std.specs.Prelude.{◌≡◌, ◌∷◌, ℕ, [], List, Ok, IsFalse};
+ghost use Rattle.std.specs.Prelude.{◌≡◌, ◌∷◌, ◌+◌, ℕ, [], List, Ok, IsFalse};
 ghost use Rattle.plain_model.specs.declared.event.PlainEvent.{PlainEvent};
 ghost use Rattle.plain_model.specs.declared.id.AnyId.TheVariants as any;
+ghost use Rattle.plain_model.specs.declared.id.AnyId.{AnyId};
+ghost use Rattle.plain_model.specs.Lookups.{AreIdsBelow};
 ghost use Rattle.plain_model.specs.Paths.{Bytes};
 ghost use Rattle.plain_model.specs.Soundness.{IsCommitOf, IsSound, has_id};
 ghost use Rattle.edit_laws.specs.Passing.{IsWithinLimits};
@@ -35,4 +37,14 @@ pub fn a_split_keeps_the_limits()
         split_at_of copy number (any.Commit c ∷ []) events ≡ Ok new → IsWithinLimits new }
     ensures by { (copy : ℕ) (path : Bytes) (c : ℕ) (events new : List PlainEvent) →
         split_by_of copy path (any.Commit c ∷ []) events ≡ Ok new → IsWithinLimits new }
+{}
+
+/// The copy's id alone is new: where all were below it, all are below the next one.
+pub fn a_split_adds_one_id()
+    ensures at { (copy number : ℕ) (set : List AnyId) (events new : List PlainEvent) →
+        split_at_of copy number set events ≡ Ok new → AreIdsBelow copy events →
+        AreIdsBelow (copy + 1) new }
+    ensures by { (copy : ℕ) (path : Bytes) (set : List AnyId) (events new : List PlainEvent) →
+        split_by_of copy path set events ≡ Ok new → AreIdsBelow copy events →
+        AreIdsBelow (copy + 1) new }
 {}

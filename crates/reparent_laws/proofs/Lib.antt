@@ -1,0 +1,12 @@
+pub mod Again
+pub mod Blobs
+pub mod Changed
+pub mod Checked
+pub mod Cycles
+pub mod ListOrder
+pub mod Merged
+pub mod Operated
+pub mod Puts
+pub mod ReparentDone
+pub mod Reparented
+pub mod TreeFacts

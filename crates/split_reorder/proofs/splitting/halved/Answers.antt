@@ -1,0 +1,16 @@
+use Rattle.std.proofs.Common.{◌≡◌, ◌∙◌, ap}
+use Rattle.plain_model.specs.declared.id.AnyId.TheVariants as any
+use Rattle.plain_model.specs.Lookups.{find_event}
+use Rattle.event_arena.specs.Graphs.{Change}
+use Rattle.split_reorder.specs.Copies.{put_onto}
+use Rattle.split_reorder.proofs.Halving.{never_given, onto_id}
+use Rattle.split_reorder.proofs.Steps.{absent_mapped}
+use Rattle.split_reorder.proofs.splitting.halved.Goals as goal
+
+pub cut-requires-clause-unknown : goal.cut-requires-clause-unknown
+cut-requires-clause-unknown c =
+    let events = c.args.events.now.list in
+    let is : c.new-copy.result ≡ c.args.events.now.next_id = c.new-copy.ensures ∙ c.unused.ensures.number ∙ c.in_ok-plan.ensures.next in
+    ap (λ (p : Change). find_event (any.Commit c.new-copy.result) p.after) c.in_ok-put_all_onto.ensures
+    ∙ absent_mapped (put_onto c.args.commit c.new-copy.result) (onto_id c.args.commit c.new-copy.result) (any.Commit c.new-copy.result) events
+    (ap (λ n. find_event (any.Commit n) events) is ∙ never_given c.args.events.now.next_id events c.next_id-next.ensures.spent)

@@ -1,0 +1,4 @@
+pub mod Copies
+pub mod Examples
+pub mod Ordered
+pub mod Parents
