@@ -1,30 +1,43 @@
 -- Each command leaves lawful repositories.
-use Rattle.std.proofs.Common.{◌≡◌, ℕ, zero, suc, ◌+◌, ◌≤◌, Bool, true, false, List, [], ◌∷◌, ◌++◌, length, map, take, max, Option, Some, None, Result, Ok, Err, refl, sym, ap, subst, ◌∙◌, nat_lt, arith}
-use Rattle.std.specs.Prelude.{if◌then◌else◌, bytes_eq, slice_get}
+use Rattle.std.proofs.Common.{◌≡◌, ℕ, suc, ◌+◌, ◌≤◌, ◌<◌, Bool, true, false, List, [], ◌∷◌, ◌++◌, length, map, take, max, Option, Some, None, Result, Ok, Err, refl, sym, ap, subst, ◌∙◌, nat_lt, arith}
+use Rattle.std.specs.Prelude.{IsFalse, if◌then◌else◌, bytes_eq, slice_get}
 use Rattle.std.specs.List.{AllByRecursion, fold}
 use Rattle.std.specs.FinMap.{get}
-use Rattle.std.proofs.lemmas.List.{length-map}
+use Rattle.std.proofs.lemmas.List.{length-append, length-map}
 use Rattle.plain_model.specs.declared.event.PlainEvent.{PlainEvent}
 use Rattle.plain_model.specs.declared.event.PlainEvent.TheVariants.{Blob, Commit, Tag, Reset, Pass}
 use Rattle.plain_model.specs.declared.fault.Fault.{Fault}
 use Rattle.plain_model.specs.declared.fault.Fault.TheVariants as fault
 use Rattle.plain_model.specs.declared.id.AnyId.{AnyId}
+use Rattle.plain_model.specs.declared.id.AnyId.TheVariants as any
+use Rattle.plain_model.specs.declared.path.PathFault.{PathFault}
 use Rattle.plain_model.specs.declared.limit.TheConstants.{MAX_ALIASES, MAX_EVENTS, MAX_OPERATIONS, MAX_REPOSITORIES, MAX_STREAM_BYTES}
 use Rattle.plain_model.specs.Files.{Files}
-use Rattle.plain_model.specs.Paths.{Bytes}
-use Rattle.plain_model.specs.Soundness.{IsSound}
+use Rattle.plain_model.specs.Paths.{Bytes, path_fault}
+use Rattle.history_laws.specs.FirstParents.{ops_along}
+use Rattle.edit_laws.specs.Passing.{IsWithinLimits}
+use Rattle.edit_laws.proofs.Sound.{in_parts}
+use Rattle.event_arena.proofs.MeasureLemmas.{below-at, below-next}
+use Rattle.event_arena.proofs.SoundLemmas.{has_id-find}
+use Rattle.commit_laws.specs.Selected.{IsSelection, node_of, the_commit}
+use Rattle.split_laws.specs.Split.{first_touch, split_at_of, split_by_of, split_from}
+use Rattle.reorder_laws.specs.Reorder.{reorder_of}
+use Rattle.plain_model.specs.Soundness.{IsCommitOf, IsSound, has_id}
 use Rattle.round_trip_laws.specs.AsRead.{IsAsRead}
-use Rattle.plain_model.specs.Lookups.{alias_count, id_number, id_of, next_number}
+use Rattle.plain_model.specs.Histories.{nodes}
+use Rattle.plain_model.specs.Lookups.{AreIdsBelow, alias_count, id_number, id_of, next_number}
 use Rattle.line_automaton.specs.Machine.{all, begun, run}
 use Rattle.stream_grammar.specs.Limits.{ops_in, stream_of, stream_within}
 use Rattle.renumbering.specs.Renumbered.{all_marked, renumbered}
-use Rattle.byte_patterns.specs.Judging.{Denial, Judged, Reason, ◌>>>◌, next_of, plainly, under, with_built, without, unless_deep}
+use Rattle.byte_patterns.specs.Judging.{Denial, Judged, Reason, ◌>>>◌, plainly, under, without, unless_deep}
 use Rattle.byte_patterns.specs.Searching.{is_too_deep}
-use Rattle.event_sets.specs.Once.{IsOnce}
+use Rattle.event_sets.specs.Once.{AreLive, IsOnce}
 use Rattle.event_sets.specs.Sets.{Ids}
 use Rattle.selection_eval.specs.Denoted.{denote}
-use Rattle.selection_eval.specs.Given.{AreNamesOnce, GivesOnce, HaveOwnIds}
+use Rattle.selection_eval.specs.Given.{AreNamesOnce, AreTipsLive, GivesLive, GivesOnce, HaveOwnIds}
 use Rattle.selection_eval.specs.Names.{Names, assigned}
+use Rattle.squash_laws.specs.Faults.{squash_of}
+use Rattle.squash_laws.specs.declared.policy.Policy.{Policy}
 use Rattle.selection_parser.specs.Plain.{PlainSelection}
 use Rattle.selection_parser.specs.Reading.{selection_at}
 use Rattle.sample_history.specs.Sample.{sample}
@@ -34,13 +47,16 @@ use Rattle.script_reader.specs.declared.command.Command.{Command}
 use Rattle.script_reader.specs.declared.command.Command.TheVariants as command
 use Rattle.script_reader.specs.declared.command.Order.{Order}
 use Rattle.script_reader.specs.declared.command.Order.TheVariants as order
+use Rattle.script_reader.specs.declared.edit.Edit.{Edit}
+use Rattle.script_reader.specs.declared.edit.Edit.TheVariants as edit
 use Rattle.script_reader.specs.declared.script.ScriptLine.{ScriptLine}
 use Rattle.script_reader.specs.declared.script.ScriptLine.TheVariants.{Define, Plain}
 use Rattle.history_machine.specs.Lawful.{IsLawful, IsLawfulHistory, IsLawfulRepo}
 use Rattle.script_reader.specs.Answering.{◌>>=◌}
 use Rattle.history_machine.specs.Loading.{loaded, over, read_of}
 use Rattle.history_machine.specs.Machine.{Turn}
-use Rattle.history_machine.specs.Sessions.{Repo, Scope, Session, after_assign, after_choose, after_drop, after_drop_chosen, after_read, after_renumber, after_sample, all_events, calling, carried, changes, chosen, find_repo, in_scope, line_step, no_events, ordered, read_repo, ready, reports, room, sample_name, scope_of, selected, stands_for, step, there, unassigned, unless, unused, with_repo, without_repo}
+use Rattle.history_machine.specs.Sessions.{Repo, Scope, Session, after_assign, after_choose, after_drop, after_drop_chosen, after_edit, after_read, after_renumber, after_sample, all_events, calling, carried, changes, chosen, edited, find_repo, in_scope, line_step, no_events, ordered, read_repo, ready, remade, reports, room, sample_name, scope_of, selected, stands_for, step, there, unassigned, unless, unused, with_live_names, with_one_more, with_repo, without_repo}
+use Rattle.history_machine.proofs.Selections.{all_live, listed_here, live_once, names_more, selection_of}
 use Rattle.history_machine.proofs.Steps.{found}
 
 abbrev AreLawful : List Repo → Type 0
@@ -119,6 +135,71 @@ next_of_ids n (e ∷ events) = next_of_ids (max n (id_number (id_of e) + 1)) eve
 same_next : (old new : List PlainEvent) → map id_of new ≡ map id_of old → next_number new ≡ next_number old
 same_next old new is = next_of_ids 1 new ∙ ap (fold (λ m id. max m (id_number id + 1)) 1) is ∙ sym (next_of_ids 1 old)
 
+-- a bound of the ids is one of the next number
+next_within : (bound : ℕ) (events : List PlainEvent) → AreIdsBelow bound events → 1 ≤ bound → next_number events ≤ bound
+next_within bound events below one = along events 1 one (λ k e at. below-at bound events k e below at)
+  where
+    along : (es : List PlainEvent) (n : ℕ) → n ≤ bound → ((k : ℕ) (e : PlainEvent) → slice_get es k ≡ Some e → id_number (id_of e) < bound)
+        → fold (λ m e. max m (id_number (id_of e) + 1)) n es ≤ bound
+    along [] n low each = low
+    along (e ∷ es) n low each =
+        let here = each 0 e refl in
+        along es (max n (id_number (id_of e) + 1)) (omega arith) (λ k x at. each (suc k) x at)
+
+below_spent : (events : List PlainEvent) (next : ℕ) → next_number events ≤ next → AreIdsBelow next events
+below_spent events next spent id there = let low = below-next events id there in omega arith
+
+one_spent : (events : List PlainEvent) → 1 ≤ next_number events
+one_spent events = grows events 1
+  where
+    grows : (es : List PlainEvent) (n : ℕ) → n ≤ fold (λ m e. max m (id_number (id_of e) + 1)) n es
+    grows [] n = omega arith
+    grows (e ∷ es) n = let more = grows es (max n (id_number (id_of e) + 1)) in omega arith
+
+-- ---- edits
+
+-- what is done for one commit alone was done for one
+one_commit : (events : List PlainEvent) (set : List AnyId) (for : ℕ → Result (List PlainEvent) Fault) (after : List PlainEvent)
+    → ◌≡◌ {A = Result (List PlainEvent) Fault} (elim (the_commit events set) [ Ok c ↦ for c | Err why ↦ Err why ]) (Ok after) → (c : ℕ) × (set ≡ any.Commit c ∷ [])
+one_commit events [] for after e = absurd cc
+one_commit events (any.Commit c ∷ []) for after e = (c, refl)
+one_commit events (any.Blob b ∷ []) for after e = absurd cc
+one_commit events (any.Tag t ∷ []) for after e = absurd cc
+one_commit events (any.Reset r ∷ []) for after e = absurd cc
+one_commit events (any.Pass p ∷ []) for after e = absurd cc
+one_commit events (id ∷ other ∷ set) for after e = absurd cc
+
+-- a split by a path, where the commit is known
+abbrev by_path : ℕ → Bytes → ℕ → List PlainEvent → Result (List PlainEvent) Fault
+by_path copy path c events = elim (first_touch path 1 (node_of events c).ops) [
+  | Some number ↦ split_from copy c number events
+  | None ↦ Err (fault.NoSuchPath path)
+]
+
+-- an edit that is done leaves a lawful repository
+abbrev EditsWell : Result Repo Fault → Type 0
+EditsWell (Ok repo) = IsLawfulRepo repo
+EditsWell (Err why) = Unit {0}
+
+-- so it is with the lists of what is still there
+live_well : (r : Result Repo Fault) → EditsWell r → (new : Repo) → (r >>= λ after. Ok (with_live_names after)) ≡ Ok new → IsLawfulRepo new
+live_well (Ok after) h new is =
+    let same : with_live_names after ≡ new = cc in
+    subst IsLawfulRepo same (record { history = h.history; names = live_once after.history after.names h.names; spent = h.spent })
+live_well (Err why) h new is = absurd cc
+
+-- operations are counted alike
+ops_alike : (events : List PlainEvent) → ops_in events ≡ length (ops_along (nodes events))
+ops_alike [] = refl
+ops_alike (Blob id mark bytes ∷ events) = let rest = ops_alike events in omega arith
+ops_alike (Commit id mark branch author committer encoding comment parents ops aliases ∷ events) =
+    let rest = ops_alike events in
+    let whole = length-append ops (ops_along (nodes events)) in
+    omega arith
+ops_alike (Tag id name target tagger comment mark ∷ events) = let rest = ops_alike events in omega arith
+ops_alike (Reset id branch target ∷ events) = let rest = ops_alike events in omega arith
+ops_alike (Pass id line ∷ events) = let rest = ops_alike events in omega arith
+
 -- ---- the events of which a command speaks
 
 -- a value that stays though a pattern may be refused is the value
@@ -169,6 +250,26 @@ module _
     (few_sampled_events : (count start : ℕ) → length (sample count start) ≤ MAX_EVENTS)
     (few_sampled_ops : (count start : ℕ) → ops_in (sample count start) ≤ MAX_OPERATIONS)
     (few_sampled_aliases : (count start : ℕ) → alias_count (sample count start) ≤ MAX_ALIASES)
+    (squashed_sound : (how : Policy) (set : List AnyId) (events new : List PlainEvent) → IsSound events → squash_of how set events ≡ Ok new → IsSound new)
+    (squashed_within : (how : Policy) (set : List AnyId) (events new : List PlainEvent) → IsSound events → squash_of how set events ≡ Ok new → IsWithinLimits new)
+    (squashed_below : (how : Policy) (set : List AnyId) (events new : List PlainEvent) (next : ℕ) → IsSound events → squash_of how set events ≡ Ok new
+    → AreIdsBelow next events → AreIdsBelow next new)
+    (live : (events : List PlainEvent) → AreTipsLive events → (names : Names) → (selection : PlainSelection) → GivesLive events (denote selection events names).value)
+    (tips : (events : List PlainEvent) → IsSound events → AreTipsLive events)
+    (split_at_sound : (copy number c : ℕ) (events new : List PlainEvent) → IsSound events → IsCommitOf events c → IsFalse (has_id events (any.Commit copy))
+    → split_at_of copy number (any.Commit c ∷ []) events ≡ Ok new → IsSound new)
+    (split_by_sound : (copy : ℕ) (path : Bytes) (c : ℕ) (events new : List PlainEvent) → IsSound events → IsCommitOf events c → IsFalse (has_id events (any.Commit copy))
+    → split_by_of copy path (any.Commit c ∷ []) events ≡ Ok new → IsSound new)
+    (split_at_within : (copy number c : ℕ) (events new : List PlainEvent) → split_at_of copy number (any.Commit c ∷ []) events ≡ Ok new → IsWithinLimits new)
+    (split_by_within : (copy : ℕ) (path : Bytes) (c : ℕ) (events new : List PlainEvent) → split_by_of copy path (any.Commit c ∷ []) events ≡ Ok new → IsWithinLimits new)
+    (split_at_below : (copy number : ℕ) (set : List AnyId) (events new : List PlainEvent) → split_at_of copy number set events ≡ Ok new → AreIdsBelow copy events → AreIdsBelow (copy + 1) new)
+    (split_by_below : (copy : ℕ) (path : Bytes) (set : List AnyId) (events new : List PlainEvent) → split_by_of copy path set events ≡ Ok new → AreIdsBelow copy events
+    → AreIdsBelow (copy + 1) new)
+    (reordered_sound : (set : List AnyId) (events new : List PlainEvent) → IsSound events → IsSelection events set → reorder_of set events ≡ Ok new → IsSound new)
+    (reordered_within : (set : List AnyId) (events new : List PlainEvent) → IsSound events → IsSelection events set → IsWithinLimits events → reorder_of set events ≡ Ok new
+    → IsWithinLimits new)
+    (reordered_ids : (set : List AnyId) (events new : List PlainEvent) → IsSound events → IsSelection events set → reorder_of set events ≡ Ok new
+    → (id : AnyId) → has_id new id ≡ has_id events id)
   where
     read_lawful : (name : Bytes) (file : Option Bytes) (events : List PlainEvent) → read_of name file ≡ Ok events → IsLawfulHistory events
     read_lawful name None events h = absurd cc
@@ -214,6 +315,22 @@ module _
     ready_once : (denial : Option Denial) (s : Session) (what : Command) (ids : Ids) → IsLawful s → under denial (ready s what) ≡ Ok ids → IsOnce ids
     unfolding ready
     ready_once denial s what ids h is = subst GivesOnce (value_under denial (in_scope s (scope_of what)) ids is) (scope_once s (scope_of what) h)
+
+    denoted_live : (repo : Repo) (read : Result (PlainSelection × ℕ) ℕ) → IsLawfulRepo repo → GivesLive repo.history (stands_for repo read).value
+    denoted_live repo (Ok read) h = live repo.history (tips repo.history h.history.sound) repo.names read.0
+    denoted_live repo (Err column) h = tt
+
+    scope_live : (s : Session) (scope : Scope) (repo : Repo) → IsLawful s → chosen s ≡ Ok repo → GivesLive repo.history (in_scope s scope).value
+    scope_live s no_events repo h is = tt
+    scope_live s all_events repo h is = rw is (all_live repo.history)
+    scope_live s (selected text) repo h is = rw is (denoted_live repo (selection_at text) (chosen_lawful s repo is h))
+
+    abbrev LiveIn : Session → Ids → Type 0
+    LiveIn s ids = (repo : Repo) → chosen s ≡ Ok repo → AreLive repo.history ids
+
+    ready_live : (denial : Option Denial) (s : Session) (what : Command) (ids : Ids) → IsLawful s → under denial (ready s what) ≡ Ok ids → LiveIn s ids
+    unfolding ready
+    ready_live denial s what ids h is repo chosen_is = subst (GivesLive repo.history) (value_under denial (in_scope s (scope_of what)) ids is) (scope_live s (scope_of what) repo h chosen_is)
 
     -- ---- the commands
 
@@ -278,9 +395,105 @@ module _
         well_after (chosen s) (λ repo. Ok (record s { repos = with_repo (with_marks repo) s.repos }))
         (λ repo is. with_new (with_marks repo) s.repos h (marks_well repo (chosen_lawful s repo is h)))
 
-    names_more : (names : Names) (name : Bytes) (ids : Ids) → AreNamesOnce names → IsOnce ids → AreNamesOnce (names ++ (name, ids) ∷ [])
-    names_more [] name ids h k = (k, tt)
-    names_more (n ∷ names) name ids h k = (h.0, names_more names name ids h.1 k)
+    -- what an edit leaves that is sound, within the limits, and has no id above a bound
+    history_well : (repo : Repo) (after : List PlainEvent) (next : ℕ) → IsLawfulRepo repo → IsSound after → IsWithinLimits after → AreIdsBelow next after → repo.next ≤ next
+        → IsLawfulRepo (record repo { history = after; next = next })
+    history_well repo after next h sound within below grown =
+        let one = one_spent repo.history in
+        let spent = h.spent in
+        record {
+          history = record {
+            sound = sound;
+            few_events = within.few_events;
+            few_operations = subst (λ n. n ≤ MAX_OPERATIONS) (sym (ops_alike after)) within.few_operations;
+            few_aliases = within.few_aliases;
+          };
+          names = h.names;
+          spent = next_within next after below (omega arith);
+        }
+
+    squashed_well : (how : Policy) (set : Ids) (repo : Repo) → IsLawfulRepo repo → EditsWell (remade (edit.Squash how) set repo)
+    squashed_well how set repo h = go (squash_of how set repo.history) refl
+      where
+        go : (r : Result (List PlainEvent) Fault) → squash_of how set repo.history ≡ r → EditsWell (r >>= λ after. Ok (record repo { history = after }))
+        go (Err why) e = tt
+        go (Ok after) e =
+            history_well repo after repo.next h (squashed_sound how set repo.history after h.history.sound e) (squashed_within how set repo.history after h.history.sound e)
+            (squashed_below how set repo.history after repo.next h.history.sound e (below_spent repo.history repo.next h.spent)) (omega arith)
+
+    -- the number of the next event is no event's
+    unspent : (events : List PlainEvent) (next : ℕ) → AreIdsBelow next events → IsFalse (has_id events (any.Commit next))
+    unspent events next below = go (has_id events (any.Commit next)) refl
+      where
+        go : (b : Bool) → has_id events (any.Commit next) ≡ b → b ≡ false
+        go false e = refl
+        go true e = let low = below (any.Commit next) (sym (has_id-find events (any.Commit next)) ∙ e) in absurd (omega arith)
+
+    -- a split of the one commit
+    split_well : (repo : Repo) (made : List AnyId → Result (List PlainEvent) Fault) → IsLawfulRepo repo
+        → ((set : List AnyId) (after : List PlainEvent) → made set ≡ Ok after → (c : ℕ) × (set ≡ any.Commit c ∷ []))
+        → ((c : ℕ) (after : List PlainEvent) → IsCommitOf repo.history c → made (any.Commit c ∷ []) ≡ Ok after → IsSound after)
+        → ((c : ℕ) (after : List PlainEvent) → made (any.Commit c ∷ []) ≡ Ok after → IsWithinLimits after)
+        → ((set : List AnyId) (after : List PlainEvent) → made set ≡ Ok after → AreIdsBelow (repo.next + 1) after)
+        → (set : List AnyId) → AreLive repo.history set → EditsWell (with_one_more repo (made set))
+    split_well repo made h one sound within below set lives = go (made set) refl
+      where
+        go : (r : Result (List PlainEvent) Fault) → made set ≡ r → EditsWell (with_one_more repo r)
+        go (Err why) e = tt
+        go (Ok after) e =
+            let only = one set after e in
+            let same : made (any.Commit only.0 ∷ []) ≡ Ok after = sym (ap made only.1) ∙ e in
+            let there : IsCommitOf repo.history only.0 = listed_here repo.history (any.Commit only.0) (subst (AreLive repo.history) only.1 lives).0 in
+            history_well repo after (repo.next + 1) h (sound only.0 after there same) (within only.0 after same) (below set after e) (omega arith)
+
+    -- a lawful history is within the limits of an edit
+    within_limits : (events : List PlainEvent) → IsLawfulHistory events → IsWithinLimits events
+    within_limits events h = record {
+      few_events = h.few_events;
+      few_operations = subst (λ n. n ≤ MAX_OPERATIONS) (ops_alike events) h.few_operations;
+      few_parents = (in_parts events h.sound).few;
+      few_aliases = h.few_aliases;
+    }
+
+    -- a bound of the ids is one where the same ids are
+    same_below : (events new : List PlainEvent) (next : ℕ) → ((id : AnyId) → has_id new id ≡ has_id events id) → AreIdsBelow next events → AreIdsBelow next new
+    same_below events new next same below id there = below id (sym (has_id-find events id) ∙ sym (same id) ∙ has_id-find new id ∙ there)
+
+    reordered_well : (set : Ids) (repo : Repo) → IsLawfulRepo repo → IsSelection repo.history set → EditsWell (remade edit.Reorder set repo)
+    reordered_well set repo h selection = go (reorder_of set repo.history) refl
+      where
+        go : (r : Result (List PlainEvent) Fault) → reorder_of set repo.history ≡ r → EditsWell (r >>= λ after. Ok (record repo { history = after }))
+        go (Err why) e = tt
+        go (Ok after) e =
+            let events = repo.history in
+            history_well repo after repo.next h (reordered_sound set events after h.history.sound selection e)
+            (reordered_within set events after h.history.sound selection (within_limits events h.history) e)
+            (same_below events after repo.next (reordered_ids set events after h.history.sound selection e) (below_spent events repo.next h.spent)) (omega arith)
+
+    edit_well : (s : Session) (ids : Ids) (what : Edit) → IsLawful s → IsOnce ids → LiveIn s ids → ChangesWell (after_edit s ids what)
+    unfolding after_edit
+    edit_well s ids what h once lives =
+        well_after (chosen s) (λ repo. edited what ids repo >>= λ new. Ok (record s { repos = with_repo new s.repos })) (λ repo is.
+        well_after (edited what ids repo) (λ new. Ok (record s { repos = with_repo new s.repos })) (λ new made.
+        with_new new s.repos h (live_well (remade what ids repo) (remade_well what ids repo (chosen_lawful s repo is h) once (lives repo is)) new made)))
+      where
+        remade_well : (what : Edit) (ids : Ids) (repo : Repo) → IsLawfulRepo repo → IsOnce ids → AreLive repo.history ids → EditsWell (remade what ids repo)
+        remade_well (edit.Squash how) ids repo h once lives = squashed_well how ids repo h
+        remade_well edit.Reorder ids repo h once lives = reordered_well ids repo h (selection_of repo.history ids once lives)
+        remade_well (edit.SplitAt number) ids repo h once lives =
+            let below = below_spent repo.history repo.next h.spent in
+            split_well repo (λ set. split_at_of repo.next number set repo.history) h (λ set after e. one_commit repo.history set (λ c. split_from repo.next c number repo.history) after e)
+            (λ c after there e. split_at_sound repo.next number c repo.history after h.history.sound there (unspent repo.history repo.next below) e)
+            (λ c after e. split_at_within repo.next number c repo.history after e) (λ set after e. split_at_below repo.next number set repo.history after e below) ids lives
+        remade_well (edit.SplitBy text) ids repo h once lives = said (path_fault text)
+          where
+            said : (o : Option PathFault) → EditsWell (elim o [ None ↦ Ok text | Some why ↦ Err (fault.NoSuchPath text) ] >>= λ path. with_one_more repo (split_by_of repo.next path ids repo.history))
+            said (Some why) = tt
+            said None =
+                let below = below_spent repo.history repo.next h.spent in
+                split_well repo (λ set. split_by_of repo.next text set repo.history) h (λ set after e. one_commit repo.history set (λ c. by_path repo.next text c repo.history) after e)
+                (λ c after there e. split_by_sound repo.next text c repo.history after h.history.sound there (unspent repo.history repo.next below) e)
+                (λ c after e. split_by_within repo.next text c repo.history after e) (λ set after e. split_by_below repo.next text set repo.history after e below) ids lives
 
     abbrev with_name : Repo → Bytes → Ids → Repo
     with_name repo name ids = record repo { names = repo.names ++ (name, ids) ∷ [] }
@@ -293,27 +506,28 @@ module _
         let was = chosen_lawful s repo is h in
         with_new (with_name repo free ids) s.repos h (record { history = was.history; names = names_more repo.names free ids was.names k; spent = was.spent })))
 
-    carried_well : (s : Session) (files : Files) (ids : Ids) (what : Command) → IsLawful s → IsOnce ids → GoesWell (carried s files ids what)
+    carried_well : (s : Session) (files : Files) (ids : Ids) (what : Command) → IsLawful s → IsOnce ids → LiveIn s ids → GoesWell (carried s files ids what)
     unfolding carried
-    carried_well s files ids (command.Read file name) h k = changes_well (after_read s files file name) (read_well s files file name h)
-    carried_well s files ids (command.Write to) h k = reports_well s to _ h
-    carried_well s files ids (command.Choose name) h k = changes_well (after_choose s name) (choose_well s name h)
-    carried_well s files ids command.ShowRepos h k = h
-    carried_well s files ids (command.Drop name) h k = changes_well (after_drop s name) (drop_well s name h)
-    carried_well s files ids command.DropChosen h k = changes_well (after_drop_chosen s) (drop_chosen_well s h)
-    carried_well s files ids command.Renumber h k = changes_well (after_renumber s) (renumber_well s h)
-    carried_well s files ids (command.Show selection what to) h k = reports_well s to _ h
-    carried_well s files ids (command.Assign selection name) h k = changes_well (after_assign s ids name) (assign_well s ids name h k)
-    carried_well s files ids (command.Sample count start) h k = changes_well (after_sample s count start) (sample_well s count start h)
-    carried_well s files ids (command.Names to) h k = reports_well s to _ h
-    carried_well s files ids (command.Summary to) h k = reports_well s to _ h
+    carried_well s files ids (command.Read file name) h k lives = changes_well (after_read s files file name) (read_well s files file name h)
+    carried_well s files ids (command.Write to) h k lives = reports_well s to _ h
+    carried_well s files ids (command.Choose name) h k lives = changes_well (after_choose s name) (choose_well s name h)
+    carried_well s files ids command.ShowRepos h k lives = h
+    carried_well s files ids (command.Drop name) h k lives = changes_well (after_drop s name) (drop_well s name h)
+    carried_well s files ids command.DropChosen h k lives = changes_well (after_drop_chosen s) (drop_chosen_well s h)
+    carried_well s files ids command.Renumber h k lives = changes_well (after_renumber s) (renumber_well s h)
+    carried_well s files ids (command.Show selection what to) h k lives = reports_well s to _ h
+    carried_well s files ids (command.Assign selection name) h k lives = changes_well (after_assign s ids name) (assign_well s ids name h k)
+    carried_well s files ids (command.Edit selection what) h k lives = changes_well (after_edit s ids what) (edit_well s ids what h k lives)
+    carried_well s files ids (command.Sample count start) h k lives = changes_well (after_sample s count start) (sample_well s count start h)
+    carried_well s files ids (command.Names to) h k lives = reports_well s to _ h
+    carried_well s files ids (command.Summary to) h k lives = reports_well s to _ h
 
     step_well : (denial : Option Denial) (s : Session) (files : Files) (what : Command) → IsLawful s → GoesWell (step denial s files what)
     unfolding step
     step_well denial s files what h = go (under denial (ready s what)) refl
       where
         go : (r : Result Ids Fault) → under denial (ready s what) ≡ r → GoesWell (r >>= λ ids. carried s files ids what)
-        go (Ok ids) is = carried_well s files ids what h (ready_once denial s what ids h is)
+        go (Ok ids) is = carried_well s files ids what h (ready_once denial s what ids h is) (ready_live denial s what ids h is)
         go (Err why) is = tt
 
     ordered_well : (denial : Option Denial) (s : Session) (files : Files) (depth : ℕ) (what : Order) → IsLawful s → GoesWell (ordered denial s files depth what)

@@ -1,22 +1,31 @@
 -- What single commands do that are done.
 use Rattle.std.proofs.Common.{◌≡◌, ℕ, zero, suc, Bool, true, false, List, [], ◌∷◌, map, Option, Some, None, Result, Ok, Err, refl, sym, ap, subst, ◌∙◌}
-use Rattle.std.specs.Prelude.{bytes_eq, slice_get, if◌then◌else◌}
+use Rattle.std.specs.Prelude.{IsTrue, bytes_eq, slice_get, if◌then◌else◌}
 use Rattle.std.proofs.lemmas.Slice.Eq.{bytes_eq-Decides}
 use Rattle.plain_model.specs.Files.{Files}
 use Rattle.plain_model.specs.Lookups.{id_of}
 use Rattle.plain_model.specs.Paths.{Bytes}
 use Rattle.plain_model.specs.Snapshots.{shown_tree}
+use Rattle.plain_model.specs.Soundness.{IsCommitOf, IsSound, has_id}
+use Rattle.plain_model.specs.declared.id.AnyId.{AnyId}
 use Rattle.plain_model.specs.Text.{text}
 use Rattle.plain_model.specs.declared.event.PlainEvent.{PlainEvent}
 use Rattle.plain_model.specs.declared.fault.Fault.{Fault}
 use Rattle.byte_patterns.specs.Judging.{Denial, Reason, plainly, under, without}
+use Rattle.event_sets.specs.Sets.{Ids}
 use Rattle.script_reader.specs.declared.command.Command.{Command}
 use Rattle.script_reader.specs.declared.command.Command.TheVariants as command
 use Rattle.renumbering.specs.Renumbered.{renumbered}
-use Rattle.history_machine.specs.Kept.{KeepsTrees, KeepTrees}
+use Rattle.script_reader.specs.declared.edit.Edit.TheVariants as edit
+use Rattle.selection_eval.specs.Names.{Names, live_names}
+use Rattle.squash_laws.specs.Faults.{squash_of}
+use Rattle.squash_laws.specs.declared.policy.Lean.{Lean}
+use Rattle.squash_laws.specs.declared.policy.Policy.{Policy}
+use Rattle.squash_laws.specs.declared.policy.Push.TheVariants as push
+use Rattle.history_machine.specs.Kept.{Each, KeepsTrees, KeepsTreesOfRest}
 use Rattle.script_reader.specs.Answering.{◌>>=◌}
 use Rattle.history_machine.specs.Machine.{Turn}
-use Rattle.history_machine.specs.Sessions.{Repo, Session, Scope, after_renumber, carried, changes, chosen, chosen_by, find_repo, in_scope, no_events, or_no_repo, quiet, ready, reports, scope_of, sends, step, with_repo}
+use Rattle.history_machine.specs.Sessions.{Repo, Session, Scope, after_edit, after_renumber, carried, changes, chosen, chosen_by, edited, find_repo, in_scope, no_events, or_no_repo, quiet, ready, reports, scope_of, sends, step, with_live_names, with_repo}
 
 -- ---- commands that speak of no events
 
@@ -80,47 +89,119 @@ pub found : (s : Session) (repo : Repo) → chosen s ≡ Ok repo → find_repo r
 unfolding chosen
 found s repo h = found_by s.repos s.choice repo h
 
--- ---- trees
+-- ---- what an edit keeps
 
-kept : (r : Repo) → KeepsTrees r r
-kept r = record { name = refl; next = refl; names = refl; ids = refl; trees = λ c. refl }
+-- the events of a command that is done, and what it does with them
+pub with_its_events : (denial : Option Denial) (s : Session) (files : Files) (what : Command) (t : Turn Session) → step denial s files what ≡ Ok t
+    → (ids : Ids) × (carried s files ids what ≡ Ok t)
+unfolding step
+with_its_events denial s files what t h = go (under denial (ready s what)) h
+  where
+    go : (r : Result Ids Fault) → (r >>= λ ids. carried s files ids what) ≡ Ok t → (ids : Ids) × (carried s files ids what ≡ Ok t)
+    go (Ok ids) h = (ids, h)
+    go (Err why) h = absurd cc
 
-kept_all : (repos : List Repo) → KeepTrees repos repos
-kept_all [] = tt
-kept_all (r ∷ repos) = (kept r, kept_all repos)
+-- where one repository changes, and what is kept is kept where nothing changes
+module _ (Keeps : Repo → Repo → Type 0) (same : (repo : Repo) → Keeps repo repo) where
+  same_all : (repos : List Repo) → Each Keeps repos repos
+  same_all [] = tt
+  same_all (r ∷ repos) = (same r, same_all repos)
+
+  each_with : (repo new : Repo) → Keeps repo new → (repos : List Repo) → find_repo new.name repos ≡ Some repo → Each Keeps repos (with_repo new repos)
+  each_with repo new kept [] h = absurd cc
+  each_with repo new kept (r ∷ repos) h = go (bytes_eq new.name r.name) h (each_with repo new kept repos)
+    where
+      go : (b : Bool) → (if b then Some r else find_repo new.name repos) ≡ Some repo → (find_repo new.name repos ≡ Some repo → Each Keeps repos (with_repo new repos))
+          → Each Keeps (r ∷ repos) (if b then new ∷ repos else r ∷ with_repo new repos)
+      go true h rec =
+          let is : repo ≡ r = cc in
+          (subst (λ (q : Repo). Keeps q new) is kept, same_all repos)
+      go false h rec = (same r, rec h)
+
+  -- an edit of the chosen one that is done
+  pub edit_keeps : (s : Session) (edit_of : Repo → Result Repo Fault) (t : Turn Session)
+      → ((repo new : Repo) → chosen s ≡ Ok repo → edit_of repo ≡ Ok new → (new.name ≡ repo.name) × Keeps repo new)
+      → changes (chosen s >>= λ repo. edit_of repo >>= λ new. Ok (record s { repos = with_repo new s.repos })) ≡ Ok t → Each Keeps s.repos t.session.repos
+  edit_keeps s edit_of t kept h = go (chosen s) refl h
+    where
+      done : (repo : Repo) → chosen s ≡ Ok repo → (r : Result Repo Fault) → edit_of repo ≡ r
+          → changes (r >>= λ new. Ok (record s { repos = with_repo new s.repos })) ≡ Ok t → Each Keeps s.repos t.session.repos
+      done repo e (Err why) f h = absurd cc
+      done repo e (Ok new) f h =
+          let is : quiet (record s { repos = with_repo new s.repos }) ≡ t = cc in
+          let parts = kept repo new e f in
+          subst (λ (u : Turn Session). Each Keeps s.repos u.session.repos) is
+          (each_with repo new parts.1 s.repos (subst (λ (n : Bytes). find_repo n s.repos ≡ Some repo) (sym parts.0) (found s repo e)))
+
+      go : (r : Result Repo Fault) → chosen s ≡ r → changes (r >>= λ repo. edit_of repo >>= λ new. Ok (record s { repos = with_repo new s.repos })) ≡ Ok t
+          → Each Keeps s.repos t.session.repos
+      go (Err why) e h = absurd cc
+      go (Ok repo) e h = done repo e (edit_of repo) refl h
+
+kept : (repo : Repo) → KeepsTrees repo repo
+kept repo = record { name = refl; next = refl; names = refl; ids = refl; trees = λ c. refl }
 
 module _
     (ids : (events : List PlainEvent) → map id_of (renumbered events) ≡ map id_of events)
     (trees : (events : List PlainEvent) (c : ℕ) → shown_tree (renumbered events) c ≡ shown_tree events c)
   where
-    -- a repository with the marks of its history given anew
-    abbrev with_marks : Repo → Repo
-    with_marks repo = record repo { history = renumbered repo.history }
+    abbrev with_marks : Repo → Result Repo Fault
+    with_marks repo = Ok (record repo { history = renumbered repo.history })
 
-    marks_keep : (repo : Repo) → KeepsTrees repo (with_marks repo)
-    marks_keep repo = record { name = refl; next = refl; names = refl; ids = ids repo.history; trees = trees repo.history }
-
-    kept_with : (repo : Repo) (repos : List Repo) → find_repo repo.name repos ≡ Some repo → KeepTrees repos (with_repo (with_marks repo) repos)
-    kept_with repo [] h = absurd cc
-    kept_with repo (r ∷ repos) h = go (bytes_eq repo.name r.name) h (kept_with repo repos)
-      where
-        go : (b : Bool) → (if b then Some r else find_repo repo.name repos) ≡ Some repo
-            → (find_repo repo.name repos ≡ Some repo → KeepTrees repos (with_repo (with_marks repo) repos))
-            → KeepTrees (r ∷ repos) (if b then with_marks repo ∷ repos else r ∷ with_repo (with_marks repo) repos)
-        go true h rec =
-            let is : repo ≡ r = cc in
-            (subst (λ (q : Repo). KeepsTrees q (with_marks repo)) is (marks_keep repo), kept_all repos)
-        go false h rec = (kept r, rec h)
+    marks_keep : (repo new : Repo) → with_marks repo ≡ Ok new → (new.name ≡ repo.name) × KeepsTrees repo new
+    marks_keep repo new h =
+        let is : record repo { history = renumbered repo.history } ≡ new = cc in
+        subst (λ (q : Repo). (q.name ≡ repo.name) × KeepsTrees repo q) is
+        (refl, record { name = refl; next = refl; names = refl; ids = ids repo.history; trees = trees repo.history })
 
     -- a `renumber` that is done
-    pub renumber_keeps : (denial : Option Denial) (s : Session) (files : Files) (t : Turn Session) → step denial s files command.Renumber ≡ Ok t → KeepTrees s.repos t.session.repos
+    pub renumber_keeps : (denial : Option Denial) (s : Session) (files : Files) (t : Turn Session) → step denial s files command.Renumber ≡ Ok t → Each KeepsTrees s.repos t.session.repos
     unfolding carried after_renumber
-    renumber_keeps denial s files t h = go (chosen s) refl (sym (of_no_events denial s files command.Renumber refl) ∙ h)
+    renumber_keeps denial s files t h =
+        edit_keeps KeepsTrees kept s with_marks t (λ repo new e. marks_keep repo new) (with_its_events denial s files command.Renumber t h).1
+
+left : (repo : Repo) → KeepsTreesOfRest repo repo
+left repo = record { name = refl; next = refl; names = refl; ids = λ id there. there; trees = λ c there. refl }
+
+abbrev forward_with : Lean → Policy
+forward_with tags = record { push = push.Forward; tags = tags }
+
+-- the lists have the same names
+same_names : (events : List PlainEvent) (names : Names) → map (λ n. n.0) (live_names events names) ≡ map (λ n. n.0) names
+same_names events [] = refl
+same_names events (n ∷ names) = ap (λ rest. n.0 ∷ rest) (same_names events names)
+
+module _
+    (trees : (set : List AnyId) (events : List PlainEvent) (tags : Lean) (new : List PlainEvent) → IsSound events
+    → squash_of (forward_with tags) set events ≡ Ok new → (c : ℕ) → IsCommitOf new c → shown_tree new c ≡ shown_tree events c)
+    (ids : (how : Policy) (set : List AnyId) (events new : List PlainEvent) → IsSound events → squash_of how set events ≡ Ok new
+    → (id : AnyId) → IsTrue (has_id new id) → IsTrue (has_id events id))
+  where
+    squash_keeps : (tags : Lean) (set : Ids) (repo new : Repo) → IsSound repo.history
+        → edited (edit.Squash (forward_with tags)) set repo ≡ Ok new → (new.name ≡ repo.name) × KeepsTreesOfRest repo new
+    squash_keeps tags set repo new sound h = go (squash_of (forward_with tags) set repo.history) refl h
       where
-        go : (r : Result Repo Fault) → chosen s ≡ r
-            → changes (r >>= λ repo. Ok (record s { repos = with_repo (with_marks repo) s.repos })) ≡ Ok t
-            → KeepTrees s.repos t.session.repos
+        go : (r : Result (List PlainEvent) Fault) → squash_of (forward_with tags) set repo.history ≡ r
+            → ((r >>= λ after. Ok (record repo { history = after })) >>= λ after. Ok (with_live_names after)) ≡ Ok new → (new.name ≡ repo.name) × KeepsTreesOfRest repo new
         go (Err why) e h = absurd cc
-        go (Ok repo) e h =
-            let is : quiet (record s { repos = with_repo (with_marks repo) s.repos }) ≡ t = cc in
-            subst (λ (u : Turn Session). KeepTrees s.repos u.session.repos) is (kept_with repo s.repos (found s repo e))
+        go (Ok after) e h =
+            let is : with_live_names (record repo { history = after }) ≡ new = cc in
+            subst (λ (q : Repo). (q.name ≡ repo.name) × KeepsTreesOfRest repo q) is (
+              refl,
+              record {
+                name = refl;
+                next = refl;
+                names = same_names after repo.names;
+                ids = ids (forward_with tags) set repo.history after sound e;
+                trees = trees set repo.history tags after sound e;
+              },
+            )
+
+    -- a squash that is done, and pushes forward
+    pub squash_forward_keeps : (denial : Option Denial) (s : Session) (files : Files) (selection : Option Bytes) (tags : Lean) (t : Turn Session)
+        → step denial s files (command.Edit selection (edit.Squash (forward_with tags))) ≡ Ok t → ((repo : Repo) → chosen s ≡ Ok repo → IsSound repo.history)
+        → Each KeepsTreesOfRest s.repos t.session.repos
+    unfolding carried after_edit
+    squash_forward_keeps denial s files selection tags t h sound =
+        let done = with_its_events denial s files (command.Edit selection (edit.Squash (forward_with tags))) t h in
+        edit_keeps KeepsTreesOfRest left s (edited (edit.Squash (forward_with tags)) done.0) t (λ repo new e. squash_keeps tags done.0 repo new (sound repo e)) done.1

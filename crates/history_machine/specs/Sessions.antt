@@ -3,7 +3,7 @@
 use Rattle.std.specs.Prelude.{ℕ, ◌+◌, List, [], ◌∷◌, ◌++◌, length, map, flat_map, codes, bytes_eq, nat_lt, Option, Some, None, Result, Ok, Err, if◌then◌else◌}
 use Rattle.plain_model.specs.Files.{Files}
 use Rattle.plain_model.specs.Lookups.{id_of, next_number}
-use Rattle.plain_model.specs.Paths.{Bytes}
+use Rattle.plain_model.specs.Paths.{Bytes, path_fault}
 use Rattle.plain_model.specs.Text.{line, text}
 use Rattle.plain_model.specs.declared.event.PlainEvent.{PlainEvent}
 use Rattle.plain_model.specs.declared.limit.TheConstants.{MAX_REPOSITORIES}
@@ -26,12 +26,17 @@ use Rattle.script_reader.specs.declared.command.Listing.{Listing}
 use Rattle.script_reader.specs.declared.command.Listing.TheVariants as listing
 use Rattle.script_reader.specs.declared.command.Order.{Order}
 use Rattle.script_reader.specs.declared.command.Order.TheVariants as order
+use Rattle.script_reader.specs.declared.edit.Edit.{Edit}
+use Rattle.script_reader.specs.declared.edit.Edit.TheVariants as edit
 use Rattle.script_reader.specs.declared.script.ScriptLine.{ScriptLine}
 use Rattle.script_reader.specs.declared.script.ScriptLine.TheVariants.{Define, Plain}
 use Rattle.selection_eval.specs.Denoted.{denote}
-use Rattle.selection_eval.specs.Names.{Names, assigned}
+use Rattle.selection_eval.specs.Names.{Names, assigned, live_names}
 use Rattle.selection_parser.specs.Plain.{PlainSelection}
 use Rattle.selection_parser.specs.Reading.{selection_at}
+use Rattle.squash_laws.specs.Faults.{squash_of}
+use Rattle.split_laws.specs.Split.{split_at_of, split_by_of}
+use Rattle.reorder_laws.specs.Reorder.{reorder_of}
 use Rattle.history_machine.specs.Loading.{loaded}
 use Rattle.history_machine.specs.Machine.{Turn}
 
@@ -125,6 +130,7 @@ or_all (Some text) = selected text
 abbrev pub scope_of : Command → Scope
 scope_of (command.Show selection what to) = or_all selection
 scope_of (command.Assign selection name) = selected selection
+scope_of (command.Edit selection what) = or_all selection
 scope_of other = no_events
 
 -- the events in a repository for which the whole of a text stands, by what is read in it
@@ -188,6 +194,33 @@ after_assign s ids name =
     chosen s >>= λ repo. unassigned name (assigned name repo.names) >>= λ free.
     Ok (record s { repos = with_repo (record repo { names = repo.names ++ (free, ids) ∷ [] }) s.repos })
 
+-- a path that a word says, if it is one
+abbrev pub said_path : Bytes → Result Bytes Fault
+said_path text = elim (path_fault text) [ None ↦ Ok text | Some why ↦ Err (fault.NoSuchPath text) ]
+
+-- with a history that has an event of the next number
+abbrev pub with_one_more : Repo → Result (List PlainEvent) Fault → Result Repo Fault
+with_one_more repo made = made >>= λ after. Ok (record repo { history = after; next = repo.next + 1 })
+
+-- a repository with what an edit of some events makes of its history
+abbrev pub remade : Edit → Ids → Repo → Result Repo Fault
+remade (edit.Squash how) ids repo = squash_of how ids repo.history >>= λ after. Ok (record repo { history = after })
+remade (edit.SplitAt number) ids repo = with_one_more repo (split_at_of repo.next number ids repo.history)
+remade (edit.SplitBy text) ids repo = said_path text >>= λ path. with_one_more repo (split_by_of repo.next path ids repo.history)
+remade edit.Reorder ids repo = reorder_of ids repo.history >>= λ after. Ok (record repo { history = after })
+
+-- lists under names keep the events that are still there
+abbrev pub with_live_names : Repo → Repo
+with_live_names repo = record repo { names = live_names repo.history repo.names }
+
+-- a repository after an edit of some of its events
+abbrev pub edited : Edit → Ids → Repo → Result Repo Fault
+edited what ids repo = remade what ids repo >>= λ after. Ok (with_live_names after)
+
+-- an edit of the chosen history
+unfoldable pub after_edit : Session → Ids → Edit → Result Session Fault
+after_edit s ids what = chosen s >>= λ repo. edited what ids repo >>= λ new. Ok (record s { repos = with_repo new s.repos })
+
 -- the line of a repository, by the name that is chosen
 abbrev pub repo_line : Option Bytes → Bytes → Bytes
 repo_line None name = line (codes "  " ++ name)
@@ -238,6 +271,7 @@ carried s files ids command.DropChosen = changes (after_drop_chosen s)
 carried s files ids command.Renumber = changes (after_renumber s)
 carried s files ids (command.Show selection what to) = reports s to (of_chosen s (shown what ids))
 carried s files ids (command.Assign selection name) = changes (after_assign s ids name)
+carried s files ids (command.Edit selection what) = changes (after_edit s ids what)
 carried s files ids (command.Sample count start) = changes (after_sample s count start)
 carried s files ids (command.Names to) = reports s to (of_chosen s (λ repo. names_text repo.history))
 carried s files ids (command.Summary to) = reports s to (of_chosen s (λ repo. summary_text repo.name repo.history))

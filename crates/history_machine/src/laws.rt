@@ -8,8 +8,11 @@ ghost use Rattle.byte_patterns.specs.Judging.{Denial};
 ghost use Rattle.plain_model.specs.Text.{text};
 ghost use Rattle.script_reader.specs.declared.command.Command.TheVariants as command;
 ghost use Rattle.script_reader.specs.declared.command.Command.{Command};
+ghost use Rattle.script_reader.specs.declared.edit.Edit.{Edit};
 ghost use Rattle.script_reader.specs.declared.script.ScriptLine.{ScriptLine};
-ghost use Rattle.history_machine.specs.Kept.{KeepTrees};
+ghost use Rattle.squash_laws.specs.declared.policy.Lean.{Lean};
+ghost use Rattle.squash_laws.specs.declared.policy.Push.TheVariants as push;
+ghost use Rattle.history_machine.specs.Kept.{Each, KeepsTrees, KeepsTreesOfRest};
 ghost use Rattle.history_machine.specs.Lawful.{IsLawful, IsLawfulHistory};
 ghost use Rattle.history_machine.specs.Machine.{Turn, turn_of};
 ghost use Rattle.history_machine.specs.Sessions.{Repo, Session, chosen, line_step, sends, step};
@@ -17,9 +20,19 @@ ghost use Rattle.history_machine.specs.Sessions.{Repo, Session, chosen, line_ste
 use renumbering::{
     ids_stay, nothing_else_changes, renumbering_keeps_soundness, renumbering_keeps_trees,
 };
+use reorder_laws::{
+    a_reorder_keeps_soundness, a_reorder_keeps_the_ids, a_reorder_keeps_the_limits,
+};
 use sample_history::samples_are_lawful;
-use selection_eval::{selections_are_without_repeats, sound_histories_are_such};
+use selection_eval::{
+    selections_are_live, selections_are_without_repeats, sound_histories_are_such,
+};
 use soundness_laws::{what_is_read_is_sound, what_is_read_passes_no_limit};
+use split_laws::{a_split_adds_one_id, a_split_keeps_soundness, a_split_keeps_the_limits};
+use squash_laws::{
+    a_push_forward_keeps_trees, a_squash_keeps_soundness, a_squash_keeps_the_limits,
+    nothing_is_added,
+};
 
 /// A line that is refused leaves the session and the files as they were, one line is printed, and nothing is run in its place.
 pub fn a_refused_line_changes_nothing()
@@ -47,10 +60,23 @@ pub fn a_write_sends_the_stream()
 /// its tree.
 pub fn a_renumber_keeps_trees()
     ensures { (denial : Option Denial) (s : Session) (files : Files) (t : Turn Session) →
-        step denial s files command.Renumber ≡ Ok t → KeepTrees s.repos t.session.repos }
+        step denial s files command.Renumber ≡ Ok t → Each KeepsTrees s.repos t.session.repos }
 {
     ids_stay();
     renumbering_keeps_trees();
+}
+
+/// A squash that pushes forward leaves every loaded repository its name, and each commit that is still there its tree.
+pub fn a_squash_forward_keeps_trees()
+    ensures { (denial : Option Denial) (s : Session) (files : Files) (selection : Option (List ℕ))
+        (tags : Lean) (t : Turn Session) →
+        step denial s files (command.Edit selection (Edit.Squash (record {
+          push = push.Forward;
+          tags = tags;
+        }))) ≡ Ok t → IsLawful s → Each KeepsTreesOfRest s.repos t.session.repos }
+{
+    a_push_forward_keeps_trees();
+    nothing_is_added();
 }
 
 /// A lawful session, whose histories are sound and within the limits, stays one by every command that is done. So it does by
@@ -68,8 +94,18 @@ pub fn a_step_keeps_it()
     ids_stay();
     nothing_else_changes();
     selections_are_without_repeats();
+    selections_are_live();
     sound_histories_are_such();
     samples_are_lawful();
+    a_squash_keeps_soundness();
+    a_squash_keeps_the_limits();
+    nothing_is_added();
+    a_split_keeps_soundness();
+    a_split_keeps_the_limits();
+    a_split_adds_one_id();
+    a_reorder_keeps_soundness();
+    a_reorder_keeps_the_limits();
+    a_reorder_keeps_the_ids();
 }
 
 /// The chosen history of such a session is sound and within the limits.

@@ -1,15 +1,18 @@
 -- What a line orders: a command, or that a macro is run. (reposurgeon manual, of each command word its section; what is at fault: own)
-use Rattle.std.specs.Prelude.{ℕ, Bool, List, [], ◌∷◌, length, nat_lt, Option, Some, None, Result, Ok, Err, bytes_eq, codes, if◌then◌else◌}
+use Rattle.std.specs.Prelude.{ℕ, Bool, List, [], ◌∷◌, length, nat_lt, Option, Some, None, option_and_then, Result, Ok, Err, bytes_eq, codes, if◌then◌else◌}
 use Rattle.plain_model.specs.Paths.{Bytes}
 use Rattle.plain_model.specs.declared.fault.Fault.{Fault}
 use Rattle.plain_model.specs.declared.fault.Fault.TheVariants as fault
 use Rattle.plain_model.specs.declared.fault.Which.TheVariants as limit
 use Rattle.plain_model.specs.declared.limit.TheConstants.{MAX_LINE_BYTES}
+use Rattle.squash_laws.specs.Faults.{delete_how}
 use Rattle.sample_history.specs.declared.limit.TheConstants.{MAX_COMMITS}
 use Rattle.script_reader.specs.Answering.{◌>>=◌}
 use Rattle.script_reader.specs.Keywords.{keyword_of}
 use Rattle.script_reader.specs.Names.{repo_name, is_given_name, is_repo_name}
-use Rattle.script_reader.specs.Numbers.{said_between}
+use Rattle.script_reader.specs.Cuts.{cut_of}
+use Rattle.script_reader.specs.Numbers.{index_in, said_between}
+use Rattle.script_reader.specs.Options.{asked_more, nothing_asked, policy_of, squash_option}
 use Rattle.script_reader.specs.Redirections.{begins_with_sign, redirected}
 use Rattle.script_reader.specs.Selecting.{Front, front_of, is_superfluous}
 use Rattle.script_reader.specs.Words.{head_of, after_head, words_of, text_of}
@@ -20,6 +23,11 @@ use Rattle.script_reader.specs.declared.command.Listing.{Listing}
 use Rattle.script_reader.specs.declared.command.Listing.TheVariants as listing
 use Rattle.script_reader.specs.declared.command.Order.{Order}
 use Rattle.script_reader.specs.declared.command.Order.TheVariants as order
+use Rattle.script_reader.specs.declared.cut.Cut.{Cut}
+use Rattle.script_reader.specs.declared.cut.Cut.TheVariants as cut
+use Rattle.script_reader.specs.declared.edit.Edit.{Edit}
+use Rattle.script_reader.specs.declared.edit.Edit.TheVariants as edit
+use Rattle.script_reader.specs.declared.options.Asked.{Asked}
 use Rattle.script_reader.specs.declared.number.TheConstants.{MAX_START}
 use Rattle.script_reader.specs.declared.keyword.Keyword.{Keyword}
 use Rattle.script_reader.specs.declared.keyword.Keyword.TheVariants as keyword
@@ -134,6 +142,41 @@ assign_form (Some selection) [] = Err (fault.BadWords (codes "assign"))
 assign_form (Some selection) (word ∷ words) =
     or_at_fault word (if_given (whole_in word)) >>= λ name. alone (command.Assign selection name) words
 
+-- what the options ask for that follow some
+abbrev pub asked_by : Asked → List Word → Result Asked Fault
+asked_by asked [] = Ok asked
+asked_by asked (word ∷ words) =
+    or_at_fault word (option_and_then (asked_more asked) (option_and_then squash_option (whole_in word))) >>= λ more. asked_by more words
+
+-- `sel squash [--pushforward | --pushback | --delete] [--tagforward | --tagback]`
+unfoldable pub squash_form : Option Bytes → List Word → Result Command Fault
+squash_form None words = Err (fault.BadWords (codes "squash"))
+squash_form (Some selection) words =
+    asked_by nothing_asked words >>= λ asked. Ok (command.Edit (Some selection) (edit.Squash (policy_of asked)))
+
+-- `sel delete`
+unfoldable pub delete_form : Option Bytes → List Word → Result Command Fault
+delete_form None words = Err (fault.BadWords (codes "delete"))
+delete_form (Some selection) words = alone (command.Edit (Some selection) (edit.Squash delete_how)) words
+
+-- what is after `at`, or after `by`
+abbrev pub cut_form : Cut → List Word → Result Edit Fault
+cut_form place [] = Err (fault.BadWords (codes "split"))
+cut_form cut.At (word ∷ words) = or_at_fault word (option_and_then index_in (whole_in word)) >>= λ number. alone (edit.SplitAt number) words
+cut_form cut.By (word ∷ words) = or_at_fault word (text_before words word) >>= λ path. alone (edit.SplitBy path) words
+
+-- `sel split at NUMBER`, `sel split by PATH`
+unfoldable pub split_form : Option Bytes → List Word → Result Command Fault
+split_form None words = Err (fault.BadWords (codes "split"))
+split_form (Some selection) [] = Err (fault.BadWords (codes "split"))
+split_form (Some selection) (word ∷ words) =
+    or_at_fault word (option_and_then cut_of (whole_in word)) >>= λ cut. cut_form cut words >>= λ what. Ok (command.Edit (Some selection) what)
+
+-- `sel reorder`
+unfoldable pub reorder_form : Option Bytes → List Word → Result Command Fault
+reorder_form None words = Err (fault.BadWords (codes "reorder"))
+reorder_form (Some selection) words = alone (command.Edit (Some selection) edit.Reorder) words
+
 -- `names [>FILE]`
 unfoldable pub names_form : List Word → Result Command Fault
 names_form words = output_in words >>= λ to. Ok (command.Names to)
@@ -176,6 +219,10 @@ form_of selection keyword.Stamp words = steps (show_form selection listing.Stamp
 form_of selection keyword.Resolve words = steps (show_form selection listing.Resolve words)
 form_of selection keyword.Manifest words = steps (show_form selection listing.Manifest words)
 form_of selection keyword.Assign words = steps (assign_form selection words)
+form_of selection keyword.Squash words = steps (squash_form selection words)
+form_of selection keyword.Delete words = steps (delete_form selection words)
+form_of selection keyword.Split words = steps (split_form selection words)
+form_of selection keyword.Reorder words = steps (reorder_form selection words)
 form_of selection keyword.Names words = steps (names_form words)
 form_of selection keyword.Summary words = steps (summary_form words)
 form_of selection keyword.Sample words = steps (sample_form words)

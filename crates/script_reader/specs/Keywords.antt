@@ -18,6 +18,10 @@ keyword_of word =
     if bytes_eq word (codes "resolve") then Some keyword.Resolve else
     if bytes_eq word (codes "manifest") then Some keyword.Manifest else
     if bytes_eq word (codes "assign") then Some keyword.Assign else
+    if bytes_eq word (codes "squash") then Some keyword.Squash else
+    if bytes_eq word (codes "delete") then Some keyword.Delete else
+    if bytes_eq word (codes "split") then Some keyword.Split else
+    if bytes_eq word (codes "reorder") then Some keyword.Reorder else
     if bytes_eq word (codes "names") then Some keyword.Names else
     if bytes_eq word (codes "summary") then Some keyword.Summary else
     if bytes_eq word (codes "sample") then Some keyword.Sample else

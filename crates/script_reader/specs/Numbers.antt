@@ -1,7 +1,8 @@
 -- Numbers among the words of a line. (own)
-use Rattle.std.specs.Prelude.{ℕ, ◌==◌, Bool, false, ◌∷◌, List, nat_le, Option, Some, None, if◌then◌else◌}
+use Rattle.std.specs.Prelude.{ℕ, ◌==◌, Bool, false, ◌∷◌, List, length, nat_le, Option, Some, None, if◌then◌else◌}
 use Rattle.plain_model.specs.Parts.{number_within}
 use Rattle.plain_model.specs.Paths.{Bytes}
+use Rattle.script_reader.specs.declared.number.TheConstants.{MAX_INDEX, MAX_INDEX_DIGITS}
 
 -- a zero before other digits
 abbrev pub leads_with_zero : Bytes → Bool
@@ -20,3 +21,7 @@ number_between least most text = if leads_with_zero text then None else at_least
 abbrev pub said_between : ℕ → ℕ → Option Bytes → Option ℕ
 said_between least most None = None
 said_between least most (Some text) = number_between least most text
+
+-- the number of an operation that a text says in so many decimal digits at most, zeros before them as well
+abbrev pub index_in : Bytes → Option ℕ
+index_in text = if nat_le (length text) MAX_INDEX_DIGITS then number_within MAX_INDEX text else None

@@ -52,6 +52,10 @@ takes_selection keyword.Stamp = true
 takes_selection keyword.Resolve = true
 takes_selection keyword.Manifest = true
 takes_selection keyword.Assign = true
+takes_selection keyword.Squash = true
+takes_selection keyword.Delete = true
+takes_selection keyword.Split = true
+takes_selection keyword.Reorder = true
 takes_selection keyword.Do = true
 takes_selection other = false
 

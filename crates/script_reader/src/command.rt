@@ -5,6 +5,7 @@ ghost use Rattle.script_reader.specs.Answering.{Refuses};
 ghost use Rattle.script_reader.specs.Commands.{is_long, order_after, order_of, too_long};
 ghost use Rattle.plain_model.specs.declared.fault.Fault.TheVariants.{UnknownCommand};
 
+use crate::edit::Edit;
 use crate::form::{bad_words, form};
 use crate::keyword::Keyword;
 use crate::script::LineList;
@@ -51,6 +52,11 @@ pub enum Command {
     Assign {
         selection: WrittenSelection,
         name: Text,
+    },
+    /// Edits the chosen history, at the selected events, or at all where none is written.
+    Edit {
+        selection: Option<WrittenSelection>,
+        what: Edit,
     },
     /// Prints a line for each branch and tag.
     Names {

@@ -17,6 +17,10 @@ pub enum Keyword {
     Resolve,
     Manifest,
     Assign,
+    Squash,
+    Delete,
+    Split,
+    Reorder,
     Names,
     Summary,
     Sample,
@@ -52,6 +56,14 @@ impl Keyword {
             Some(Keyword::Manifest)
         } else if word == b"assign".as_slice() {
             Some(Keyword::Assign)
+        } else if word == b"squash".as_slice() {
+            Some(Keyword::Squash)
+        } else if word == b"delete".as_slice() {
+            Some(Keyword::Delete)
+        } else if word == b"split".as_slice() {
+            Some(Keyword::Split)
+        } else if word == b"reorder".as_slice() {
+            Some(Keyword::Reorder)
         } else if word == b"names".as_slice() {
             Some(Keyword::Names)
         } else if word == b"summary".as_slice() {
@@ -78,6 +90,10 @@ impl Keyword {
             | Keyword::Resolve
             | Keyword::Manifest
             | Keyword::Assign
+            | Keyword::Squash
+            | Keyword::Delete
+            | Keyword::Split
+            | Keyword::Reorder
             | Keyword::Do => true,
             _ => false,
         }

@@ -1,11 +1,17 @@
 //! Numbers among the words of a line.
 ghost use Rattle.std.specs.Prelude.{◌≡◌};
-ghost use Rattle.script_reader.specs.Numbers.{leads_with_zero, number_between};
+ghost use Rattle.script_reader.specs.Numbers.{index_in, leads_with_zero, number_between};
 
 use stream_fields::number_up_to;
 
 /// The greatest number that a sample begins with. (own)
 pub const MAX_START: u64 = u64::MAX;
+
+/// How many digits the number of an operation has at most. (own)
+pub const MAX_INDEX_DIGITS: usize = 19;
+
+/// The greatest number of so many digits. (own)
+pub const MAX_INDEX: u64 = 9_999_999_999_999_999_999;
 
 fn leads_with_zero(text: &[u8]) -> bool
     ensures { result ≡ leads_with_zero text.now }
@@ -25,4 +31,15 @@ pub fn number_between(least: u64, most: u64, text: &[u8]) -> Option<u64>
     }
     let number = number_up_to(most, text)?;
     if least <= number { Some(number) } else { None }
+}
+
+/// The number of an operation that a text says in decimal digits, zeros before them as well.
+pub fn index_in(text: &[u8]) -> Option<u64>
+    ensures { result ≡ index_in text.now }
+{
+    if text.len() <= MAX_INDEX_DIGITS {
+        number_up_to(MAX_INDEX, text)
+    } else {
+        None
+    }
 }

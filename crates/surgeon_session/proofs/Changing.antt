@@ -13,8 +13,9 @@ use Rattle.plain_model.specs.declared.fault.Halt.TheVariants as halt
 use Rattle.event_sets.specs.Sets.{Ids}
 use Rattle.selection_eval.specs.Names.{assigned}
 use Rattle.script_reader.specs.Answering.{◌>>=◌}
-use Rattle.history_machine.specs.Sessions.{Repo, find_repo, unassigned, with_repo}
-use Rattle.surgeon_session.specs.Entries.{Loaded, assigned_in, repo_under, repos_of, with_given}
+use Rattle.script_reader.specs.declared.edit.Edit.{Edit}
+use Rattle.history_machine.specs.Sessions.{Repo, Session, after_edit, chosen, chosen_by, edited, find_repo, unassigned, with_repo}
+use Rattle.surgeon_session.specs.Entries.{Loaded, assigned_in, edited_in, found_repo, repo_under, repos_of, with_given}
 use Rattle.surgeon_session.proofs.Entries.{found_under, same_repos, set_repos}
 
 none_is : {X : Type 0} (o : Option X) → false ≡ is_some o → o ≡ None
@@ -44,10 +45,10 @@ on_err (Ok x) P Q f h = tt
 on_err (Err e) P Q f h = f h
 
 -- a change of the one, as a change of all
-lifted : {X : Type 0} (r : Result X Halt) (expected : Result Loaded Fault) (f : Loaded → List Repo) (new : Loaded) → Returns (λ _. new) r expected
+lifted : {X A B : Type 0} (r : Result X Halt) (expected : Result A Fault) (f : A → B) (new : A) → Returns (λ _. new) r expected
     → Returns (λ _. f new) r (expected >>= λ x. Ok (f x))
-lifted (Ok x) expected f new h = ap (λ (e : Result Loaded Fault). e >>= λ x. Ok (f x)) h
-lifted (Err (halt.Refused why)) expected f new h = ap (λ (e : Result Loaded Fault). e >>= λ x. Ok (f x)) h
+lifted {A = A} (Ok x) expected f new h = ap (λ (e : Result A Fault). e >>= λ x. Ok (f x)) h
+lifted {A = A} (Err (halt.Refused why)) expected f new h = ap (λ (e : Result A Fault). e >>= λ x. Ok (f x)) h
 lifted (Err halt.Memory) expected f new h = tt
 
 named : (r : Result Bytes Fault) (g : Bytes → Loaded) (f : Loaded → List Repo) → ((r >>= λ free. Ok (g free)) >>= λ x. Ok (f x)) ≡ (r >>= λ free. Ok (f (g free)))
@@ -60,3 +61,29 @@ assigned_at r name given ids old new repos all found is h =
     let g : Bytes → Loaded = λ free. record old { names = old.names ++ (free, ids) ∷ [] } in
     let f : Loaded → List Repo = λ x. with_repo (repo_under name x) repos in
     rw (found, is) (subst (Returns (λ _. f new) r) (named (unassigned given (assigned given old.names)) g f) (lifted r (with_given given ids old) f new h))
+
+pub edited_at : {X : Type 0} (r : Result X Halt) (name : Bytes) (what : Edit) (ids : Ids) (old new : Loaded) (repos all : List Repo) → find_repo name repos ≡ Some (repo_under name old)
+    → all ≡ with_repo (repo_under name new) repos → Returns (λ _. repo_under name new) r (edited what ids (repo_under name old)) → Returns (λ _. all) r (edited_in name what ids repos)
+edited_at r name what ids old new repos all found is h =
+    rw (found, is) (lifted r (edited what ids (repo_under name old)) (λ x. with_repo x repos) (repo_under name new) h)
+
+-- an edit of the chosen repository is one of that which has its name
+in_place : (s : Session) (what : Edit) (ids : Ids) (found : Result Repo Fault)
+    → ((found >>= λ repo. edited what ids repo >>= λ new. Ok (with_repo new s.repos)) >>= λ repos. Ok (record s { repos = repos }))
+    ≡ (found >>= λ repo. edited what ids repo >>= λ new. Ok (record s { repos = with_repo new s.repos }))
+in_place s what ids (Err why) = refl
+in_place s what ids (Ok repo) = go (edited what ids repo)
+  where
+    go : (made : Result Repo Fault) → ((made >>= λ new. Ok (with_repo new s.repos)) >>= λ repos. Ok (record s { repos = repos }))
+        ≡ (made >>= λ new. Ok (record s { repos = with_repo new s.repos }))
+    go (Ok new) = refl
+    go (Err why) = refl
+
+pub edited_of_chosen : {X : Type 0} (r : Result X Halt) (s : Session) (what : Edit) (ids : Ids) (name given : Bytes) (new : List Repo) → s.choice ≡ Some name → given ≡ name
+    → Returns (λ _. new) r (edited_in given what ids s.repos) → Returns (λ _. record s { repos = new }) r (after_edit s ids what)
+unfolding after_edit chosen
+edited_of_chosen r s what ids name given new is same h =
+    let own = subst (λ (n : Bytes). Returns (λ _. new) r (edited_in n what ids s.repos)) same h in
+    let all = lifted r (edited_in name what ids s.repos) (λ repos. record s { repos = repos }) new own in
+    subst (λ (found : Result Repo Fault). Returns (λ _. record s { repos = new }) r (found >>= λ repo. edited what ids repo >>= λ new. Ok (record s { repos = with_repo new s.repos })))
+        (sym (ap (chosen_by s.repos) is)) (subst (Returns (λ _. record s { repos = new }) r) (in_place s what ids (found_repo name s.repos)) all)

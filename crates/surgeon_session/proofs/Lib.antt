@@ -9,3 +9,4 @@ mod Readying
 pub mod Rounds
 pub mod SessionRounds
 mod Sessions
+mod Speaking

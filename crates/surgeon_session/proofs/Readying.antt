@@ -115,6 +115,7 @@ module _ (before now : ℕ) where
   not_ready_near files rest s command.Renumber h r is judged = tt
   not_ready_near files rest s (command.Show selection what to) h r is judged = tt
   not_ready_near files rest s (command.Assign selection name) h r is judged = tt
+  not_ready_near files rest s (command.Edit selection edit) h r is judged = tt
   not_ready_near files rest s (command.Sample count start) h r is judged = tt
   not_ready_near files rest s (command.Names to) h r is judged = tt
   not_ready_near files rest s (command.Summary to) h r is judged = tt

@@ -1,25 +1,44 @@
 //! A loaded history, with what is kept of it.
-ghost use Rattle.std.specs.Prelude.{◌≡◌, ◌≤◌, [], IfOk, OnErr, OnOk};
+ghost use Rattle.std.specs.Prelude.{◌≡◌, ◌<◌, ◌≤◌, ◌^◌, [], IfOk, OnErr, OnOk};
 ghost use Rattle.byte_patterns.specs.Judging.{Judges};
-ghost use Rattle.history_machine.specs.Sessions.{shown, stands_for};
+ghost use Rattle.event_sets.specs.Once.{AreLive, IsOnce};
+ghost use Rattle.history_machine.specs.Sessions.{edited, remade, said_path, shown, stands_for};
 ghost use Rattle.plain_model.specs.Faults.{Returns};
 ghost use Rattle.plain_model.specs.Lookups.{next_number};
+ghost use Rattle.plain_model.specs.Soundness.{IsSound};
 ghost use Rattle.renumbering.specs.Renumbered.{renumbered};
 ghost use Rattle.selection_parser.specs.Reading.{selection_at};
 ghost use Rattle.surgeon_session.specs.Entries.{repo_under, with_given};
 
 use byte_patterns::Patterns;
-use event_arena::Events;
+use event_arena::{Events, Plan};
 use listing::{index, list, manifest, resolve, stamp};
 use manifest_cache::Manifests;
-use plain_model::{AnyId, Fault, Halt, IdList, Items, NoMemory, Text};
+use plain_model::{AnyId, Fault, Halt, IdList, Items, NoMemory, Path, PathFault, Text};
 use renumbering::renumber;
-use script_reader::{Listing, WrittenSelection};
-use selection_eval::{Names, eval};
+use script_reader::{Edit, Listing, WrittenSelection};
+use selection_eval::{
+    Names, eval, selections_are_live, selections_are_without_repeats, sound_histories_are_such,
+};
+use split_reorder::{reorder, split_at, split_by};
+use squash_delete::squash;
 use std::alloc::Global;
 use std::marker::Model;
 
-/// A loaded history, with the lists of its events that have names. Trees of its commits are kept besides, and what is shown of
+// The path that a word says.
+fn path_of(alloc: Global, text: &[u8]) -> Result<Path, Halt>
+    ensures { Returns (λ path. path) result (said_path text.now) }
+{
+    match Path::new(alloc, text) {
+        Ok(path) => Ok(path),
+        Err(PathFault::Memory) => Err(Halt::Memory),
+        Err(_) => Err(Halt::Refused(Fault::NoSuchPath {
+            path: Items::of(alloc, text)?,
+        })),
+    }
+}
+
+/// A loaded history, with the lists of its events that have names, none of which has an event twice. Trees of its commits are kept besides, and what is shown of
 /// them doesn't depend on which.
 #[derive(Drop)]
 pub struct Repository {
@@ -31,6 +50,7 @@ pub struct Repository {
 
 impl Model for Repository {
     ghost use Rattle.manifest_cache.specs.Kept.{AgreesWith};
+    ghost use Rattle.selection_eval.specs.Given.{AreNamesOnce};
     ghost use Rattle.surgeon_session.specs.Entries.{Loaded};
 
     ghost Value = { Loaded };
@@ -41,7 +61,7 @@ impl Model for Repository {
       names = r.names;
     } };
 
-    ghost invariant = { λ r. AgreesWith r.events.list r.manifests };
+    ghost invariant = { λ r. AgreesWith r.events.list r.manifests × AreNamesOnce r.names };
 }
 
 impl Repository {
@@ -65,7 +85,7 @@ impl Repository {
         &self.events
     }
 
-    /// The events for which a selection stands.
+    /// The events for which a selection stands, each once.
     pub fn denoted<P: Patterns>(
         &mut self,
         selection: &WrittenSelection,
@@ -74,9 +94,15 @@ impl Repository {
         ensures judged { (name : _) → Judges (λ ids. ids) (P.sizes patterns.old)
             (P.sizes patterns.new) result
             (stands_for (repo_under name self.old) (selection_at selection.now)) }
+        ensures once { IfOk result IsOnce }
+        ensures live { IfOk result (AreLive self.old.history) }
         ensures same { self.new ≡ self.old }
         ensures grows { P.sizes patterns.old ≤ P.sizes patterns.new }
     {
+        let _count = self.events.count();
+        sound_histories_are_such();
+        selections_are_without_repeats();
+        selections_are_live();
         eval(
             self.alloc,
             selection.selection(),
@@ -117,8 +143,72 @@ impl Repository {
         Ok(())
     }
 
+    // That numbers are left for new events. There are 2^63, more than a session can ever give, so that their end counts
+    // as that of memory.
+    fn has_numbers(&self) -> Result<(), NoMemory>
+        ensures { OnOk result (self.now.next < 2 ^ 63) }
+    {
+        if self.events.next_id() < 1 << 63 {
+            Ok(())
+        } else {
+            Err(NoMemory)
+        }
+    }
+
+    // The plan of an edit of some of its events.
+    fn plan_of(&mut self, what: &Edit, ids: &[AnyId]) -> Result<Plan, Halt>
+        requires once { IsOnce ids.now }
+        requires live { AreLive self.old.history ids.now }
+        ensures plans { (name : _) →
+            Returns (λ plan. record (repo_under name self.old) {
+              history = plan.after;
+              next = plan.next;
+            }) result (remade what.now ids.now (repo_under name self.old)) }
+        ensures before { IfOk result (λ plan. plan.before ≡ self.old.history) }
+        ensures made_at { IfOk result (λ plan. plan.made_at ≡ self.old.next) }
+        ensures sound { IfOk result (λ plan. IsSound plan.after) }
+        ensures same { self.new ≡ self.old }
+    {
+        match what {
+            Edit::Squash(how) => squash(
+                self.alloc,
+                &self.events,
+                &mut self.manifests,
+                ids,
+                *how,
+            ),
+            Edit::SplitAt(number) => {
+                self.has_numbers()?;
+                split_at(self.alloc, &self.events, ids, *number)
+            }
+            Edit::SplitBy(text) => {
+                let path = path_of(self.alloc, text.as_bytes())?;
+                self.has_numbers()?;
+                split_by(self.alloc, &self.events, ids, &path)
+            }
+            Edit::Reorder => reorder(self.alloc, &self.events, &mut self.manifests, ids),
+        }
+    }
+
+    /// Edits some of its events, or leaves all as it was.
+    pub fn edit(&mut self, what: &Edit, ids: &[AnyId]) -> Result<(), Halt>
+        requires once { IsOnce ids.now }
+        requires live { AreLive self.old.history ids.now }
+        ensures returns { (name : _) → Returns (λ _. repo_under name self.new) result
+            (edited what.now ids.now (repo_under name self.old)) }
+        ensures err { OnErr result (self.new ≡ self.old) }
+    {
+        let plan = self.plan_of(what, ids)?;
+        self.events.reserve_for(&plan)?;
+        self.manifests.follow(&plan);
+        self.events.carry_out(plan);
+        self.names.keep_live(&self.events);
+        Ok(())
+    }
+
     /// Gives a list of events a name, unless another has it.
     pub fn assign(&mut self, name: &[u8], ids: &[AnyId]) -> Result<(), Halt>
+        requires { IsOnce ids.now }
         ensures returns { Returns (λ _. self.new) result
             (with_given name.now ids.now self.old) }
         ensures err { OnErr result (self.new ≡ self.old) }

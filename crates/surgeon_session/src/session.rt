@@ -2,6 +2,7 @@
 //! `changing` edits them, `showing` makes the texts that are written and listed.
 ghost use Rattle.std.specs.Prelude.{◌≡◌, ◌≤◌, IfOk, OnErr, OnOk};
 ghost use Rattle.byte_patterns.specs.Judging.{Judges};
+ghost use Rattle.event_sets.specs.Once.{IsOnce};
 ghost use Rattle.history_machine.specs.Sessions.{
   Scope,
   carried,
@@ -16,7 +17,7 @@ ghost use Rattle.script_reader.specs.Macros.{called};
 ghost use Rattle.surgeon_session.specs.Commands.{CarriesOut, ReadsNoFile, no_calls};
 ghost use Rattle.surgeon_session.specs.Denials.{Under};
 ghost use Rattle.plain_model.specs.Faults.{Returns};
-ghost use Rattle.surgeon_session.specs.Entries.{all_in, repo_under};
+ghost use Rattle.surgeon_session.specs.Entries.{AreLiveIn, all_in, repo_under};
 ghost use Rattle.surgeon_session.specs.Pieces.{StopsNear, bytes_read, refused};
 
 mod changing;
@@ -31,6 +32,7 @@ use byte_patterns::Patterns;
 use listing::all;
 use plain_model::{AnyId, Fault, Halt, IdList, Items, NoMemory, Text};
 use script_reader::{Call, Command, LineList, Macros, WrittenSelection};
+use selection_eval::sound_histories_are_such;
 use std::alloc::Global;
 use std::marker::Model;
 use surgeon_store::{Sink, Store};
@@ -98,11 +100,15 @@ impl Session {
         }
     }
 
-    // The ids of all events of the chosen history.
+    // The ids of all events of the chosen history, each once.
     fn all_events(&self) -> Result<IdList, Halt>
-        ensures { Returns (λ ids. ids) result (all_in self.now) }
+        ensures returns { Returns (λ ids. ids) result (all_in self.now) }
+        ensures once { IfOk result IsOnce }
+        ensures live { IfOk result (AreLiveIn (chosen self.now)) }
     {
         let (_, repository) = self.chosen()?;
+        let _count = repository.events().count();
+        sound_histories_are_such();
         Ok(all(self.alloc, repository.events())?)
     }
 
@@ -115,6 +121,8 @@ impl Session {
     ) -> Result<IdList, Halt>
         ensures judged { Judges (λ ids. ids) (P.sizes patterns.old) (P.sizes patterns.new) result
             (in_scope self.old (Scope.selected selection.now)) }
+        ensures once { IfOk result IsOnce }
+        ensures live { IfOk result (AreLiveIn (chosen self.old)) }
         ensures same { self.new ≡ self.old }
         ensures grows { P.sizes patterns.old ≤ P.sizes patterns.new }
     {
@@ -126,11 +134,13 @@ impl Session {
         }
     }
 
-    // The events of which a command speaks, after the checks that come before its own.
+    // The events of which a command speaks, each once, after the checks that come before its own.
     #[tactic(auto, unfolding(history_machine::specs::Sessions::ready))]
     fn ready<P: Patterns>(&mut self, command: &Command, patterns: &mut P) -> Result<IdList, Halt>
         ensures judged { Judges (λ ids. ids) (P.sizes patterns.old) (P.sizes patterns.new) result
             (ready self.old command.now) }
+        ensures once { IfOk result IsOnce }
+        ensures live { IfOk result (AreLiveIn (chosen self.old)) }
         ensures same { self.new ≡ self.old }
         ensures grows { P.sizes patterns.old ≤ P.sizes patterns.new }
     {
@@ -138,8 +148,16 @@ impl Session {
             Command::Show {
                 selection: Some(selection),
                 ..
+            }
+            | Command::Edit {
+                selection: Some(selection),
+                ..
             } => self.selected(selection, patterns),
             Command::Show {
+                selection: None,
+                ..
+            }
+            | Command::Edit {
                 selection: None,
                 ..
             } => self.all_events(),
@@ -157,6 +175,8 @@ impl Session {
         store: &mut S,
         out: &mut T,
     ) -> Result<(), Halted>
+        requires once { IsOnce ids.now }
+        requires live { AreLiveIn (chosen self.old) ids.now }
         ensures carries { CarriesOut no_calls (S.state store.old) (T.state out.old) self.old
             (ReadsNoFile command.now) (λ files. carried self.old files ids.now command.now)
             result self.new (S.state store.new) (T.state out.new) }
@@ -173,6 +193,7 @@ impl Session {
             Command::Renumber => Ok(self.renumber()?),
             Command::Show { what, to, .. } => self.show(*what, ids, store, out, to),
             Command::Assign { name, .. } => Ok(self.assign(ids, name.as_slice())?),
+            Command::Edit { what, .. } => Ok(self.edit(what, ids)?),
             Command::Sample { count, start } => Ok(self.sample(*count, *start)?),
             Command::Names { to } => self.names(store, out, to),
             Command::Summary { to } => self.summary(store, out, to),

@@ -61,7 +61,7 @@ fn each_command_prints_and_writes_its_text(rt: HostRuntime) -> Result<(), Fail> 
     let alloc = rt.alloc();
     let index: &[u8] =
         b"     1 blob :7\n     2 commit :9 refs/heads/main\n     3 reset :9 refs/tags/v\n";
-    let rows: [(&str, &[u8], &[u8], &[u8]); 14] = [
+    let rows: [(&str, &[u8], &[u8], &[u8]); 18] = [
         (
             "list",
             b"read <1.fi\nlist",
@@ -107,6 +107,30 @@ fn each_command_prints_and_writes_its_text(rt: HostRuntime) -> Result<(), Fail> 
             RENUMBERED,
         ),
         ("write", b"read <1.fi\nrenumber\nwrite", RENUMBERED, b""),
+        (
+            "squash",
+            b"read <1.fi\n:9 squash\nsummary",
+            b"1: 0 events, 0 blobs, 0 commits, 0 tags, 0 resets, 0 passthroughs\n",
+            b"",
+        ),
+        (
+            "delete",
+            b"read <1.fi\n$,:9 assign few\n3 delete\n<few> index",
+            b"     2 commit :9 refs/heads/main\n",
+            b"",
+        ),
+        (
+            "split",
+            b"sample 3 17\n:6 split at 2\nnames\n$ index",
+            b"branch refs/heads/master :7\n     7 commit :7 refs/heads/master\n",
+            b"",
+        ),
+        (
+            "reorder",
+            b"sample 2 17\n:4,:2 reorder\nnames\nindex",
+            b"branch refs/heads/master :2\n     1 blob :1\n     2 blob :3\n     3 commit :4 refs/heads/master\n     4 commit :2 refs/heads/master\n",
+            b"",
+        ),
         (
             "sample",
             b"sample 1 0\nwrite\nchoose",

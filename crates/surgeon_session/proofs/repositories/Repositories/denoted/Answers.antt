@@ -2,6 +2,7 @@ use Rattle.std.proofs.Common.{◌≡◌, Some, None, refl, sym, ◌∙◌}
 use Rattle.history_machine.specs.Sessions.{find_repo}
 use Rattle.surgeon_session.specs.Entries.{repo_under, repos_of}
 use Rattle.surgeon_session.proofs.Changing.{not_there, stays, there}
+use Rattle.surgeon_session.proofs.Speaking.{all_under}
 use Rattle.surgeon_session.proofs.repositories.Repositories.denoted.Goals as goal
 
 pub returns-in-Some-clause-judged : goal.returns-in-Some-clause-judged
@@ -12,6 +13,15 @@ returns-in-Some-clause-judged g c =
     let found : find_repo name c.args.self.now ≡ Some (repo_under name old) =
     rw (← c.self.view_is) (there name es old (sym c.in-Some.ensures.value ∙ c.index_mut.ensures.value)) in
     rw found (c.denoted.ensures.judged name)
+
+pub returns-in-Some-clause-live : goal.returns-in-Some-clause-live
+returns-in-Some-clause-live g c =
+    let es = c.self.inside.by_name.entries in
+    let name = c.args.name.now in
+    let old = c.index_mut.result.now in
+    let found : find_repo name c.args.self.now ≡ Some (repo_under name old) =
+    rw (← c.self.view_is) (there name es old (sym c.in-Some.ensures.value ∙ c.index_mut.ensures.value)) in
+    all_under name c.args.self.now old c.denoted.result found c.denoted.ensures.live
 
 pub returns-in-Some-clause-same : goal.returns-in-Some-clause-same
 returns-in-Some-clause-same g c =

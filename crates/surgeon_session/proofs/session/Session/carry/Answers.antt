@@ -50,6 +50,14 @@ returns-in_err-assign-in-Assign-clause-carries g c =
     (halted_alone no_calls _ _ c.args.self.now c.assign.new.self _ _ failed.field-0.0 _ c.from_residual-in_err-assign-in-Assign.ensures.1
     (λ files. halts_after failed.field-0.0 _ _ (returned (λ (b : Session). b) failed.field-0.0 _ (rw c.as_slice-in-Assign.ensures at failed.ensures.returns))) failed.ensures.kept)
 
+pub returns-in_err-edit-in-Edit-clause-carries : goal.returns-in_err-edit-in-Edit-clause-carries
+unfolding carried
+returns-in_err-edit-in-Edit-clause-carries g c =
+    let failed = c.in_err-edit-in-Edit in
+    rw c.in-Edit.is
+    (halted_alone no_calls _ _ c.args.self.now c.edit.new.self _ _ failed.field-0.0 _ c.from_residual-in_err-edit-in-Edit.ensures.1
+    (λ files. halts_after failed.field-0.0 _ _ (returned (λ (b : Session). b) failed.field-0.0 _ failed.ensures.returns)) failed.ensures.kept)
+
 pub returns-in_err-sample-in-Sample-clause-carries : goal.returns-in_err-sample-in-Sample-clause-carries
 unfolding carried
 returns-in_err-sample-in-Sample-clause-carries g c =
