@@ -86,4 +86,4 @@ edited_of_chosen r s what ids name given new is same h =
     let own = subst (λ (n : Bytes). Returns (λ _. new) r (edited_in n what ids s.repos)) same h in
     let all = lifted r (edited_in name what ids s.repos) (λ repos. record s { repos = repos }) new own in
     subst (λ (found : Result Repo Fault). Returns (λ _. record s { repos = new }) r (found >>= λ repo. edited what ids repo >>= λ new. Ok (record s { repos = with_repo new s.repos })))
-        (sym (ap (chosen_by s.repos) is)) (subst (Returns (λ _. record s { repos = new }) r) (in_place s what ids (found_repo name s.repos)) all)
+    (sym (ap (chosen_by s.repos) is)) (subst (Returns (λ _. record s { repos = new }) r) (in_place s what ids (found_repo name s.repos)) all)

@@ -170,13 +170,7 @@ impl Repository {
         ensures same { self.new ≡ self.old }
     {
         match what {
-            Edit::Squash(how) => squash(
-                self.alloc,
-                &self.events,
-                &mut self.manifests,
-                ids,
-                *how,
-            ),
+            Edit::Squash(how) => squash(self.alloc, &self.events, &mut self.manifests, ids, *how),
             Edit::SplitAt(number) => {
                 self.has_numbers()?;
                 split_at(self.alloc, &self.events, ids, *number)
