@@ -1,7 +1,7 @@
 -- Each command leaves lawful repositories.
 use Rattle.std.proofs.Common.{◌≡◌, ℕ, suc, ◌+◌, ◌≤◌, ◌<◌, Bool, true, false, List, [], ◌∷◌, ◌++◌, length, map, take, max, Option, Some, None, Result, Ok, Err, refl, sym, ap, subst, ◌∙◌, nat_lt, arith}
 use Rattle.std.specs.Prelude.{IsFalse, if◌then◌else◌, bytes_eq, slice_get}
-use Rattle.std.specs.List.{AllByRecursion, fold}
+use Rattle.std.specs.List.{fold}
 use Rattle.std.specs.FinMap.{get}
 use Rattle.std.proofs.lemmas.List.{length-append, length-map}
 use Rattle.plain_model.specs.declared.event.PlainEvent.{PlainEvent}
@@ -12,6 +12,7 @@ use Rattle.plain_model.specs.declared.id.AnyId.{AnyId}
 use Rattle.plain_model.specs.declared.id.AnyId.TheVariants as any
 use Rattle.plain_model.specs.declared.path.PathFault.{PathFault}
 use Rattle.plain_model.specs.declared.limit.TheConstants.{MAX_ALIASES, MAX_EVENTS, MAX_OPERATIONS, MAX_REPOSITORIES, MAX_STREAM_BYTES}
+use Rattle.plain_model.specs.declared.raw.RawOp.{RawOp}
 use Rattle.plain_model.specs.Files.{Files}
 use Rattle.plain_model.specs.Paths.{Bytes, path_fault}
 use Rattle.history_laws.specs.FirstParents.{ops_along}
@@ -22,6 +23,12 @@ use Rattle.event_arena.proofs.SoundLemmas.{has_id-find}
 use Rattle.commit_laws.specs.Selected.{IsSelection, node_of, the_commit}
 use Rattle.split_laws.specs.Split.{first_touch, split_at_of, split_by_of, split_from}
 use Rattle.reorder_laws.specs.Reorder.{reorder_of}
+use Rattle.reparent_laws.specs.Merge.{merge_of, unmerge_of}
+use Rattle.reparent_laws.specs.Operations.{add_of, remove_of}
+use Rattle.reparent_laws.specs.Remaining.{AddsNothing}
+use Rattle.reparent_laws.specs.Reparent.{reparent_of}
+use Rattle.reparent_laws.specs.declared.removal.Removal.{Removal}
+use Rattle.reparent_laws.specs.declared.removal.Removal.TheVariants.{At, Index}
 use Rattle.plain_model.specs.Soundness.{IsCommitOf, IsSound, has_id}
 use Rattle.round_trip_laws.specs.AsRead.{IsAsRead}
 use Rattle.plain_model.specs.Histories.{nodes}
@@ -29,8 +36,7 @@ use Rattle.plain_model.specs.Lookups.{AreIdsBelow, alias_count, id_number, id_of
 use Rattle.line_automaton.specs.Machine.{all, begun, run}
 use Rattle.stream_grammar.specs.Limits.{ops_in, stream_of, stream_within}
 use Rattle.renumbering.specs.Renumbered.{all_marked, renumbered}
-use Rattle.byte_patterns.specs.Judging.{Denial, Judged, Reason, ◌>>>◌, plainly, under, without, unless_deep}
-use Rattle.byte_patterns.specs.Searching.{is_too_deep}
+use Rattle.byte_patterns.specs.Judging.{Denial, under}
 use Rattle.event_sets.specs.Once.{AreLive, IsOnce}
 use Rattle.event_sets.specs.Sets.{Ids}
 use Rattle.selection_eval.specs.Denoted.{denote}
@@ -39,10 +45,11 @@ use Rattle.selection_eval.specs.Names.{Names, assigned}
 use Rattle.squash_laws.specs.Faults.{squash_of}
 use Rattle.squash_laws.specs.declared.policy.Policy.{Policy}
 use Rattle.selection_parser.specs.Plain.{PlainSelection}
-use Rattle.selection_parser.specs.Reading.{selection_at}
 use Rattle.sample_history.specs.Sample.{sample}
+use Rattle.script_reader.specs.Added.{IsSpelledCommand, IsSpelledEdit}
 use Rattle.script_reader.specs.Commands.{order_of}
 use Rattle.script_reader.specs.Macros.{called}
+use Rattle.script_reader.specs.Spelled.{IsSpelled}
 use Rattle.script_reader.specs.declared.command.Command.{Command}
 use Rattle.script_reader.specs.declared.command.Command.TheVariants as command
 use Rattle.script_reader.specs.declared.command.Order.{Order}
@@ -55,12 +62,9 @@ use Rattle.history_machine.specs.Lawful.{IsLawful, IsLawfulHistory, IsLawfulRepo
 use Rattle.script_reader.specs.Answering.{◌>>=◌}
 use Rattle.history_machine.specs.Loading.{loaded, over, read_of}
 use Rattle.history_machine.specs.Machine.{Turn}
-use Rattle.history_machine.specs.Sessions.{Repo, Scope, Session, after_assign, after_choose, after_drop, after_drop_chosen, after_edit, after_read, after_renumber, after_sample, all_events, calling, carried, changes, chosen, edited, find_repo, in_scope, line_step, no_events, ordered, read_repo, ready, remade, reports, room, sample_name, scope_of, selected, stands_for, step, there, unassigned, unless, unused, with_live_names, with_one_more, with_repo, without_repo}
-use Rattle.history_machine.proofs.Selections.{all_live, listed_here, live_once, names_more, selection_of}
-use Rattle.history_machine.proofs.Steps.{found}
-
-abbrev AreLawful : List Repo → Type 0
-AreLawful repos = AllByRecursion IsLawfulRepo repos
+use Rattle.history_machine.specs.Sessions.{Repo, Session, after_assign, after_choose, after_drop, after_drop_chosen, after_edit, after_read, after_renumber, after_sample, calling, carried, changes, chosen, edited, find_repo, line_step, ordered, read_repo, ready, remade, reports, room, sample_name, step, there, unassigned, unless, unused, with_history, with_live_names, with_one_more, with_repo, without_repo}
+use Rattle.history_machine.proofs.Selections.{listed_here, live_once, names_more, selection_of}
+use Rattle.history_machine.proofs.Ready.{AreLawful, LiveIn, chosen_lawful, ready_live, ready_once}
 
 -- a command that is done leaves such histories
 abbrev GoesWell : Result (Turn Session) Fault → Type 0
@@ -111,18 +115,6 @@ with_new new (r ∷ repos) h k = go (bytes_eq new.name r.name) (with_new new rep
     go : (b : Bool) → AreLawful (with_repo new repos) → AreLawful (if b then new ∷ repos else r ∷ with_repo new repos)
     go true rec = (k, h.1)
     go false rec = (h.0, rec)
-
-one_found : (name : Bytes) (repo : Repo) (repos : List Repo) → AreLawful repos → find_repo name repos ≡ Some repo → IsLawfulRepo repo
-one_found name repo [] h e = absurd cc
-one_found name repo (r ∷ repos) h e = go (bytes_eq name r.name) e (one_found name repo repos h.1)
-  where
-    go : (b : Bool) → (if b then Some r else find_repo name repos) ≡ Some repo → (find_repo name repos ≡ Some repo → IsLawfulRepo repo) → IsLawfulRepo repo
-    go true e rec = let is : r ≡ repo = cc in subst IsLawfulRepo is h.0
-    go false e rec = rec e
-
--- the chosen one
-pub chosen_lawful : (s : Session) (repo : Repo) → chosen s ≡ Ok repo → IsLawful s → IsLawfulRepo repo
-chosen_lawful s repo is h = one_found repo.name repo s.repos h (found s repo is)
 
 -- ---- numbers
 
@@ -200,24 +192,6 @@ ops_alike (Tag id name target tagger comment mark ∷ events) = let rest = ops_a
 ops_alike (Reset id branch target ∷ events) = let rest = ops_alike events in omega arith
 ops_alike (Pass id line ∷ events) = let rest = ops_alike events in omega arith
 
--- ---- the events of which a command speaks
-
--- a value that stays though a pattern may be refused is the value
-value_under : {A : Type 0} (denial : Option Denial) (judged : Judged A) (x : A) → under denial judged ≡ Ok x → judged.value ≡ Ok x
-value_under None judged x h = h
-value_under (Some d) judged x h = go d.reason (slice_get judged.built d.place) h
-  where
-    go : (why : Reason) (text : Option Bytes) → without why text judged.value ≡ Ok x → judged.value ≡ Ok x
-    go why None h = h
-    go Reason.its_size (Some text) h = absurd cc
-    go Reason.its_nesting (Some text) h = deep (is_too_deep text) h
-      where
-        deep : (b : Bool) → unless_deep text b judged.value ≡ Ok x → judged.value ≡ Ok x
-        deep true h = absurd cc
-        deep false h = h
-
--- ---- counts
-
 ops_marked : (m : ℕ) (events : List PlainEvent) → ops_in (map (all_marked m) events) ≡ ops_in events
 ops_marked m [] = refl
 ops_marked m (Blob id mark bytes ∷ events) = ap (λ n. 0 + n) (ops_marked m events)
@@ -234,6 +208,18 @@ aliases_marked m (Commit id mark branch author committer encoding comment parent
 aliases_marked m (Tag id name target tagger comment mark ∷ events) = aliases_marked m events
 aliases_marked m (Reset id branch target ∷ events) = aliases_marked m events
 aliases_marked m (Pass id line ∷ events) = aliases_marked m events
+
+-- ---- changes of one commit
+
+-- what is true of what each change of one commit leaves
+pub record OfChanges (Holds : List PlainEvent → List PlainEvent → Type 0) : Type 0 where
+  pub reparent : (use_order rebase : Bool) (set : List AnyId) (events new : List PlainEvent) → IsSound events → IsSelection events set
+      → reparent_of use_order rebase set events ≡ Ok new → Holds events new
+  pub merge : (set : List AnyId) (events new : List PlainEvent) → IsSound events → merge_of set events ≡ Ok new → Holds events new
+  pub unmerge : (set : List AnyId) (events new : List PlainEvent) → IsSound events → IsWithinLimits events → unmerge_of set events ≡ Ok new → Holds events new
+  pub add : (op : RawOp) (set : List AnyId) (events new : List PlainEvent) → IsSound events → IsSpelled op → add_of op set events ≡ Ok new → Holds events new
+  pub remove : (what : Removal) (set : List AnyId) (events new : List PlainEvent) → IsSound events → IsWithinLimits events → remove_of what set events ≡ Ok new
+      → Holds events new
 
 module _
     (sound : (bytes : List ℕ) (events : List PlainEvent) → stream_of bytes ≡ Ok events → IsAsRead events)
@@ -270,6 +256,10 @@ module _
     → IsWithinLimits new)
     (reordered_ids : (set : List AnyId) (events new : List PlainEvent) → IsSound events → IsSelection events set → reorder_of set events ≡ Ok new
     → (id : AnyId) → has_id new id ≡ has_id events id)
+    (changed_sound : OfChanges (λ events new. IsSound new))
+    (changed_within : OfChanges (λ events new. IsWithinLimits new))
+    (changed_adds : OfChanges AddsNothing)
+    (spelled : (line : Bytes) (what : Command) → order_of line ≡ Ok (order.Step what) → IsSpelledCommand what)
   where
     read_lawful : (name : Bytes) (file : Option Bytes) (events : List PlainEvent) → read_of name file ≡ Ok events → IsLawfulHistory events
     read_lawful name None events h = absurd cc
@@ -292,45 +282,6 @@ module _
       few_operations = subst (λ n. n ≤ MAX_OPERATIONS) (sym (ops_marked 0 events) ∙ ap ops_in (sym (others events 0)) ∙ ops_marked 0 (renumbered events)) h.few_operations;
       few_aliases = subst (λ n. n ≤ MAX_ALIASES) (sym (aliases_marked 0 events) ∙ ap alias_count (sym (others events 0)) ∙ aliases_marked 0 (renumbered events)) h.few_aliases;
     }
-
-    -- ---- the events of which a command speaks
-
-    denoted_once : (repo : Repo) (read : Result (PlainSelection × ℕ) ℕ) → IsLawfulRepo repo → GivesOnce (stands_for repo read).value
-    denoted_once repo (Ok read) h = once repo.history (own_ids repo.history h.history.sound) repo.names h.names read.0
-    denoted_once repo (Err column) h = tt
-
-    scope_once : (s : Session) (scope : Scope) → IsLawful s → GivesOnce (in_scope s scope).value
-    scope_once s no_events h = refl
-    scope_once s all_events h = go (chosen s) refl
-      where
-        go : (r : Result Repo Fault) → chosen s ≡ r → GivesOnce (r >>= λ repo. Ok (map id_of repo.history))
-        go (Ok repo) is = own_ids repo.history (chosen_lawful s repo is h).history.sound
-        go (Err why) is = tt
-    scope_once s (selected text) h = go (chosen s) refl
-      where
-        go : (r : Result Repo Fault) → chosen s ≡ r → GivesOnce (plainly r >>> λ repo. stands_for repo (selection_at text)).value
-        go (Ok repo) is = denoted_once repo (selection_at text) (chosen_lawful s repo is h)
-        go (Err why) is = tt
-
-    ready_once : (denial : Option Denial) (s : Session) (what : Command) (ids : Ids) → IsLawful s → under denial (ready s what) ≡ Ok ids → IsOnce ids
-    unfolding ready
-    ready_once denial s what ids h is = subst GivesOnce (value_under denial (in_scope s (scope_of what)) ids is) (scope_once s (scope_of what) h)
-
-    denoted_live : (repo : Repo) (read : Result (PlainSelection × ℕ) ℕ) → IsLawfulRepo repo → GivesLive repo.history (stands_for repo read).value
-    denoted_live repo (Ok read) h = live repo.history (tips repo.history h.history.sound) repo.names read.0
-    denoted_live repo (Err column) h = tt
-
-    scope_live : (s : Session) (scope : Scope) (repo : Repo) → IsLawful s → chosen s ≡ Ok repo → GivesLive repo.history (in_scope s scope).value
-    scope_live s no_events repo h is = tt
-    scope_live s all_events repo h is = rw is (all_live repo.history)
-    scope_live s (selected text) repo h is = rw is (denoted_live repo (selection_at text) (chosen_lawful s repo is h))
-
-    abbrev LiveIn : Session → Ids → Type 0
-    LiveIn s ids = (repo : Repo) → chosen s ≡ Ok repo → AreLive repo.history ids
-
-    ready_live : (denial : Option Denial) (s : Session) (what : Command) (ids : Ids) → IsLawful s → under denial (ready s what) ≡ Ok ids → LiveIn s ids
-    unfolding ready
-    ready_live denial s what ids h is repo chosen_is = subst (GivesLive repo.history) (value_under denial (in_scope s (scope_of what)) ids is) (scope_live s (scope_of what) repo h chosen_is)
 
     -- ---- the commands
 
@@ -470,22 +421,90 @@ module _
             (reordered_within set events after h.history.sound selection (within_limits events h.history) e)
             (same_below events after repo.next (reordered_ids set events after h.history.sound selection e) (below_spent events repo.next h.spent)) (omega arith)
 
-    edit_well : (s : Session) (ids : Ids) (what : Edit) → IsLawful s → IsOnce ids → LiveIn s ids → ChangesWell (after_edit s ids what)
+    -- a bound of the ids is one where no event comes
+    fewer_below : (events new : List PlainEvent) (next : ℕ) → AddsNothing events new → AreIdsBelow next events → AreIdsBelow next new
+    fewer_below events new next nothing below id there = below id (sym (has_id-find events id) ∙ nothing.ids id (has_id-find new id ∙ there))
+
+    changed_well : (repo : Repo) (made : Result (List PlainEvent) Fault) → IsLawfulRepo repo
+        → ((after : List PlainEvent) → made ≡ Ok after → IsSound after × IsWithinLimits after × AddsNothing repo.history after) → EditsWell (with_history repo made)
+    changed_well repo (Err why) h leaves = tt
+    changed_well repo (Ok after) h leaves =
+        let is = leaves after refl in
+        history_well repo after repo.next h is.0 is.1 (fewer_below repo.history after repo.next is.2 (below_spent repo.history repo.next h.spent)) (omega arith)
+
+    reparented_well : (use_order rebase : Bool) (set : Ids) (repo : Repo) → IsLawfulRepo repo → IsSelection repo.history set
+        → EditsWell (with_history repo (reparent_of use_order rebase set repo.history))
+    reparented_well use_order rebase set repo h selection =
+        let events = repo.history in
+        let sound = h.history.sound in
+        changed_well repo (reparent_of use_order rebase set events) h (λ after e. (
+          changed_sound.reparent use_order rebase set events after sound selection e,
+          changed_within.reparent use_order rebase set events after sound selection e,
+          changed_adds.reparent use_order rebase set events after sound selection e,
+        ))
+
+    merged_well : (set : Ids) (repo : Repo) → IsLawfulRepo repo → EditsWell (with_history repo (merge_of set repo.history))
+    merged_well set repo h =
+        let events = repo.history in
+        let sound = h.history.sound in
+        changed_well repo (merge_of set events) h
+        (λ after e. (changed_sound.merge set events after sound e, changed_within.merge set events after sound e, changed_adds.merge set events after sound e))
+
+    unmerged_well : (set : Ids) (repo : Repo) → IsLawfulRepo repo → EditsWell (with_history repo (unmerge_of set repo.history))
+    unmerged_well set repo h =
+        let events = repo.history in
+        let sound = h.history.sound in
+        let within = within_limits events h.history in
+        changed_well repo (unmerge_of set events) h (λ after e. (
+          changed_sound.unmerge set events after sound within e,
+          changed_within.unmerge set events after sound within e,
+          changed_adds.unmerge set events after sound within e,
+        ))
+
+    added_well : (op : RawOp) (set : Ids) (repo : Repo) → IsLawfulRepo repo → IsSpelled op → EditsWell (with_history repo (add_of op set repo.history))
+    added_well op set repo h fits =
+        let events = repo.history in
+        let sound = h.history.sound in
+        changed_well repo (add_of op set events) h
+        (λ after e. (changed_sound.add op set events after sound fits e, changed_within.add op set events after sound fits e, changed_adds.add op set events after sound fits e))
+
+    removed_well : (what : Removal) (set : Ids) (repo : Repo) → IsLawfulRepo repo → EditsWell (with_history repo (remove_of what set repo.history))
+    removed_well what set repo h =
+        let events = repo.history in
+        let sound = h.history.sound in
+        let within = within_limits events h.history in
+        changed_well repo (remove_of what set events) h (λ after e. (
+          changed_sound.remove what set events after sound within e,
+          changed_within.remove what set events after sound within e,
+          changed_adds.remove what set events after sound within e,
+        ))
+
+    edit_well : (s : Session) (ids : Ids) (what : Edit) → IsLawful s → IsSpelledEdit what → IsOnce ids → LiveIn s ids → ChangesWell (after_edit s ids what)
     unfolding after_edit
-    edit_well s ids what h once lives =
+    edit_well s ids what h fits once lives =
         well_after (chosen s) (λ repo. edited what ids repo >>= λ new. Ok (record s { repos = with_repo new s.repos })) (λ repo is.
         well_after (edited what ids repo) (λ new. Ok (record s { repos = with_repo new s.repos })) (λ new made.
-        with_new new s.repos h (live_well (remade what ids repo) (remade_well what ids repo (chosen_lawful s repo is h) once (lives repo is)) new made)))
+        with_new new s.repos h (live_well (remade what ids repo) (remade_well what ids repo (chosen_lawful s repo is h) fits once (lives repo is)) new made)))
       where
-        remade_well : (what : Edit) (ids : Ids) (repo : Repo) → IsLawfulRepo repo → IsOnce ids → AreLive repo.history ids → EditsWell (remade what ids repo)
-        remade_well (edit.Squash how) ids repo h once lives = squashed_well how ids repo h
-        remade_well edit.Reorder ids repo h once lives = reordered_well ids repo h (selection_of repo.history ids once lives)
-        remade_well (edit.SplitAt number) ids repo h once lives =
+        remade_well : (what : Edit) (ids : Ids) (repo : Repo) → IsLawfulRepo repo → IsSpelledEdit what → IsOnce ids → AreLive repo.history ids → EditsWell (remade what ids repo)
+        remade_well (edit.Squash how) ids repo h fits once lives = squashed_well how ids repo h
+        remade_well edit.Reorder ids repo h fits once lives = reordered_well ids repo h (selection_of repo.history ids once lives)
+        remade_well (edit.Reparent how) ids repo h fits once lives = reparented_well how.use_order how.rebase ids repo h (selection_of repo.history ids once lives)
+        remade_well edit.Merge ids repo h fits once lives = merged_well ids repo h
+        remade_well edit.Unmerge ids repo h fits once lives = unmerged_well ids repo h
+        remade_well (edit.Add op) ids repo h fits once lives = added_well op ids repo h fits
+        remade_well (edit.RemoveAt number) ids repo h fits once lives = removed_well (Index number) ids repo h
+        remade_well (edit.RemoveBy text) ids repo h fits once lives = said (path_fault text)
+          where
+            said : (o : Option PathFault) → EditsWell (elim o [ None ↦ Ok text | Some why ↦ Err (fault.NoSuchPath text) ] >>= λ path. with_history repo (remove_of (At path) ids repo.history))
+            said (Some why) = tt
+            said None = removed_well (At text) ids repo h
+        remade_well (edit.SplitAt number) ids repo h fits once lives =
             let below = below_spent repo.history repo.next h.spent in
             split_well repo (λ set. split_at_of repo.next number set repo.history) h (λ set after e. one_commit repo.history set (λ c. split_from repo.next c number repo.history) after e)
             (λ c after there e. split_at_sound repo.next number c repo.history after h.history.sound there (unspent repo.history repo.next below) e)
             (λ c after e. split_at_within repo.next number c repo.history after e) (λ set after e. split_at_below repo.next number set repo.history after e below) ids lives
-        remade_well (edit.SplitBy text) ids repo h once lives = said (path_fault text)
+        remade_well (edit.SplitBy text) ids repo h fits once lives = said (path_fault text)
           where
             said : (o : Option PathFault) → EditsWell (elim o [ None ↦ Ok text | Some why ↦ Err (fault.NoSuchPath text) ] >>= λ path. with_one_more repo (split_by_of repo.next path ids repo.history))
             said (Some why) = tt
@@ -506,33 +525,34 @@ module _
         let was = chosen_lawful s repo is h in
         with_new (with_name repo free ids) s.repos h (record { history = was.history; names = names_more repo.names free ids was.names k; spent = was.spent })))
 
-    carried_well : (s : Session) (files : Files) (ids : Ids) (what : Command) → IsLawful s → IsOnce ids → LiveIn s ids → GoesWell (carried s files ids what)
+    carried_well : (s : Session) (files : Files) (ids : Ids) (what : Command) → IsLawful s → IsSpelledCommand what → IsOnce ids → LiveIn s ids → GoesWell (carried s files ids what)
     unfolding carried
-    carried_well s files ids (command.Read file name) h k lives = changes_well (after_read s files file name) (read_well s files file name h)
-    carried_well s files ids (command.Write to) h k lives = reports_well s to _ h
-    carried_well s files ids (command.Choose name) h k lives = changes_well (after_choose s name) (choose_well s name h)
-    carried_well s files ids command.ShowRepos h k lives = h
-    carried_well s files ids (command.Drop name) h k lives = changes_well (after_drop s name) (drop_well s name h)
-    carried_well s files ids command.DropChosen h k lives = changes_well (after_drop_chosen s) (drop_chosen_well s h)
-    carried_well s files ids command.Renumber h k lives = changes_well (after_renumber s) (renumber_well s h)
-    carried_well s files ids (command.Show selection what to) h k lives = reports_well s to _ h
-    carried_well s files ids (command.Assign selection name) h k lives = changes_well (after_assign s ids name) (assign_well s ids name h k)
-    carried_well s files ids (command.Edit selection what) h k lives = changes_well (after_edit s ids what) (edit_well s ids what h k lives)
-    carried_well s files ids (command.Sample count start) h k lives = changes_well (after_sample s count start) (sample_well s count start h)
-    carried_well s files ids (command.Names to) h k lives = reports_well s to _ h
-    carried_well s files ids (command.Summary to) h k lives = reports_well s to _ h
+    carried_well s files ids (command.Read file name) h fits k lives = changes_well (after_read s files file name) (read_well s files file name h)
+    carried_well s files ids (command.Write to) h fits k lives = reports_well s to _ h
+    carried_well s files ids (command.Choose name) h fits k lives = changes_well (after_choose s name) (choose_well s name h)
+    carried_well s files ids command.ShowRepos h fits k lives = h
+    carried_well s files ids (command.Drop name) h fits k lives = changes_well (after_drop s name) (drop_well s name h)
+    carried_well s files ids command.DropChosen h fits k lives = changes_well (after_drop_chosen s) (drop_chosen_well s h)
+    carried_well s files ids command.Renumber h fits k lives = changes_well (after_renumber s) (renumber_well s h)
+    carried_well s files ids (command.Show selection what to) h fits k lives = reports_well s to _ h
+    carried_well s files ids (command.Assign selection name) h fits k lives = changes_well (after_assign s ids name) (assign_well s ids name h k)
+    carried_well s files ids (command.Edit selection what) h fits k lives = changes_well (after_edit s ids what) (edit_well s ids what h fits k lives)
+    carried_well s files ids (command.Sample count start) h fits k lives = changes_well (after_sample s count start) (sample_well s count start h)
+    carried_well s files ids (command.Names to) h fits k lives = reports_well s to _ h
+    carried_well s files ids (command.Summary to) h fits k lives = reports_well s to _ h
 
-    step_well : (denial : Option Denial) (s : Session) (files : Files) (what : Command) → IsLawful s → GoesWell (step denial s files what)
+    step_well : (denial : Option Denial) (s : Session) (files : Files) (what : Command) → IsLawful s → IsSpelledCommand what → GoesWell (step denial s files what)
     unfolding step
-    step_well denial s files what h = go (under denial (ready s what)) refl
+    step_well denial s files what h fits = go (under denial (ready s what)) refl
       where
         go : (r : Result Ids Fault) → under denial (ready s what) ≡ r → GoesWell (r >>= λ ids. carried s files ids what)
-        go (Ok ids) is = carried_well s files ids what h (ready_once denial s what ids h is) (ready_live denial s what ids h is)
+        go (Ok ids) is = carried_well s files ids what h fits (ready_once own_ids once denial s what ids h is) (ready_live live tips denial s what ids h is)
         go (Err why) is = tt
 
-    ordered_well : (denial : Option Denial) (s : Session) (files : Files) (depth : ℕ) (what : Order) → IsLawful s → GoesWell (ordered denial s files depth what)
-    ordered_well denial s files depth (order.Step what) h = step_well denial s files what h
-    ordered_well denial s files depth (order.Do call) h = go (called s.macros call (depth + 1))
+    ordered_well : (denial : Option Denial) (s : Session) (files : Files) (depth : ℕ) (what : Order) → IsLawful s
+        → ((step : Command) → what ≡ order.Step step → IsSpelledCommand step) → GoesWell (ordered denial s files depth what)
+    ordered_well denial s files depth (order.Step what) h fits = step_well denial s files what h (fits what refl)
+    ordered_well denial s files depth (order.Do call) h fits = go (called s.macros call (depth + 1))
       where
         go : (r : Result (List Bytes) Fault) → GoesWell (r >>= λ lines. Ok (calling s lines))
         go (Ok lines) = h
@@ -541,14 +561,15 @@ module _
     line_well : (denial : Option Denial) (s : Session) (files : Files) (depth : ℕ) (what : ScriptLine) → IsLawful s → GoesWell (line_step denial s files depth what)
     unfolding line_step
     line_well denial s files depth (Define name body) h = h
-    line_well denial s files depth (Plain text) h = go (order_of text)
+    line_well denial s files depth (Plain text) h = go (order_of text) refl
       where
-        go : (r : Result Order Fault) → GoesWell (r >>= ordered denial s files depth)
-        go (Ok what) = ordered_well denial s files depth what h
-        go (Err why) = tt
+        go : (r : Result Order Fault) → order_of text ≡ r → GoesWell (r >>= ordered denial s files depth)
+        go (Ok what) is = ordered_well denial s files depth what h (λ step e. spelled text step (is ∙ ap Ok e))
+        go (Err why) is = tt
 
-    pub step_keeps : (denial : Option Denial) (s : Session) (files : Files) (what : Command) (t : Turn Session) → step denial s files what ≡ Ok t → IsLawful s → IsLawful t.session
-    step_keeps denial s files what t is h = subst GoesWell is (step_well denial s files what h)
+    pub step_keeps : (denial : Option Denial) (s : Session) (files : Files) (what : Command) (t : Turn Session) → step denial s files what ≡ Ok t → IsLawful s → IsSpelledCommand what
+        → IsLawful t.session
+    step_keeps denial s files what t is h fits = subst GoesWell is (step_well denial s files what h fits)
 
     pub line_keeps : (denial : Option Denial) (s : Session) (files : Files) (depth : ℕ) (what : ScriptLine) (t : Turn Session) → line_step denial s files depth what ≡ Ok t
         → IsLawful s → IsLawful t.session

@@ -8,6 +8,7 @@ use Rattle.plain_model.specs.Paths.{Bytes}
 use Rattle.plain_model.specs.Snapshots.{shown_tree}
 use Rattle.plain_model.specs.Soundness.{IsCommitOf, IsSound, has_id}
 use Rattle.plain_model.specs.declared.id.AnyId.{AnyId}
+use Rattle.plain_model.specs.declared.id.AnyId.TheVariants as any
 use Rattle.plain_model.specs.Text.{text}
 use Rattle.plain_model.specs.declared.event.PlainEvent.{PlainEvent}
 use Rattle.plain_model.specs.declared.fault.Fault.{Fault}
@@ -16,7 +17,10 @@ use Rattle.event_sets.specs.Sets.{Ids}
 use Rattle.script_reader.specs.declared.command.Command.{Command}
 use Rattle.script_reader.specs.declared.command.Command.TheVariants as command
 use Rattle.renumbering.specs.Renumbered.{renumbered}
+use Rattle.script_reader.specs.declared.edit.Edit.{Edit}
 use Rattle.script_reader.specs.declared.edit.Edit.TheVariants as edit
+use Rattle.reparent_laws.specs.Remaining
+use Rattle.reparent_laws.specs.Remaining.{AddsNothing}
 use Rattle.selection_eval.specs.Names.{Names, live_names}
 use Rattle.squash_laws.specs.Faults.{squash_of}
 use Rattle.squash_laws.specs.declared.policy.Lean.{Lean}
@@ -25,7 +29,7 @@ use Rattle.squash_laws.specs.declared.policy.Push.TheVariants as push
 use Rattle.history_machine.specs.Kept.{Each, KeepsTrees, KeepsTreesOfRest}
 use Rattle.script_reader.specs.Answering.{◌>>=◌}
 use Rattle.history_machine.specs.Machine.{Turn}
-use Rattle.history_machine.specs.Sessions.{Repo, Session, Scope, after_edit, after_renumber, carried, changes, chosen, chosen_by, edited, find_repo, in_scope, no_events, or_no_repo, quiet, ready, reports, scope_of, sends, step, with_live_names, with_repo}
+use Rattle.history_machine.specs.Sessions.{Repo, Session, Scope, after_edit, after_renumber, carried, changes, chosen, chosen_by, edited, find_repo, in_scope, no_events, or_no_repo, quiet, ready, remade, reports, scope_of, sends, step, with_history, with_live_names, with_repo}
 
 -- ---- commands that speak of no events
 
@@ -93,13 +97,14 @@ found s repo h = found_by s.repos s.choice repo h
 
 -- the events of a command that is done, and what it does with them
 pub with_its_events : (denial : Option Denial) (s : Session) (files : Files) (what : Command) (t : Turn Session) → step denial s files what ≡ Ok t
-    → (ids : Ids) × (carried s files ids what ≡ Ok t)
+    → (ids : Ids) × (carried s files ids what ≡ Ok t) × (under denial (ready s what) ≡ Ok ids)
 unfolding step
-with_its_events denial s files what t h = go (under denial (ready s what)) h
+with_its_events denial s files what t h = go (under denial (ready s what)) refl h
   where
-    go : (r : Result Ids Fault) → (r >>= λ ids. carried s files ids what) ≡ Ok t → (ids : Ids) × (carried s files ids what ≡ Ok t)
-    go (Ok ids) h = (ids, h)
-    go (Err why) h = absurd cc
+    go : (r : Result Ids Fault) → under denial (ready s what) ≡ r → (r >>= λ ids. carried s files ids what) ≡ Ok t
+        → (ids : Ids) × (carried s files ids what ≡ Ok t) × (under denial (ready s what) ≡ Ok ids)
+    go (Ok ids) is h = (ids, h, is)
+    go (Err why) is h = absurd cc
 
 -- where one repository changes, and what is kept is kept where nothing changes
 module _ (Keeps : Repo → Repo → Type 0) (same : (repo : Repo) → Keeps repo repo) where
@@ -171,37 +176,59 @@ same_names : (events : List PlainEvent) (names : Names) → map (λ n. n.0) (liv
 same_names events [] = refl
 same_names events (n ∷ names) = ap (λ rest. n.0 ∷ rest) (same_names events names)
 
+-- the events of another history were there, and its commits have the trees that they had
+abbrev KeepsRest : List PlainEvent → List PlainEvent → Type 0
+KeepsRest events new = ((id : AnyId) → IsTrue (has_id new id) → IsTrue (has_id events id)) × ((c : ℕ) → IsCommitOf new c → shown_tree new c ≡ shown_tree events c)
+
+-- a repository with such a history
+history_keeps : (repo new : Repo) (made : Result (List PlainEvent) Fault) → ((after : List PlainEvent) → made ≡ Ok after → KeepsRest repo.history after)
+    → (with_history repo made >>= λ after. Ok (with_live_names after)) ≡ Ok new → (new.name ≡ repo.name) × KeepsTreesOfRest repo new
+history_keeps repo new (Err why) keeps h = absurd cc
+history_keeps repo new (Ok after) keeps h =
+    let is : with_live_names (record repo { history = after }) ≡ new = cc in
+    let rest = keeps after refl in
+    subst (λ (q : Repo). (q.name ≡ repo.name) × KeepsTreesOfRest repo q) is
+    (refl, record { name = refl; next = refl; names = same_names after repo.names; ids = rest.0; trees = rest.1 })
+
+-- an edit that is done, which keeps them
+pub edit_keeps_rest : (denial : Option Denial) (s : Session) (files : Files) (selection : Option Bytes) (what : Edit) (t : Turn Session)
+    → step denial s files (command.Edit selection what) ≡ Ok t
+    → ((ids : Ids) (repo new : Repo) → under denial (ready s (command.Edit selection what)) ≡ Ok ids → chosen s ≡ Ok repo → edited what ids repo ≡ Ok new
+    → (new.name ≡ repo.name) × KeepsTreesOfRest repo new)
+    → Each KeepsTreesOfRest s.repos t.session.repos
+unfolding carried after_edit
+edit_keeps_rest denial s files selection what t h keeps =
+    let done = with_its_events denial s files (command.Edit selection what) t h in
+    edit_keeps KeepsTreesOfRest left s (edited what done.0) t (λ repo new is e. keeps done.0 repo new done.2 is e) done.1
+
 module _
     (trees : (set : List AnyId) (events : List PlainEvent) (tags : Lean) (new : List PlainEvent) → IsSound events
     → squash_of (forward_with tags) set events ≡ Ok new → (c : ℕ) → IsCommitOf new c → shown_tree new c ≡ shown_tree events c)
     (ids : (how : Policy) (set : List AnyId) (events new : List PlainEvent) → IsSound events → squash_of how set events ≡ Ok new
     → (id : AnyId) → IsTrue (has_id new id) → IsTrue (has_id events id))
   where
-    squash_keeps : (tags : Lean) (set : Ids) (repo new : Repo) → IsSound repo.history
-        → edited (edit.Squash (forward_with tags)) set repo ≡ Ok new → (new.name ≡ repo.name) × KeepsTreesOfRest repo new
-    squash_keeps tags set repo new sound h = go (squash_of (forward_with tags) set repo.history) refl h
-      where
-        go : (r : Result (List PlainEvent) Fault) → squash_of (forward_with tags) set repo.history ≡ r
-            → ((r >>= λ after. Ok (record repo { history = after })) >>= λ after. Ok (with_live_names after)) ≡ Ok new → (new.name ≡ repo.name) × KeepsTreesOfRest repo new
-        go (Err why) e h = absurd cc
-        go (Ok after) e h =
-            let is : with_live_names (record repo { history = after }) ≡ new = cc in
-            subst (λ (q : Repo). (q.name ≡ repo.name) × KeepsTreesOfRest repo q) is (
-              refl,
-              record {
-                name = refl;
-                next = refl;
-                names = same_names after repo.names;
-                ids = ids (forward_with tags) set repo.history after sound e;
-                trees = trees set repo.history tags after sound e;
-              },
-            )
-
     -- a squash that is done, and pushes forward
     pub squash_forward_keeps : (denial : Option Denial) (s : Session) (files : Files) (selection : Option Bytes) (tags : Lean) (t : Turn Session)
         → step denial s files (command.Edit selection (edit.Squash (forward_with tags))) ≡ Ok t → ((repo : Repo) → chosen s ≡ Ok repo → IsSound repo.history)
         → Each KeepsTreesOfRest s.repos t.session.repos
-    unfolding carried after_edit
     squash_forward_keeps denial s files selection tags t h sound =
-        let done = with_its_events denial s files (command.Edit selection (edit.Squash (forward_with tags))) t h in
-        edit_keeps KeepsTreesOfRest left s (edited (edit.Squash (forward_with tags)) done.0) t (λ repo new e. squash_keeps tags done.0 repo new (sound repo e)) done.1
+        edit_keeps_rest denial s files selection (edit.Squash (forward_with tags)) t h (λ set repo new ready is e.
+        history_keeps repo new (squash_of (forward_with tags) set repo.history)
+        (λ after made. (ids (forward_with tags) set repo.history after (sound repo is) made, trees set repo.history tags after (sound repo is) made)) e)
+
+-- trees that are kept, where no event comes
+kept_rest : (events new : List PlainEvent) → Remaining.KeepsTrees events new → AddsNothing events new → KeepsRest events new
+kept_rest events new trees nothing = (nothing.ids, λ c there. trees.shown c (nothing.ids (any.Commit c) there))
+
+-- a change of parents that is done
+pub parents_keep : (denial : Option Denial) (s : Session) (files : Files) (selection : Option Bytes) (what : Edit) (t : Turn Session)
+    → (made : Ids → List PlainEvent → Result (List PlainEvent) Fault) → ((ids : Ids) (repo : Repo) → remade what ids repo ≡ with_history repo (made ids repo.history))
+    → step denial s files (command.Edit selection what) ≡ Ok t
+    → ((ids : Ids) (repo : Repo) (after : List PlainEvent) → under denial (ready s (command.Edit selection what)) ≡ Ok ids → chosen s ≡ Ok repo
+    → made ids repo.history ≡ Ok after → Remaining.KeepsTrees repo.history after × AddsNothing repo.history after)
+    → Each KeepsTreesOfRest s.repos t.session.repos
+parents_keep denial s files selection what t made so h keeps =
+    edit_keeps_rest denial s files selection what t h (λ set repo new ready is e.
+    history_keeps repo new (made set repo.history)
+    (λ after done. let k = keeps set repo after ready is done in kept_rest repo.history after k.0 k.1)
+    (ap (λ (r : Result Repo Fault). r >>= λ after. Ok (with_live_names after)) (sym (so set repo)) ∙ e))

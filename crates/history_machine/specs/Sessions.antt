@@ -37,6 +37,10 @@ use Rattle.selection_parser.specs.Reading.{selection_at}
 use Rattle.squash_laws.specs.Faults.{squash_of}
 use Rattle.split_laws.specs.Split.{split_at_of, split_by_of}
 use Rattle.reorder_laws.specs.Reorder.{reorder_of}
+use Rattle.reparent_laws.specs.Merge.{merge_of, unmerge_of}
+use Rattle.reparent_laws.specs.Operations.{add_of, remove_of}
+use Rattle.reparent_laws.specs.Reparent.{reparent_of}
+use Rattle.reparent_laws.specs.declared.removal.Removal.TheVariants.{Index, At}
 use Rattle.history_machine.specs.Loading.{loaded}
 use Rattle.history_machine.specs.Machine.{Turn}
 
@@ -198,16 +202,26 @@ after_assign s ids name =
 abbrev pub said_path : Bytes → Result Bytes Fault
 said_path text = elim (path_fault text) [ None ↦ Ok text | Some why ↦ Err (fault.NoSuchPath text) ]
 
+-- with another history
+abbrev pub with_history : Repo → Result (List PlainEvent) Fault → Result Repo Fault
+with_history repo made = made >>= λ after. Ok (record repo { history = after })
+
 -- with a history that has an event of the next number
 abbrev pub with_one_more : Repo → Result (List PlainEvent) Fault → Result Repo Fault
 with_one_more repo made = made >>= λ after. Ok (record repo { history = after; next = repo.next + 1 })
 
 -- a repository with what an edit of some events makes of its history
 abbrev pub remade : Edit → Ids → Repo → Result Repo Fault
-remade (edit.Squash how) ids repo = squash_of how ids repo.history >>= λ after. Ok (record repo { history = after })
+remade (edit.Squash how) ids repo = with_history repo (squash_of how ids repo.history)
 remade (edit.SplitAt number) ids repo = with_one_more repo (split_at_of repo.next number ids repo.history)
 remade (edit.SplitBy text) ids repo = said_path text >>= λ path. with_one_more repo (split_by_of repo.next path ids repo.history)
-remade edit.Reorder ids repo = reorder_of ids repo.history >>= λ after. Ok (record repo { history = after })
+remade edit.Reorder ids repo = with_history repo (reorder_of ids repo.history)
+remade (edit.Reparent how) ids repo = with_history repo (reparent_of how.use_order how.rebase ids repo.history)
+remade edit.Merge ids repo = with_history repo (merge_of ids repo.history)
+remade edit.Unmerge ids repo = with_history repo (unmerge_of ids repo.history)
+remade (edit.Add op) ids repo = with_history repo (add_of op ids repo.history)
+remade (edit.RemoveAt number) ids repo = with_history repo (remove_of (Index number) ids repo.history)
+remade (edit.RemoveBy text) ids repo = said_path text >>= λ path. with_history repo (remove_of (At path) ids repo.history)
 
 -- lists under names keep the events that are still there
 abbrev pub with_live_names : Repo → Repo

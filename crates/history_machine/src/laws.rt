@@ -1,14 +1,15 @@
 //! Laws of the machine. Each function's contract is one; its body is empty, or calls the laws that it rests on.
-ghost use Rattle.std.specs.Prelude.{◌≡◌, ℕ, List, [], None, Ok, Err, Option};
+ghost use Rattle.std.specs.Prelude.{◌≡◌, ℕ, Bool, false, List, [], None, Ok, Err, Option};
 ghost use Rattle.plain_model.specs.declared.event.PlainEvent.{PlainEvent};
 ghost use Rattle.plain_model.specs.declared.fault.Fault.{Fault};
 ghost use Rattle.plain_model.specs.Faults.{refusal};
 ghost use Rattle.plain_model.specs.Files.{Files};
 ghost use Rattle.byte_patterns.specs.Judging.{Denial};
 ghost use Rattle.plain_model.specs.Text.{text};
+ghost use Rattle.script_reader.specs.Added.{IsSpelledCommand};
 ghost use Rattle.script_reader.specs.declared.command.Command.TheVariants as command;
 ghost use Rattle.script_reader.specs.declared.command.Command.{Command};
-ghost use Rattle.script_reader.specs.declared.edit.Edit.{Edit};
+ghost use Rattle.script_reader.specs.declared.edit.Edit.TheVariants as Edit;
 ghost use Rattle.script_reader.specs.declared.script.ScriptLine.{ScriptLine};
 ghost use Rattle.squash_laws.specs.declared.policy.Lean.{Lean};
 ghost use Rattle.squash_laws.specs.declared.policy.Push.TheVariants as push;
@@ -23,7 +24,11 @@ use renumbering::{
 use reorder_laws::{
     a_reorder_keeps_soundness, a_reorder_keeps_the_ids, a_reorder_keeps_the_limits,
 };
+use reparent_laws::{
+    a_change_keeps_soundness, a_change_keeps_the_limits, other_parents_keep_trees,
+};
 use sample_history::samples_are_lawful;
+use script_reader::an_added_operation_is_spelled;
 use selection_eval::{
     selections_are_live, selections_are_without_repeats, sound_histories_are_such,
 };
@@ -79,11 +84,36 @@ pub fn a_squash_forward_keeps_trees()
     nothing_is_added();
 }
 
-/// A lawful session, whose histories are sound and within the limits, stays one by every command that is done. So it does by
-/// every line.
+/// A reparent without `--rebase`, a merge and an unmerge leave every loaded repository its name, and each commit its tree.
+pub fn new_parents_keep_trees()
+    ensures reparent { (denial : Option Denial) (s : Session) (files : Files)
+        (selection : Option (List ℕ)) (use_order : Bool) (t : Turn Session) →
+        step denial s files (command.Edit selection (Edit.Reparent (record {
+          use_order = use_order;
+          rebase = false;
+        }))) ≡ Ok t → IsLawful s → Each KeepsTreesOfRest s.repos t.session.repos }
+    ensures merge { (denial : Option Denial) (s : Session) (files : Files)
+        (selection : Option (List ℕ)) (t : Turn Session) →
+        step denial s files (command.Edit selection Edit.Merge) ≡ Ok t → IsLawful s →
+        Each KeepsTreesOfRest s.repos t.session.repos }
+    ensures unmerge { (denial : Option Denial) (s : Session) (files : Files)
+        (selection : Option (List ℕ)) (t : Turn Session) →
+        step denial s files (command.Edit selection Edit.Unmerge) ≡ Ok t → IsLawful s →
+        Each KeepsTreesOfRest s.repos t.session.repos }
+{
+    other_parents_keep_trees();
+    reparent_laws::nothing_is_added();
+    selections_are_without_repeats();
+    selections_are_live();
+    sound_histories_are_such();
+}
+
+/// A lawful session, whose histories are sound and within the limits, stays one by every command that is done, if the operation
+/// that it may add is one that a script can spell. So it does by every line.
 pub fn a_step_keeps_it()
     ensures command { (denial : Option Denial) (s : Session) (files : Files) (what : Command)
-        (t : Turn Session) → step denial s files what ≡ Ok t → IsLawful s → IsLawful t.session }
+        (t : Turn Session) → step denial s files what ≡ Ok t → IsLawful s →
+        IsSpelledCommand what → IsLawful t.session }
     ensures line { (denial : Option Denial) (s : Session) (files : Files) (depth : ℕ)
         (what : ScriptLine) (t : Turn Session) → line_step denial s files depth what ≡ Ok t →
         IsLawful s → IsLawful t.session }
@@ -106,6 +136,10 @@ pub fn a_step_keeps_it()
     a_reorder_keeps_soundness();
     a_reorder_keeps_the_limits();
     a_reorder_keeps_the_ids();
+    a_change_keeps_soundness();
+    a_change_keeps_the_limits();
+    reparent_laws::nothing_is_added();
+    an_added_operation_is_spelled();
 }
 
 /// The chosen history of such a session is sound and within the limits.

@@ -1,10 +1,11 @@
 -- What a line orders: a command, or that a macro is run. (reposurgeon manual, of each command word its section; what is at fault: own)
-use Rattle.std.specs.Prelude.{ℕ, Bool, List, [], ◌∷◌, length, nat_lt, Option, Some, None, option_and_then, Result, Ok, Err, bytes_eq, codes, if◌then◌else◌}
+use Rattle.std.specs.Prelude.{ℕ, Bool, List, [], ◌∷◌, length, nat_lt, Option, Some, None, option_and_then, Result, Ok, Err, codes, if◌then◌else◌}
 use Rattle.plain_model.specs.Paths.{Bytes}
 use Rattle.plain_model.specs.declared.fault.Fault.{Fault}
 use Rattle.plain_model.specs.declared.fault.Fault.TheVariants as fault
 use Rattle.plain_model.specs.declared.fault.Which.TheVariants as limit
 use Rattle.plain_model.specs.declared.limit.TheConstants.{MAX_LINE_BYTES}
+use Rattle.plain_model.specs.declared.raw.RawOp.{RawOp}
 use Rattle.squash_laws.specs.Faults.{delete_how}
 use Rattle.sample_history.specs.declared.limit.TheConstants.{MAX_COMMITS}
 use Rattle.script_reader.specs.Answering.{◌>>=◌}
@@ -12,9 +13,10 @@ use Rattle.script_reader.specs.Keywords.{keyword_of}
 use Rattle.script_reader.specs.Names.{repo_name, is_given_name, is_repo_name}
 use Rattle.script_reader.specs.Cuts.{cut_of}
 use Rattle.script_reader.specs.Numbers.{index_in, said_between}
-use Rattle.script_reader.specs.Options.{asked_more, nothing_asked, policy_of, squash_option}
+use Rattle.script_reader.specs.Options.{asked_more, nothing_asked, policy_of, reparenting, reparenting_more, squash_option}
 use Rattle.script_reader.specs.Redirections.{begins_with_sign, redirected}
 use Rattle.script_reader.specs.Selecting.{Front, front_of, is_superfluous}
+use Rattle.script_reader.specs.Spelled.{op_more, whole_op}
 use Rattle.script_reader.specs.Words.{head_of, after_head, words_of, text_of}
 use Rattle.script_reader.specs.declared.command.Command.{Command}
 use Rattle.script_reader.specs.declared.command.Command.TheVariants as command
@@ -28,6 +30,9 @@ use Rattle.script_reader.specs.declared.cut.Cut.TheVariants as cut
 use Rattle.script_reader.specs.declared.edit.Edit.{Edit}
 use Rattle.script_reader.specs.declared.edit.Edit.TheVariants as edit
 use Rattle.script_reader.specs.declared.options.Asked.{Asked}
+use Rattle.script_reader.specs.declared.options.Reparenting.{Reparenting}
+use Rattle.script_reader.specs.declared.spelled.SaidOp.{SaidOp}
+use Rattle.script_reader.specs.declared.spelled.SaidOp.TheVariants.{Nothing}
 use Rattle.script_reader.specs.declared.number.TheConstants.{MAX_START}
 use Rattle.script_reader.specs.declared.keyword.Keyword.{Keyword}
 use Rattle.script_reader.specs.declared.keyword.Keyword.TheVariants as keyword
@@ -142,22 +147,17 @@ assign_form (Some selection) [] = Err (fault.BadWords (codes "assign"))
 assign_form (Some selection) (word ∷ words) =
     or_at_fault word (if_given (whole_in word)) >>= λ name. alone (command.Assign selection name) words
 
+-- ---- edits, by the words after their command words
+
 -- what the options ask for that follow some
 abbrev pub asked_by : Asked → List Word → Result Asked Fault
 asked_by asked [] = Ok asked
 asked_by asked (word ∷ words) =
     or_at_fault word (option_and_then (asked_more asked) (option_and_then squash_option (whole_in word))) >>= λ more. asked_by more words
 
--- `sel squash [--pushforward | --pushback | --delete] [--tagforward | --tagback]`
-unfoldable pub squash_form : Option Bytes → List Word → Result Command Fault
-squash_form None words = Err (fault.BadWords (codes "squash"))
-squash_form (Some selection) words =
-    asked_by nothing_asked words >>= λ asked. Ok (command.Edit (Some selection) (edit.Squash (policy_of asked)))
-
--- `sel delete`
-unfoldable pub delete_form : Option Bytes → List Word → Result Command Fault
-delete_form None words = Err (fault.BadWords (codes "delete"))
-delete_form (Some selection) words = alone (command.Edit (Some selection) (edit.Squash delete_how)) words
+-- `squash [--pushforward | --pushback | --delete] [--tagforward | --tagback]`
+unfoldable pub squash_words : List Word → Result Edit Fault
+squash_words words = asked_by nothing_asked words >>= λ asked. Ok (edit.Squash (policy_of asked))
 
 -- what is after `at`, or after `by`
 abbrev pub cut_form : Cut → List Word → Result Edit Fault
@@ -165,17 +165,50 @@ cut_form place [] = Err (fault.BadWords (codes "split"))
 cut_form cut.At (word ∷ words) = or_at_fault word (option_and_then index_in (whole_in word)) >>= λ number. alone (edit.SplitAt number) words
 cut_form cut.By (word ∷ words) = or_at_fault word (text_before words word) >>= λ path. alone (edit.SplitBy path) words
 
--- `sel split at NUMBER`, `sel split by PATH`
-unfoldable pub split_form : Option Bytes → List Word → Result Command Fault
-split_form None words = Err (fault.BadWords (codes "split"))
-split_form (Some selection) [] = Err (fault.BadWords (codes "split"))
-split_form (Some selection) (word ∷ words) =
-    or_at_fault word (option_and_then cut_of (whole_in word)) >>= λ cut. cut_form cut words >>= λ what. Ok (command.Edit (Some selection) what)
+-- `split at NUMBER`, `split by PATH`
+unfoldable pub split_words : List Word → Result Edit Fault
+split_words [] = Err (fault.BadWords (codes "split"))
+split_words (word ∷ words) = or_at_fault word (option_and_then cut_of (whole_in word)) >>= λ cut. cut_form cut words
 
--- `sel reorder`
-unfoldable pub reorder_form : Option Bytes → List Word → Result Command Fault
-reorder_form None words = Err (fault.BadWords (codes "reorder"))
-reorder_form (Some selection) words = alone (command.Edit (Some selection) edit.Reorder) words
+-- what the options of `reparent` say that follow some
+abbrev pub reparenting_by : Reparenting → List Word → Result Reparenting Fault
+reparenting_by how [] = Ok how
+reparenting_by how (word ∷ words) =
+    or_at_fault word (option_and_then (reparenting_more how) (whole_in word)) >>= λ more. reparenting_by more words
+
+-- `reparent [--use-order] [--rebase]`
+unfoldable pub reparent_words : List Word → Result Edit Fault
+reparent_words words = reparenting_by reparenting words >>= λ how. Ok (edit.Reparent how)
+
+-- what the words of an operation say that follow some
+abbrev pub op_by : SaidOp → List Word → Result SaidOp Fault
+op_by said [] = Ok said
+op_by said (word ∷ words) = or_at_fault word (option_and_then (op_more said) (text_before words word)) >>= λ more. op_by more words
+
+-- the operation that is added, if no word is missing
+abbrev pub added : Option RawOp → Result Edit Fault
+added None = Err (fault.BadWords (codes "add"))
+added (Some op) = Ok (edit.Add op)
+
+-- `add OPERATION`
+unfoldable pub add_words : List Word → Result Edit Fault
+add_words words = op_by Nothing words >>= λ said. added (whole_op said)
+
+-- digits are the number of an operation, and all else is a path
+abbrev pub removal_of : Bytes → Edit
+removal_of text = elim (index_in text) [ Some number ↦ edit.RemoveAt number | None ↦ edit.RemoveBy text ]
+
+-- `remove NUMBER`, `remove PATH`
+unfoldable pub remove_words : List Word → Result Edit Fault
+remove_words [] = Err (fault.BadWords (codes "remove"))
+remove_words (word ∷ words) = or_at_fault word (text_before words word) >>= λ text. alone (removal_of text) words
+
+-- an edit of selected events, of which its words say what it is
+abbrev pub edit_form : Bytes → Option Bytes → Result Edit Fault → Result Command Fault
+edit_form head None said = Err (fault.BadWords head)
+edit_form head (Some selection) said = said >>= λ what. Ok (command.Edit (Some selection) what)
+
+-- ---- further forms
 
 -- `names [>FILE]`
 unfoldable pub names_form : List Word → Result Command Fault
@@ -219,10 +252,15 @@ form_of selection keyword.Stamp words = steps (show_form selection listing.Stamp
 form_of selection keyword.Resolve words = steps (show_form selection listing.Resolve words)
 form_of selection keyword.Manifest words = steps (show_form selection listing.Manifest words)
 form_of selection keyword.Assign words = steps (assign_form selection words)
-form_of selection keyword.Squash words = steps (squash_form selection words)
-form_of selection keyword.Delete words = steps (delete_form selection words)
-form_of selection keyword.Split words = steps (split_form selection words)
-form_of selection keyword.Reorder words = steps (reorder_form selection words)
+form_of selection keyword.Squash words = steps (edit_form (codes "squash") selection (squash_words words))
+form_of selection keyword.Delete words = steps (edit_form (codes "delete") selection (alone (edit.Squash delete_how) words))
+form_of selection keyword.Split words = steps (edit_form (codes "split") selection (split_words words))
+form_of selection keyword.Reorder words = steps (edit_form (codes "reorder") selection (alone edit.Reorder words))
+form_of selection keyword.Reparent words = steps (edit_form (codes "reparent") selection (reparent_words words))
+form_of selection keyword.Merge words = steps (edit_form (codes "merge") selection (alone edit.Merge words))
+form_of selection keyword.Unmerge words = steps (edit_form (codes "unmerge") selection (alone edit.Unmerge words))
+form_of selection keyword.Add words = steps (edit_form (codes "add") selection (add_words words))
+form_of selection keyword.Remove words = steps (edit_form (codes "remove") selection (remove_words words))
 form_of selection keyword.Names words = steps (names_form words)
 form_of selection keyword.Summary words = steps (summary_form words)
 form_of selection keyword.Sample words = steps (sample_form words)

@@ -22,6 +22,11 @@ keyword_of word =
     if bytes_eq word (codes "delete") then Some keyword.Delete else
     if bytes_eq word (codes "split") then Some keyword.Split else
     if bytes_eq word (codes "reorder") then Some keyword.Reorder else
+    if bytes_eq word (codes "reparent") then Some keyword.Reparent else
+    if bytes_eq word (codes "merge") then Some keyword.Merge else
+    if bytes_eq word (codes "unmerge") then Some keyword.Unmerge else
+    if bytes_eq word (codes "add") then Some keyword.Add else
+    if bytes_eq word (codes "remove") then Some keyword.Remove else
     if bytes_eq word (codes "names") then Some keyword.Names else
     if bytes_eq word (codes "summary") then Some keyword.Summary else
     if bytes_eq word (codes "sample") then Some keyword.Sample else

@@ -1,5 +1,5 @@
 -- Numbers among the words of a line. (own)
-use Rattle.std.specs.Prelude.{ℕ, ◌==◌, Bool, false, ◌∷◌, List, length, nat_le, Option, Some, None, if◌then◌else◌}
+use Rattle.std.specs.Prelude.{ℕ, ◌==◌, Bool, false, ◌∷◌, length, nat_le, Option, Some, None, if◌then◌else◌}
 use Rattle.plain_model.specs.Parts.{number_within}
 use Rattle.plain_model.specs.Paths.{Bytes}
 use Rattle.script_reader.specs.declared.number.TheConstants.{MAX_INDEX, MAX_INDEX_DIGITS}

@@ -56,6 +56,11 @@ takes_selection keyword.Squash = true
 takes_selection keyword.Delete = true
 takes_selection keyword.Split = true
 takes_selection keyword.Reorder = true
+takes_selection keyword.Reparent = true
+takes_selection keyword.Merge = true
+takes_selection keyword.Unmerge = true
+takes_selection keyword.Add = true
+takes_selection keyword.Remove = true
 takes_selection keyword.Do = true
 takes_selection other = false
 

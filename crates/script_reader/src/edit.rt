@@ -1,5 +1,7 @@
 //! Edits of the chosen history.
+use crate::options::Reparenting;
 use crate::script_text::ScriptText;
+use crate::spelled::SpelledOp;
 use squash_laws::Policy;
 
 /// An edit of selected events as it was read. (reposurgeon manual, the section of each command word)
@@ -13,4 +15,16 @@ pub enum Edit {
     SplitBy(ScriptText),
     /// Puts commits that are a line into the order of the selection.
     Reorder,
+    /// Gives a commit other parents.
+    Reparent(Reparenting),
+    /// Gives the later of two commits the earlier one as one more parent.
+    Merge,
+    /// Leaves a commit its first parent alone.
+    Unmerge,
+    /// Puts an operation at the end of those of a commit.
+    Add(SpelledOp),
+    /// Takes away a commit's operation of this number, from 1.
+    RemoveAt(u64),
+    /// Takes away the operations of a commit that have this path as theirs, as their source or as their target.
+    RemoveBy(ScriptText),
 }

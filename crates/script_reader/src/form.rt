@@ -4,13 +4,11 @@ ghost use Rattle.plain_model.specs.declared.fault.Fault.TheVariants.{BadWords};
 ghost use Rattle.plain_model.specs.Faults.{Returns};
 ghost use Rattle.script_reader.specs.Answering.{Refuses};
 ghost use Rattle.script_reader.specs.Commands.{
-  asked_by,
   assign_form,
   choose_form,
-  cut_form,
-  delete_form,
   do_form,
   drop_form,
+  edit_form,
   form_of,
   if_given,
   name_in,
@@ -21,12 +19,9 @@ ghost use Rattle.script_reader.specs.Commands.{
   read_form,
   read_of,
   renumber_form,
-  reorder_form,
   sample_form,
   sample_start,
   show_form,
-  split_form,
-  squash_form,
   steps,
   summary_form,
   text_before,
@@ -34,19 +29,16 @@ ghost use Rattle.script_reader.specs.Commands.{
   whole_in,
   write_form,
 };
-ghost use Rattle.script_reader.specs.Cuts.{cut_of};
-ghost use Rattle.script_reader.specs.Numbers.{index_in, said_between};
-ghost use Rattle.script_reader.specs.Options.{asked_more, squash_option};
+ghost use Rattle.script_reader.specs.Numbers.{said_between};
 ghost use Rattle.script_reader.specs.Redirections.{redirected};
 ghost use Rattle.script_reader.specs.Words.{text_of};
 
 use crate::command::{Call, Command, Listing, Order};
-use crate::cut::Cut;
 use crate::definition::is_given_name;
 use crate::edit::Edit;
+use crate::edit_words::{add, delete, only, remove, reparent, split, squash};
 use crate::keyword::Keyword;
-use crate::number::{MAX_START, index_in, number_between};
-use crate::options::{Asked, SquashOption};
+use crate::number::{MAX_START, number_between};
 use crate::redirection::{Direction, begins_with_sign, redirected};
 use crate::repo_name::{is_repo_name, repo_name};
 use crate::script::LineList;
@@ -55,7 +47,6 @@ use crate::selecting::WrittenSelection;
 use crate::word::Word;
 use plain_model::{Fault, Halt, Items, NoMemory, Text};
 use sample_history::MAX_COMMITS;
-use squash_laws::{Lean, Policy, Push};
 use std::alloc::Global;
 
 /// The refusal of a line with this word, which is the first at fault.
@@ -68,7 +59,8 @@ pub fn bad_words(alloc: Global, word: &[u8]) -> Halt
     }
 }
 
-fn at_fault(alloc: Global, word: &Word) -> Halt
+/// The same of a word.
+pub fn at_fault(alloc: Global, word: &Word) -> Halt
     ensures { Refuses result (BadWords (text_of word.now)) }
 {
     bad_words(alloc, word.text().as_bytes())
@@ -250,165 +242,6 @@ fn assign(
     }
 }
 
-// The option of `squash` that a word is.
-fn squash_option(word: &Word) -> Option<SquashOption>
-    ensures { result ≡ option_and_then squash_option (whole_in word.now) }
-{
-    match word {
-        Word::Plain(text) | Word::Quoted(text) => SquashOption::of(text.as_bytes()),
-        Word::Broken(_) => None,
-    }
-}
-
-// What options ask for with one more word, if it is an option and can follow them.
-fn asked_more(asked: Asked, word: &Word) -> Option<Asked>
-    ensures { result ≡ option_and_then (asked_more asked)
-        (option_and_then squash_option (whole_in word.now)) }
-{
-    match squash_option(word) {
-        Some(option) => asked.more(option),
-        None => None,
-    }
-}
-
-// What the options ask for that follow some.
-fn asked_by(alloc: Global, asked: Asked, words: &[Word]) -> Result<Asked, Halt>
-    ensures { Returns (λ asked. asked) result (asked_by asked words.now) }
-{
-    match words {
-        [] => Ok(asked),
-        [word, others @ ..] => match asked_more(asked, word) {
-            Some(more) => asked_by(alloc, more, others),
-            None => Err(at_fault(alloc, word)),
-        },
-    }
-}
-
-// `sel squash [--pushforward | --pushback | --delete] [--tagforward | --tagback]`
-#[tactic(auto, unfolding(crate::specs::Commands::squash_form))]
-fn squash(
-    alloc: Global,
-    selection: Option<WrittenSelection>,
-    words: &[Word],
-) -> Result<Command, Halt>
-    ensures { Returns (λ command. command) result (squash_form selection words.now) }
-{
-    if selection.is_none() {
-        return Err(bad_words(alloc, b"squash"));
-    }
-    let asked = asked_by(alloc, Asked::nothing(), words)?;
-    let what = Edit::Squash(asked.policy());
-    Ok(Command::Edit { selection, what })
-}
-
-// `sel delete`
-#[tactic(auto, unfolding(crate::specs::Commands::delete_form))]
-fn delete(
-    alloc: Global,
-    selection: Option<WrittenSelection>,
-    words: &[Word],
-) -> Result<Command, Halt>
-    ensures { Returns (λ command. command) result (delete_form selection words.now) }
-{
-    if selection.is_none() {
-        return Err(bad_words(alloc, b"delete"));
-    }
-    if let [word, ..] = words {
-        return Err(at_fault(alloc, word));
-    }
-    let what = Edit::Squash(Policy {
-        push: Push::Discard,
-        tags: Lean::Forward,
-    });
-    Ok(Command::Edit { selection, what })
-}
-
-// The word after `split`.
-fn cut_in(alloc: Global, word: &Word) -> Result<Cut, Halt>
-    ensures { Returns (λ cut. cut) result
-        (or_at_fault word.now (option_and_then cut_of (whole_in word.now))) }
-{
-    let cut = match word {
-        Word::Plain(text) | Word::Quoted(text) => Cut::of(text.as_bytes()),
-        Word::Broken(_) => None,
-    };
-    match cut {
-        Some(cut) => Ok(cut),
-        None => Err(at_fault(alloc, word)),
-    }
-}
-
-// The number of an operation.
-fn index(alloc: Global, word: &Word) -> Result<u64, Halt>
-    ensures { Returns (λ number. number) result
-        (or_at_fault word.now (option_and_then index_in (whole_in word.now))) }
-{
-    let number = match word {
-        Word::Plain(text) | Word::Quoted(text) => index_in(text.as_bytes()),
-        Word::Broken(_) => None,
-    };
-    match number {
-        Some(number) => Ok(number),
-        None => Err(at_fault(alloc, word)),
-    }
-}
-
-// What is after `at`, or after `by`.
-fn cut(alloc: Global, place: Cut, words: &[Word]) -> Result<Edit, Halt>
-    ensures { Returns (λ what. what) result (cut_form place words.now) }
-{
-    let [word, others @ ..] = words else {
-        return Err(bad_words(alloc, b"split"));
-    };
-    let what = match place {
-        Cut::At => Edit::SplitAt(index(alloc, word)?),
-        Cut::By => Edit::SplitBy(text_before(alloc, others, word)?),
-    };
-    match others {
-        [] => Ok(what),
-        [next, ..] => Err(at_fault(alloc, next)),
-    }
-}
-
-// `sel split at NUMBER`, `sel split by PATH`
-#[tactic(auto, unfolding(crate::specs::Commands::split_form))]
-fn split(
-    alloc: Global,
-    selection: Option<WrittenSelection>,
-    words: &[Word],
-) -> Result<Command, Halt>
-    ensures { Returns (λ command. command) result (split_form selection words.now) }
-{
-    if selection.is_none() {
-        return Err(bad_words(alloc, b"split"));
-    }
-    let [word, others @ ..] = words else {
-        return Err(bad_words(alloc, b"split"));
-    };
-    let place = cut_in(alloc, word)?;
-    let what = cut(alloc, place, others)?;
-    Ok(Command::Edit { selection, what })
-}
-
-// `sel reorder`
-#[tactic(auto, unfolding(crate::specs::Commands::reorder_form))]
-fn reorder(
-    alloc: Global,
-    selection: Option<WrittenSelection>,
-    words: &[Word],
-) -> Result<Command, Halt>
-    ensures { Returns (λ command. command) result (reorder_form selection words.now) }
-{
-    if selection.is_none() {
-        return Err(bad_words(alloc, b"reorder"));
-    }
-    if let [word, ..] = words {
-        return Err(at_fault(alloc, word));
-    }
-    let what = Edit::Reorder;
-    Ok(Command::Edit { selection, what })
-}
-
 // `names [>FILE]`
 #[tactic(auto, unfolding(crate::specs::Commands::names_form))]
 fn names(alloc: Global, words: &[Word]) -> Result<Command, Halt>
@@ -473,8 +306,8 @@ fn sample(alloc: Global, words: &[Word]) -> Result<Command, Halt>
     }
 }
 
-// A word as a text, before such others. Only the last word can be a redirection.
-fn text_before(alloc: Global, others: &[Word], word: &Word) -> Result<ScriptText, Halt>
+/// A word as a text, before such others. Only the last word can be a redirection.
+pub fn text_before(alloc: Global, others: &[Word], word: &Word) -> Result<ScriptText, Halt>
     ensures { Returns (λ text. text) result
         (or_at_fault word.now (text_before others.now word.now)) }
 {
@@ -524,6 +357,25 @@ fn steps(command: Result<Command, Halt>) -> Result<Order, Halt>
     }
 }
 
+// An edit of selected events, of which its words say what it is.
+fn edit(
+    alloc: Global,
+    head: &[u8],
+    selection: Option<WrittenSelection>,
+    said: Result<Edit, Halt>,
+) -> Result<Command, Halt>
+    ensures { (expected : _) → Returns (λ what. what) said expected
+        → Returns (λ command. command) result (edit_form head.now selection expected) }
+{
+    if selection.is_none() {
+        return Err(bad_words(alloc, head));
+    }
+    match said {
+        Ok(what) => Ok(Command::Edit { selection, what }),
+        Err(halt) => Err(halt),
+    }
+}
+
 /// The order of a command word with the selection before it and the words after it.
 pub fn form(
     alloc: Global,
@@ -545,10 +397,25 @@ pub fn form(
         Keyword::Resolve => steps(show(alloc, selection, Listing::Resolve, words)),
         Keyword::Manifest => steps(show(alloc, selection, Listing::Manifest, words)),
         Keyword::Assign => steps(assign(alloc, selection, words)),
-        Keyword::Squash => steps(squash(alloc, selection, words)),
-        Keyword::Delete => steps(delete(alloc, selection, words)),
-        Keyword::Split => steps(split(alloc, selection, words)),
-        Keyword::Reorder => steps(reorder(alloc, selection, words)),
+        Keyword::Squash => steps(edit(alloc, b"squash", selection, squash(alloc, words))),
+        Keyword::Delete => steps(edit(alloc, b"delete", selection, delete(alloc, words))),
+        Keyword::Split => steps(edit(alloc, b"split", selection, split(alloc, words))),
+        Keyword::Reorder => steps(edit(
+            alloc,
+            b"reorder",
+            selection,
+            only(alloc, Edit::Reorder, words),
+        )),
+        Keyword::Reparent => steps(edit(alloc, b"reparent", selection, reparent(alloc, words))),
+        Keyword::Merge => steps(edit(alloc, b"merge", selection, only(alloc, Edit::Merge, words))),
+        Keyword::Unmerge => steps(edit(
+            alloc,
+            b"unmerge",
+            selection,
+            only(alloc, Edit::Unmerge, words),
+        )),
+        Keyword::Add => steps(edit(alloc, b"add", selection, add(alloc, words))),
+        Keyword::Remove => steps(edit(alloc, b"remove", selection, remove(alloc, words))),
         Keyword::Names => steps(names(alloc, words)),
         Keyword::Summary => steps(summary(alloc, words)),
         Keyword::Sample => steps(sample(alloc, words)),

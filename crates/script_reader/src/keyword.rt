@@ -21,6 +21,11 @@ pub enum Keyword {
     Delete,
     Split,
     Reorder,
+    Reparent,
+    Merge,
+    Unmerge,
+    Add,
+    Remove,
     Names,
     Summary,
     Sample,
@@ -64,6 +69,16 @@ impl Keyword {
             Some(Keyword::Split)
         } else if word == b"reorder".as_slice() {
             Some(Keyword::Reorder)
+        } else if word == b"reparent".as_slice() {
+            Some(Keyword::Reparent)
+        } else if word == b"merge".as_slice() {
+            Some(Keyword::Merge)
+        } else if word == b"unmerge".as_slice() {
+            Some(Keyword::Unmerge)
+        } else if word == b"add".as_slice() {
+            Some(Keyword::Add)
+        } else if word == b"remove".as_slice() {
+            Some(Keyword::Remove)
         } else if word == b"names".as_slice() {
             Some(Keyword::Names)
         } else if word == b"summary".as_slice() {
@@ -94,6 +109,11 @@ impl Keyword {
             | Keyword::Delete
             | Keyword::Split
             | Keyword::Reorder
+            | Keyword::Reparent
+            | Keyword::Merge
+            | Keyword::Unmerge
+            | Keyword::Add
+            | Keyword::Remove
             | Keyword::Do => true,
             _ => false,
         }

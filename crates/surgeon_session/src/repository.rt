@@ -16,6 +16,8 @@ use listing::{index, list, manifest, resolve, stamp};
 use manifest_cache::Manifests;
 use plain_model::{AnyId, Fault, Halt, IdList, Items, NoMemory, Path, PathFault, Text};
 use renumbering::renumber;
+use reparent_laws::Removal;
+use reparent_rebase::{add_op, merge, remove_op, reparent, unmerge};
 use script_reader::{Edit, Listing, WrittenSelection};
 use selection_eval::{
     Names, eval, selections_are_live, selections_are_without_repeats, sound_histories_are_such,
@@ -181,6 +183,31 @@ impl Repository {
                 split_by(self.alloc, &self.events, ids, &path)
             }
             Edit::Reorder => reorder(self.alloc, &self.events, &mut self.manifests, ids),
+            Edit::Reparent(how) => reparent(
+                self.alloc,
+                &self.events,
+                &mut self.manifests,
+                ids,
+                how.use_order,
+                how.rebase,
+            ),
+            Edit::Merge => merge(self.alloc, &self.events, ids),
+            Edit::Unmerge => unmerge(self.alloc, &self.events, ids),
+            Edit::Add(op) => add_op(
+                self.alloc,
+                &self.events,
+                &mut self.manifests,
+                ids,
+                op.as_op(),
+            ),
+            Edit::RemoveAt(number) => {
+                let what = Removal::Index(*number);
+                remove_op(self.alloc, &self.events, &mut self.manifests, ids, &what)
+            }
+            Edit::RemoveBy(text) => {
+                let what = Removal::At(path_of(self.alloc, text.as_bytes())?);
+                remove_op(self.alloc, &self.events, &mut self.manifests, ids, &what)
+            }
         }
     }
 

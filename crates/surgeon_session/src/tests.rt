@@ -215,6 +215,12 @@ fn answer(alloc: Global, session: &mut Session, command: &Command) -> Result<&'s
     Ok(in_a_word(answer))
 }
 
+// What the command of a line answers, in a word.
+fn said(alloc: Global, session: &mut Session, line: &str) -> Result<&'static str, Fail> {
+    let command = command_of(alloc, line)?;
+    answer(alloc, session, &command)
+}
+
 #[test]
 fn a_session_goes_on_from_command_to_command(rt: HostRuntime) -> Result<(), Fail> {
     let alloc = rt.alloc();
@@ -232,9 +238,8 @@ fn a_session_goes_on_from_command_to_command(rt: HostRuntime) -> Result<(), Fail
         ("names", "nothing chosen"),
     ];
     for (line, want) in rows {
-        let command = command_of(alloc, line)?;
-        let said = answer(alloc, &mut session, &command)?;
-        assert_eq!(rt; said, want, "{line}");
+        let answered = said(alloc, &mut session, line)?;
+        assert_eq!(rt; answered, want, "{line}");
     }
     Ok(())
 }

@@ -10,6 +10,28 @@ returns-clause-command c =
     c.selections_are_live.ensures c.sound_histories_are_such.ensures.tips c.a_split_keeps_soundness.ensures.at c.a_split_keeps_soundness.ensures.by
     c.a_split_keeps_the_limits.ensures.at c.a_split_keeps_the_limits.ensures.by c.a_split_adds_one_id.ensures.at c.a_split_adds_one_id.ensures.by
     c.a_reorder_keeps_soundness.ensures c.a_reorder_keeps_the_limits.ensures c.a_reorder_keeps_the_ids.ensures
+    (record {
+      reparent = c.a_change_keeps_soundness.ensures.reparent;
+      merge = c.a_change_keeps_soundness.ensures.merge;
+      unmerge = λ set events new sound within e. c.a_change_keeps_soundness.ensures.unmerge set events new sound e;
+      add = λ op set events new sound fits e. c.a_change_keeps_soundness.ensures.add op set events new sound fits.content fits.fits e;
+      remove = λ what set events new sound within e. c.a_change_keeps_soundness.ensures.remove what set events new sound e;
+    })
+    (record {
+      reparent = c.a_change_keeps_the_limits.ensures.reparent;
+      merge = λ set events new sound e. c.a_change_keeps_the_limits.ensures.merge set events new e;
+      unmerge = c.a_change_keeps_the_limits.ensures.unmerge;
+      add = λ op set events new sound fits e. c.a_change_keeps_the_limits.ensures.add op set events new sound fits.content fits.fits e;
+      remove = c.a_change_keeps_the_limits.ensures.remove;
+    })
+    (record {
+      reparent = c.nothing_is_added-2.ensures.reparent;
+      merge = λ set events new sound e. c.nothing_is_added-2.ensures.merge set events new e;
+      unmerge = λ set events new sound within e. c.nothing_is_added-2.ensures.unmerge set events new e;
+      add = λ op set events new sound fits e. c.nothing_is_added-2.ensures.add op set events new sound fits.content fits.fits e;
+      remove = λ what set events new sound within e. c.nothing_is_added-2.ensures.remove what set events new sound e;
+    })
+    c.an_added_operation_is_spelled.ensures
 
 pub returns-clause-line : goal.returns-clause-line
 returns-clause-line c =
@@ -20,3 +42,25 @@ returns-clause-line c =
     c.selections_are_live.ensures c.sound_histories_are_such.ensures.tips c.a_split_keeps_soundness.ensures.at c.a_split_keeps_soundness.ensures.by
     c.a_split_keeps_the_limits.ensures.at c.a_split_keeps_the_limits.ensures.by c.a_split_adds_one_id.ensures.at c.a_split_adds_one_id.ensures.by
     c.a_reorder_keeps_soundness.ensures c.a_reorder_keeps_the_limits.ensures c.a_reorder_keeps_the_ids.ensures
+    (record {
+      reparent = c.a_change_keeps_soundness.ensures.reparent;
+      merge = c.a_change_keeps_soundness.ensures.merge;
+      unmerge = λ set events new sound within e. c.a_change_keeps_soundness.ensures.unmerge set events new sound e;
+      add = λ op set events new sound fits e. c.a_change_keeps_soundness.ensures.add op set events new sound fits.content fits.fits e;
+      remove = λ what set events new sound within e. c.a_change_keeps_soundness.ensures.remove what set events new sound e;
+    })
+    (record {
+      reparent = c.a_change_keeps_the_limits.ensures.reparent;
+      merge = λ set events new sound e. c.a_change_keeps_the_limits.ensures.merge set events new e;
+      unmerge = c.a_change_keeps_the_limits.ensures.unmerge;
+      add = λ op set events new sound fits e. c.a_change_keeps_the_limits.ensures.add op set events new sound fits.content fits.fits e;
+      remove = c.a_change_keeps_the_limits.ensures.remove;
+    })
+    (record {
+      reparent = c.nothing_is_added-2.ensures.reparent;
+      merge = λ set events new sound e. c.nothing_is_added-2.ensures.merge set events new e;
+      unmerge = λ set events new sound within e. c.nothing_is_added-2.ensures.unmerge set events new e;
+      add = λ op set events new sound fits e. c.nothing_is_added-2.ensures.add op set events new sound fits.content fits.fits e;
+      remove = λ what set events new sound within e. c.nothing_is_added-2.ensures.remove what set events new sound e;
+    })
+    c.an_added_operation_is_spelled.ensures

@@ -1,0 +1,251 @@
+//! The words of edits, after their command words.
+ghost use Rattle.std.specs.Prelude.{◌≡◌, option_and_then};
+ghost use Rattle.plain_model.specs.Faults.{Returns};
+ghost use Rattle.script_reader.specs.Commands.{
+  add_words,
+  alone,
+  asked_by,
+  cut_form,
+  op_by,
+  or_at_fault,
+  remove_words,
+  removal_of,
+  reparent_words,
+  reparenting_by,
+  split_words,
+  squash_words,
+  text_before,
+  whole_in,
+};
+ghost use Rattle.script_reader.specs.Cuts.{cut_of};
+ghost use Rattle.script_reader.specs.Numbers.{index_in};
+ghost use Rattle.script_reader.specs.Options.{asked_more, reparenting_more, squash_option};
+ghost use Rattle.script_reader.specs.Spelled.{op_more};
+ghost use Rattle.script_reader.specs.declared.edit.Edit.TheVariants as edit;
+ghost use Rattle.squash_laws.specs.Faults.{delete_how};
+
+use crate::cut::Cut;
+use crate::edit::Edit;
+use crate::form::{at_fault, bad_words, text_before};
+use crate::number::index_in;
+use crate::options::{Asked, Reparenting, SquashOption};
+use crate::script_text::ScriptText;
+use crate::spelled::{SaidOp, SpelledOp};
+use crate::word::Word;
+use plain_model::Halt;
+use squash_laws::{Lean, Policy, Push};
+use std::alloc::Global;
+
+/// An edit after whose command word is no word.
+pub fn only(alloc: Global, what: Edit, words: &[Word]) -> Result<Edit, Halt>
+    ensures { Returns (λ what. what) result (alone what words.now) }
+{
+    match words {
+        [] => Ok(what),
+        [word, ..] => Err(at_fault(alloc, word)),
+    }
+}
+
+// The option of `squash` that a word is.
+fn squash_option(word: &Word) -> Option<SquashOption>
+    ensures { result ≡ option_and_then squash_option (whole_in word.now) }
+{
+    match word {
+        Word::Plain(text) | Word::Quoted(text) => SquashOption::of(text.as_bytes()),
+        Word::Broken(_) => None,
+    }
+}
+
+// What options ask for with one more word, if it is an option and can follow them.
+fn asked_more(asked: Asked, word: &Word) -> Option<Asked>
+    ensures { result ≡ option_and_then (asked_more asked)
+        (option_and_then squash_option (whole_in word.now)) }
+{
+    match squash_option(word) {
+        Some(option) => asked.more(option),
+        None => None,
+    }
+}
+
+// What the options ask for that follow some.
+fn asked_by(alloc: Global, asked: Asked, words: &[Word]) -> Result<Asked, Halt>
+    ensures { Returns (λ asked. asked) result (asked_by asked words.now) }
+{
+    match words {
+        [] => Ok(asked),
+        [word, others @ ..] => match asked_more(asked, word) {
+            Some(more) => asked_by(alloc, more, others),
+            None => Err(at_fault(alloc, word)),
+        },
+    }
+}
+
+/// `[--pushforward | --pushback | --delete] [--tagforward | --tagback]`
+#[tactic(auto, unfolding(crate::specs::Commands::squash_words))]
+pub fn squash(alloc: Global, words: &[Word]) -> Result<Edit, Halt>
+    ensures { Returns (λ what. what) result (squash_words words.now) }
+{
+    let asked = asked_by(alloc, Asked::nothing(), words)?;
+    Ok(Edit::Squash(asked.policy()))
+}
+
+/// Nothing is after `delete`.
+pub fn delete(alloc: Global, words: &[Word]) -> Result<Edit, Halt>
+    ensures { Returns (λ what. what) result (alone (edit.Squash delete_how) words.now) }
+{
+    let how = Policy {
+        push: Push::Discard,
+        tags: Lean::Forward,
+    };
+    only(alloc, Edit::Squash(how), words)
+}
+
+// The word after `split`.
+fn cut_in(alloc: Global, word: &Word) -> Result<Cut, Halt>
+    ensures { Returns (λ cut. cut) result
+        (or_at_fault word.now (option_and_then cut_of (whole_in word.now))) }
+{
+    let cut = match word {
+        Word::Plain(text) | Word::Quoted(text) => Cut::of(text.as_bytes()),
+        Word::Broken(_) => None,
+    };
+    match cut {
+        Some(cut) => Ok(cut),
+        None => Err(at_fault(alloc, word)),
+    }
+}
+
+// The number of an operation.
+fn index(alloc: Global, word: &Word) -> Result<u64, Halt>
+    ensures { Returns (λ number. number) result
+        (or_at_fault word.now (option_and_then index_in (whole_in word.now))) }
+{
+    let number = match word {
+        Word::Plain(text) | Word::Quoted(text) => index_in(text.as_bytes()),
+        Word::Broken(_) => None,
+    };
+    match number {
+        Some(number) => Ok(number),
+        None => Err(at_fault(alloc, word)),
+    }
+}
+
+// What is after `at`, or after `by`.
+fn cut(alloc: Global, place: Cut, words: &[Word]) -> Result<Edit, Halt>
+    ensures { Returns (λ what. what) result (cut_form place words.now) }
+{
+    let [word, others @ ..] = words else {
+        return Err(bad_words(alloc, b"split"));
+    };
+    let what = match place {
+        Cut::At => Edit::SplitAt(index(alloc, word)?),
+        Cut::By => Edit::SplitBy(text_before(alloc, others, word)?),
+    };
+    match others {
+        [] => Ok(what),
+        [next, ..] => Err(at_fault(alloc, next)),
+    }
+}
+
+/// `at NUMBER`, `by PATH`
+#[tactic(auto, unfolding(crate::specs::Commands::split_words))]
+pub fn split(alloc: Global, words: &[Word]) -> Result<Edit, Halt>
+    ensures { Returns (λ what. what) result (split_words words.now) }
+{
+    let [word, others @ ..] = words else {
+        return Err(bad_words(alloc, b"split"));
+    };
+    let place = cut_in(alloc, word)?;
+    cut(alloc, place, others)
+}
+
+// What options of `reparent` say with one more word, if it is one.
+fn reparenting_more(how: Reparenting, word: &Word) -> Option<Reparenting>
+    ensures { result ≡ option_and_then (reparenting_more how) (whole_in word.now) }
+{
+    match word {
+        Word::Plain(text) | Word::Quoted(text) => how.more(text.as_bytes()),
+        Word::Broken(_) => None,
+    }
+}
+
+// What the options of `reparent` say that follow some.
+fn reparenting_by(alloc: Global, how: Reparenting, words: &[Word]) -> Result<Reparenting, Halt>
+    ensures { Returns (λ how. how) result (reparenting_by how words.now) }
+{
+    match words {
+        [] => Ok(how),
+        [word, others @ ..] => match reparenting_more(how, word) {
+            Some(more) => reparenting_by(alloc, more, others),
+            None => Err(at_fault(alloc, word)),
+        },
+    }
+}
+
+/// `[--use-order] [--rebase]`
+#[tactic(auto, unfolding(crate::specs::Commands::reparent_words))]
+pub fn reparent(alloc: Global, words: &[Word]) -> Result<Edit, Halt>
+    ensures { Returns (λ what. what) result (reparent_words words.now) }
+{
+    let how = reparenting_by(alloc, Reparenting::plain(), words)?;
+    Ok(Edit::Reparent(how))
+}
+
+// What the words of an operation say with one more word, before such others.
+fn op_more(alloc: Global, said: SaidOp, others: &[Word], word: &Word) -> Result<SaidOp, Halt>
+    ensures { Returns (λ said. said) result
+        (or_at_fault word.now (option_and_then (op_more said) (text_before others.now word.now))) }
+{
+    let text = text_before(alloc, others, word)?;
+    match said.more(alloc, text.as_bytes())? {
+        Some(more) => Ok(more),
+        None => Err(at_fault(alloc, word)),
+    }
+}
+
+// What the words of an operation say that follow some.
+fn op_by(alloc: Global, said: SaidOp, words: &[Word]) -> Result<SaidOp, Halt>
+    ensures { Returns (λ said. said) result (op_by said words.now) }
+{
+    match words {
+        [] => Ok(said),
+        [word, others @ ..] => {
+            let more = op_more(alloc, said, others, word)?;
+            op_by(alloc, more, others)
+        }
+    }
+}
+
+/// `M MODE :MARK PATH`, `M MODE ID PATH`, `D PATH`, `C SOURCE TARGET`, `R SOURCE TARGET`, `deleteall`
+#[tactic(auto, unfolding(crate::specs::Commands::add_words))]
+pub fn add(alloc: Global, words: &[Word]) -> Result<Edit, Halt>
+    ensures { Returns (λ what. what) result (add_words words.now) }
+{
+    let said = op_by(alloc, SaidOp::Nothing, words)?;
+    match said.whole() {
+        Some(op) => Ok(Edit::Add(SpelledOp::new(op))),
+        None => Err(bad_words(alloc, b"add")),
+    }
+}
+
+// Digits are the number of an operation, and all else is a path.
+fn removal_of(text: ScriptText) -> Edit
+    ensures { result ≡ removal_of text }
+{
+    match index_in(text.as_bytes()) {
+        Some(number) => Edit::RemoveAt(number),
+        None => Edit::RemoveBy(text),
+    }
+}
+
+/// `NUMBER`, `PATH`
+#[tactic(auto, unfolding(crate::specs::Commands::remove_words))]
+pub fn remove(alloc: Global, words: &[Word]) -> Result<Edit, Halt>
+    ensures { Returns (λ what. what) result (remove_words words.now) }
+{
+    let [word, others @ ..] = words else {
+        return Err(bad_words(alloc, b"remove"));
+    };
+    let text = text_before(alloc, others, word)?;
+    only(alloc, removal_of(text), others)
+}
