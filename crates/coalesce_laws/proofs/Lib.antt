@@ -1,0 +1,12 @@
+pub mod Added
+pub mod Blobs
+pub mod Coalesced
+pub mod Deciding
+pub mod Joined
+pub mod Moved
+pub mod MovedOps
+pub mod Pushed
+mod Rows
+pub mod Single
+pub mod Staying
+pub mod Unchanged

@@ -1,0 +1,3 @@
+pub mod Coalesce
+pub mod Examples
+pub mod Remaining
