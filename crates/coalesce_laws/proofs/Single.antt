@@ -151,9 +151,9 @@ module _ (removed : ℕ → Bool) where
   one_each [] = refl
   one_each (p ∷ ps) = ap (λ (l : List ℕ). p ∷ l) (one_each ps)
 
-  one_behind : (ls : List Node) (n : Node) (ps : List ℕ) → parents_of_oldest (ls ++ n ∷ []) ps ≡ parents_of_oldest ls n.parents
-  one_behind [] n ps = refl
-  one_behind (m ∷ ls) n ps = refl
+  one_more_oldest : (ls : List Node) (n : Node) (ps : List ℕ) → parents_of_oldest (ls ++ n ∷ []) ps ≡ parents_of_oldest ls n.parents
+  one_more_oldest [] n ps = refl
+  one_more_oldest (m ∷ ls) n ps = refl
 
   none_gone : (a : Past) (p : ℕ) (ps : List ℕ) → list_any removed (p ∷ ps) ≡ false → are_distinct (p ∷ ps) ≡ true →
       expand_all removed a (p ∷ ps) ≡ parents_of_oldest (chain removed a (p ∷ ps)) (p ∷ ps)
@@ -181,7 +181,7 @@ module _ (removed : ℕ → Bool) where
                   ap once_each (expand_gone removed n older p same gone)
                   ∙ distinct_once (expand_all removed older n.parents) (once_each_distinct (flat_map (expand removed older) n.parents))
                   ∙ its
-                  ∙ sym (ap (λ (ls : List Node). parents_of_oldest ls (p ∷ ps)) (chain_gone removed n older p ps same gone) ∙ one_behind (chain removed older n.parents) n (p ∷ ps))
+                  ∙ sym (ap (λ (ls : List Node). parents_of_oldest ls (p ∷ ps)) (chain_gone removed n older p ps same gone) ∙ one_more_oldest (chain removed older n.parents) n (p ∷ ps))
               | inr other ↦
                   ap once_each (expand_other removed n older p other)
                   ∙ sym (alone older p ps single gone)

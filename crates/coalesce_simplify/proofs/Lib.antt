@@ -1,0 +1,8 @@
+pub mod Histories
+pub mod Joins
+pub mod Leading
+pub mod Left
+pub mod Noting
+pub mod Steps
+pub mod Voided
+pub mod Walks

@@ -1,0 +1,4 @@
+pub mod Chosen
+pub mod Examples
+pub mod Joining
+pub mod Voiding
