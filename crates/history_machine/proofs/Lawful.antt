@@ -23,6 +23,8 @@ use Rattle.event_arena.proofs.SoundLemmas.{has_id-find}
 use Rattle.commit_laws.specs.Selected.{IsSelection, node_of, the_commit}
 use Rattle.split_laws.specs.Split.{first_touch, split_at_of, split_by_of, split_from}
 use Rattle.reorder_laws.specs.Reorder.{reorder_of}
+use Rattle.coalesce_laws.specs.Coalesce.{coalesce_of}
+use Rattle.simplify_laws.specs.Simplify.{simplify_of}
 use Rattle.reparent_laws.specs.Merge.{merge_of, unmerge_of}
 use Rattle.reparent_laws.specs.Operations.{add_of, remove_of}
 use Rattle.reparent_laws.specs.Remaining.{AddsNothing}
@@ -259,6 +261,13 @@ module _
     (changed_sound : OfChanges (λ events new. IsSound new))
     (changed_within : OfChanges (λ events new. IsWithinLimits new))
     (changed_adds : OfChanges AddsNothing)
+    (coalesced_sound : (seconds : ℕ) (set : List AnyId) (events : List PlainEvent) → IsSound events → IsSound (coalesce_of seconds set events))
+    (coalesced_within : (seconds : ℕ) (set : List AnyId) (events : List PlainEvent) → IsSound events → IsWithinLimits events → IsWithinLimits (coalesce_of seconds set events))
+    (coalesced_below : (seconds : ℕ) (set : List AnyId) (events : List PlainEvent) (next : ℕ) → IsSound events → AreIdsBelow next events
+    → AreIdsBelow next (coalesce_of seconds set events))
+    (simplified_sound : (set : List AnyId) (events new : List PlainEvent) → IsSound events → simplify_of set events ≡ Ok new → IsSound new)
+    (simplified_within : (set : List AnyId) (events new : List PlainEvent) → IsWithinLimits events → simplify_of set events ≡ Ok new → IsWithinLimits new)
+    (simplified_below : (set : List AnyId) (events new : List PlainEvent) (next : ℕ) → simplify_of set events ≡ Ok new → AreIdsBelow next events → AreIdsBelow next new)
     (spelled : (line : Bytes) (what : Command) → order_of line ≡ Ok (order.Step what) → IsSpelledCommand what)
   where
     read_lawful : (name : Bytes) (file : Option Bytes) (events : List PlainEvent) → read_of name file ≡ Ok events → IsLawfulHistory events
@@ -479,6 +488,25 @@ module _
           changed_adds.remove what set events after sound within e,
         ))
 
+    coalesced_well : (seconds : ℕ) (set : Ids) (repo : Repo) → IsLawfulRepo repo → EditsWell (remade (edit.Coalesce seconds) set repo)
+    coalesced_well seconds set repo h =
+        let events = repo.history in
+        let sound = h.history.sound in
+        history_well repo (coalesce_of seconds set events) repo.next h (coalesced_sound seconds set events sound)
+        (coalesced_within seconds set events sound (within_limits events h.history))
+        (coalesced_below seconds set events repo.next sound (below_spent events repo.next h.spent)) (omega arith)
+
+    simplified_well : (set : Ids) (repo : Repo) → IsLawfulRepo repo → EditsWell (remade edit.Simplify set repo)
+    simplified_well set repo h = go (simplify_of set repo.history) refl
+      where
+        go : (r : Result (List PlainEvent) Fault) → simplify_of set repo.history ≡ r → EditsWell (with_history repo r)
+        go (Err why) e = tt
+        go (Ok after) e =
+            let events = repo.history in
+            history_well repo after repo.next h (simplified_sound set events after h.history.sound e)
+            (simplified_within set events after (within_limits events h.history) e)
+            (simplified_below set events after repo.next e (below_spent events repo.next h.spent)) (omega arith)
+
     edit_well : (s : Session) (ids : Ids) (what : Edit) → IsLawful s → IsSpelledEdit what → IsOnce ids → LiveIn s ids → ChangesWell (after_edit s ids what)
     unfolding after_edit
     edit_well s ids what h fits once lives =
@@ -493,6 +521,8 @@ module _
         remade_well edit.Merge ids repo h fits once lives = merged_well ids repo h
         remade_well edit.Unmerge ids repo h fits once lives = unmerged_well ids repo h
         remade_well (edit.Add op) ids repo h fits once lives = added_well op ids repo h fits
+        remade_well (edit.Coalesce seconds) ids repo h fits once lives = coalesced_well seconds ids repo h
+        remade_well edit.Simplify ids repo h fits once lives = simplified_well ids repo h
         remade_well (edit.RemoveAt number) ids repo h fits once lives = removed_well (Index number) ids repo h
         remade_well (edit.RemoveBy text) ids repo h fits once lives = said (path_fault text)
           where

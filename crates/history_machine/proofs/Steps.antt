@@ -177,7 +177,7 @@ same_names events [] = refl
 same_names events (n ∷ names) = ap (λ rest. n.0 ∷ rest) (same_names events names)
 
 -- the events of another history were there, and its commits have the trees that they had
-abbrev KeepsRest : List PlainEvent → List PlainEvent → Type 0
+abbrev pub KeepsRest : List PlainEvent → List PlainEvent → Type 0
 KeepsRest events new = ((id : AnyId) → IsTrue (has_id new id) → IsTrue (has_id events id)) × ((c : ℕ) → IsCommitOf new c → shown_tree new c ≡ shown_tree events c)
 
 -- a repository with such a history
@@ -220,6 +220,18 @@ module _
 kept_rest : (events new : List PlainEvent) → Remaining.KeepsTrees events new → AddsNothing events new → KeepsRest events new
 kept_rest events new trees nothing = (nothing.ids, λ c there. trees.shown c (nothing.ids (any.Commit c) there))
 
+-- an edit that is done, whose history keeps the rest
+pub rest_keeps : (denial : Option Denial) (s : Session) (files : Files) (selection : Option Bytes) (what : Edit) (t : Turn Session)
+    → (made : Ids → List PlainEvent → Result (List PlainEvent) Fault) → ((ids : Ids) (repo : Repo) → remade what ids repo ≡ with_history repo (made ids repo.history))
+    → step denial s files (command.Edit selection what) ≡ Ok t
+    → ((ids : Ids) (repo : Repo) (after : List PlainEvent) → under denial (ready s (command.Edit selection what)) ≡ Ok ids → chosen s ≡ Ok repo
+    → made ids repo.history ≡ Ok after → KeepsRest repo.history after)
+    → Each KeepsTreesOfRest s.repos t.session.repos
+rest_keeps denial s files selection what t made so h keeps =
+    edit_keeps_rest denial s files selection what t h (λ set repo new ready is e.
+    history_keeps repo new (made set repo.history) (λ after done. keeps set repo after ready is done)
+    (ap (λ (r : Result Repo Fault). r >>= λ after. Ok (with_live_names after)) (sym (so set repo)) ∙ e))
+
 -- a change of parents that is done
 pub parents_keep : (denial : Option Denial) (s : Session) (files : Files) (selection : Option Bytes) (what : Edit) (t : Turn Session)
     → (made : Ids → List PlainEvent → Result (List PlainEvent) Fault) → ((ids : Ids) (repo : Repo) → remade what ids repo ≡ with_history repo (made ids repo.history))
@@ -228,7 +240,5 @@ pub parents_keep : (denial : Option Denial) (s : Session) (files : Files) (selec
     → made ids repo.history ≡ Ok after → Remaining.KeepsTrees repo.history after × AddsNothing repo.history after)
     → Each KeepsTreesOfRest s.repos t.session.repos
 parents_keep denial s files selection what t made so h keeps =
-    edit_keeps_rest denial s files selection what t h (λ set repo new ready is e.
-    history_keeps repo new (made set repo.history)
-    (λ after done. let k = keeps set repo after ready is done in kept_rest repo.history after k.0 k.1)
-    (ap (λ (r : Result Repo Fault). r >>= λ after. Ok (with_live_names after)) (sym (so set repo)) ∙ e))
+    rest_keeps denial s files selection what t made so h
+    (λ set repo after ready is done. let k = keeps set repo after ready is done in kept_rest repo.history after k.0 k.1)

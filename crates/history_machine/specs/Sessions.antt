@@ -37,6 +37,8 @@ use Rattle.selection_parser.specs.Reading.{selection_at}
 use Rattle.squash_laws.specs.Faults.{squash_of}
 use Rattle.split_laws.specs.Split.{split_at_of, split_by_of}
 use Rattle.reorder_laws.specs.Reorder.{reorder_of}
+use Rattle.coalesce_laws.specs.Coalesce.{coalesce_of}
+use Rattle.simplify_laws.specs.Simplify.{simplify_of}
 use Rattle.reparent_laws.specs.Merge.{merge_of, unmerge_of}
 use Rattle.reparent_laws.specs.Operations.{add_of, remove_of}
 use Rattle.reparent_laws.specs.Reparent.{reparent_of}
@@ -221,6 +223,8 @@ remade edit.Merge ids repo = with_history repo (merge_of ids repo.history)
 remade edit.Unmerge ids repo = with_history repo (unmerge_of ids repo.history)
 remade (edit.Add op) ids repo = with_history repo (add_of op ids repo.history)
 remade (edit.RemoveAt number) ids repo = with_history repo (remove_of (Index number) ids repo.history)
+remade (edit.Coalesce seconds) ids repo = Ok (record repo { history = coalesce_of seconds ids repo.history })
+remade edit.Simplify ids repo = with_history repo (simplify_of ids repo.history)
 remade (edit.RemoveBy text) ids repo = said_path text >>= λ path. with_history repo (remove_of (At path) ids repo.history)
 
 -- lists under names keep the events that are still there

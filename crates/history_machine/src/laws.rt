@@ -18,6 +18,9 @@ ghost use Rattle.history_machine.specs.Lawful.{IsLawful, IsLawfulHistory};
 ghost use Rattle.history_machine.specs.Machine.{Turn, turn_of};
 ghost use Rattle.history_machine.specs.Sessions.{Repo, Session, chosen, line_step, sends, step};
 
+use coalesce_laws::{
+    a_coalescing_keeps_soundness, a_coalescing_keeps_the_limits, a_coalescing_keeps_trees,
+};
 use renumbering::{
     ids_stay, nothing_else_changes, renumbering_keeps_soundness, renumbering_keeps_trees,
 };
@@ -31,6 +34,9 @@ use sample_history::samples_are_lawful;
 use script_reader::an_added_operation_is_spelled;
 use selection_eval::{
     selections_are_live, selections_are_without_repeats, sound_histories_are_such,
+};
+use simplify_laws::{
+    simplifying_keeps_soundness, simplifying_keeps_the_limits, simplifying_keeps_trees,
 };
 use soundness_laws::{what_is_read_is_sound, what_is_read_passes_no_limit};
 use split_laws::{a_split_adds_one_id, a_split_keeps_soundness, a_split_keeps_the_limits};
@@ -108,6 +114,23 @@ pub fn new_parents_keep_trees()
     sound_histories_are_such();
 }
 
+/// A coalesce and a simplify leave every loaded repository its name, and each commit that is still there its tree.
+pub fn joined_and_simpler_commits_keep_trees()
+    ensures coalesce { (denial : Option Denial) (s : Session) (files : Files)
+        (selection : Option (List ℕ)) (seconds : ℕ) (t : Turn Session) →
+        step denial s files (command.Edit selection (Edit.Coalesce seconds)) ≡ Ok t →
+        IsLawful s → Each KeepsTreesOfRest s.repos t.session.repos }
+    ensures simplify { (denial : Option Denial) (s : Session) (files : Files)
+        (selection : Option (List ℕ)) (t : Turn Session) →
+        step denial s files (command.Edit selection Edit.Simplify) ≡ Ok t → IsLawful s →
+        Each KeepsTreesOfRest s.repos t.session.repos }
+{
+    a_coalescing_keeps_trees();
+    coalesce_laws::nothing_is_added();
+    simplifying_keeps_trees();
+    simplify_laws::nothing_is_added();
+}
+
 /// A lawful session, whose histories are sound and within the limits, stays one by every command that is done, if the operation
 /// that it may add is one that a script can spell. So it does by every line.
 pub fn a_step_keeps_it()
@@ -140,6 +163,12 @@ pub fn a_step_keeps_it()
     a_change_keeps_the_limits();
     reparent_laws::nothing_is_added();
     an_added_operation_is_spelled();
+    a_coalescing_keeps_soundness();
+    a_coalescing_keeps_the_limits();
+    coalesce_laws::nothing_is_added();
+    simplifying_keeps_soundness();
+    simplifying_keeps_the_limits();
+    simplify_laws::nothing_is_added();
 }
 
 /// The chosen history of such a session is sound and within the limits.

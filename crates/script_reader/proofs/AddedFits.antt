@@ -8,11 +8,11 @@ use Rattle.plain_model.specs.Paths.{Bytes}
 use Rattle.sample_history.specs.declared.limit.TheConstants.{MAX_COMMITS}
 use Rattle.squash_laws.specs.Faults.{delete_how}
 use Rattle.script_reader.specs.Answering.{◌>>=◌}
-use Rattle.script_reader.specs.Commands.{add_words, added, alone, asked_by, assign_form, choose_form, choose_of, cut_form, do_form, drop_form, drop_of, edit_form, form_of, if_given, is_long, name_within, names_form, op_by, or_at_fault, order_after, order_in, order_of, output_in, read_form, read_of, remove_words, removal_of, renumber_form, reparent_words, reparenting_by, sample_form, sample_start, show_form, split_words, squash_words, steps, summary_form, text_before, too_long, whole_in, write_form}
+use Rattle.script_reader.specs.Commands.{add_words, added, alone, asked_by, assign_form, choose_form, choose_of, coalesce_words, cut_form, do_form, drop_form, drop_of, edit_form, form_of, free_form, if_given, is_long, name_within, names_form, op_by, or_at_fault, order_after, order_in, order_of, output_in, read_form, read_of, remove_words, removal_of, renumber_form, reparent_words, reparenting_by, sample_form, sample_start, show_form, split_words, squash_words, steps, summary_form, text_before, too_long, whole_in, write_form}
 use Rattle.script_reader.specs.Cuts.{cut_of}
 use Rattle.script_reader.specs.Keywords.{keyword_of}
 use Rattle.script_reader.specs.Names.{is_repo_name, repo_name}
-use Rattle.script_reader.specs.Numbers.{index_in, said_between}
+use Rattle.script_reader.specs.Numbers.{index_in, said_between, seconds_in}
 use Rattle.script_reader.specs.Options.{nothing_asked, policy_of, reparenting}
 use Rattle.script_reader.specs.Redirections.{redirected}
 use Rattle.script_reader.specs.Selecting.{front_of, is_superfluous}
@@ -98,6 +98,17 @@ remove_fits (word ∷ words) = bound IsSpelledEdit (or_at_fault word (text_befor
     go : (text : Bytes) (number : Option ℕ) → IsSpelledEdit (elim number [ Some n ↦ edit.RemoveAt n | None ↦ edit.RemoveBy text ])
     go text (Some n) = tt
     go text None = tt
+
+coalesce_fits : (words : List Word) → IfAnswered IsSpelledEdit (coalesce_words words)
+unfolding coalesce_words
+coalesce_fits [] = tt
+coalesce_fits (word ∷ words) =
+    bound IsSpelledEdit (or_at_fault word (option_and_then seconds_in (whole_in word))) (λ seconds. alone (edit.Coalesce seconds) words)
+    (λ seconds is. lone IsSpelledEdit (edit.Coalesce seconds) words tt)
+
+free_fits : (selection : Option Bytes) (said : Result Edit Fault) → IfAnswered IsSpelledEdit said → IfAnswered IsSpelledCommand (free_form selection said)
+free_fits selection (Ok what) h = h
+free_fits selection (Err why) h = tt
 
 edit_fits : (head : Bytes) (selection : Option Bytes) (said : Result Edit Fault) → IfAnswered IsSpelledEdit said → IfAnswered IsSpelledCommand (edit_form head selection said)
 edit_fits head None said h = tt
@@ -211,6 +222,9 @@ form_fits selection keyword.Add words =
     stepped (edit_form (codes "add") selection (add_words words)) (edit_fits (codes "add") selection (add_words words) (add_fits words))
 form_fits selection keyword.Remove words =
     stepped (edit_form (codes "remove") selection (remove_words words)) (edit_fits (codes "remove") selection (remove_words words) (remove_fits words))
+form_fits selection keyword.Coalesce words = stepped (free_form selection (coalesce_words words)) (free_fits selection (coalesce_words words) (coalesce_fits words))
+form_fits selection keyword.Simplify words =
+    stepped (free_form selection (alone edit.Simplify words)) (free_fits selection (alone edit.Simplify words) (lone IsSpelledEdit edit.Simplify words tt))
 form_fits selection keyword.Names words = stepped (names_form words) (names_fits words)
 form_fits selection keyword.Summary words = stepped (summary_form words) (summary_fits words)
 form_fits selection keyword.Sample words = stepped (sample_form words) (sample_fits words)

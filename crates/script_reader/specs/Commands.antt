@@ -12,7 +12,7 @@ use Rattle.script_reader.specs.Answering.{◌>>=◌}
 use Rattle.script_reader.specs.Keywords.{keyword_of}
 use Rattle.script_reader.specs.Names.{repo_name, is_given_name, is_repo_name}
 use Rattle.script_reader.specs.Cuts.{cut_of}
-use Rattle.script_reader.specs.Numbers.{index_in, said_between}
+use Rattle.script_reader.specs.Numbers.{index_in, said_between, seconds_in}
 use Rattle.script_reader.specs.Options.{asked_more, nothing_asked, policy_of, reparenting, reparenting_more, squash_option}
 use Rattle.script_reader.specs.Redirections.{begins_with_sign, redirected}
 use Rattle.script_reader.specs.Selecting.{Front, front_of, is_superfluous}
@@ -33,7 +33,7 @@ use Rattle.script_reader.specs.declared.options.Asked.{Asked}
 use Rattle.script_reader.specs.declared.options.Reparenting.{Reparenting}
 use Rattle.script_reader.specs.declared.spelled.SaidOp.{SaidOp}
 use Rattle.script_reader.specs.declared.spelled.SaidOp.TheVariants.{Nothing}
-use Rattle.script_reader.specs.declared.number.TheConstants.{MAX_START}
+use Rattle.script_reader.specs.declared.number.TheConstants.{MAX_START, USUAL_SECONDS}
 use Rattle.script_reader.specs.declared.keyword.Keyword.{Keyword}
 use Rattle.script_reader.specs.declared.keyword.Keyword.TheVariants as keyword
 use Rattle.script_reader.specs.declared.redirection.Direction.TheVariants.{Input, Output}
@@ -203,6 +203,15 @@ unfoldable pub remove_words : List Word → Result Edit Fault
 remove_words [] = Err (fault.BadWords (codes "remove"))
 remove_words (word ∷ words) = or_at_fault word (text_before words word) >>= λ text. alone (removal_of text) words
 
+-- `coalesce [SECONDS]`
+unfoldable pub coalesce_words : List Word → Result Edit Fault
+coalesce_words [] = Ok (edit.Coalesce USUAL_SECONDS)
+coalesce_words (word ∷ words) = or_at_fault word (option_and_then seconds_in (whole_in word)) >>= λ seconds. alone (edit.Coalesce seconds) words
+
+-- an edit of selected events, or of all, of which its words say what it is
+abbrev pub free_form : Option Bytes → Result Edit Fault → Result Command Fault
+free_form selection said = said >>= λ what. Ok (command.Edit selection what)
+
 -- an edit of selected events, of which its words say what it is
 abbrev pub edit_form : Bytes → Option Bytes → Result Edit Fault → Result Command Fault
 edit_form head None said = Err (fault.BadWords head)
@@ -261,6 +270,8 @@ form_of selection keyword.Merge words = steps (edit_form (codes "merge") selecti
 form_of selection keyword.Unmerge words = steps (edit_form (codes "unmerge") selection (alone edit.Unmerge words))
 form_of selection keyword.Add words = steps (edit_form (codes "add") selection (add_words words))
 form_of selection keyword.Remove words = steps (edit_form (codes "remove") selection (remove_words words))
+form_of selection keyword.Coalesce words = steps (free_form selection (coalesce_words words))
+form_of selection keyword.Simplify words = steps (free_form selection (alone edit.Simplify words))
 form_of selection keyword.Names words = steps (names_form words)
 form_of selection keyword.Summary words = steps (summary_form words)
 form_of selection keyword.Sample words = steps (sample_form words)

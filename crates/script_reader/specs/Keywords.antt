@@ -27,6 +27,8 @@ keyword_of word =
     if bytes_eq word (codes "unmerge") then Some keyword.Unmerge else
     if bytes_eq word (codes "add") then Some keyword.Add else
     if bytes_eq word (codes "remove") then Some keyword.Remove else
+    if bytes_eq word (codes "coalesce") then Some keyword.Coalesce else
+    if bytes_eq word (codes "simplify") then Some keyword.Simplify else
     if bytes_eq word (codes "names") then Some keyword.Names else
     if bytes_eq word (codes "summary") then Some keyword.Summary else
     if bytes_eq word (codes "sample") then Some keyword.Sample else

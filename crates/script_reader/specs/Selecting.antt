@@ -61,6 +61,8 @@ takes_selection keyword.Merge = true
 takes_selection keyword.Unmerge = true
 takes_selection keyword.Add = true
 takes_selection keyword.Remove = true
+takes_selection keyword.Coalesce = true
+takes_selection keyword.Simplify = true
 takes_selection keyword.Do = true
 takes_selection other = false
 

@@ -27,4 +27,8 @@ pub enum Edit {
     RemoveAt(u64),
     /// Takes away the operations of a commit that have this path as theirs, as their source or as their target.
     RemoveBy(ScriptText),
+    /// Joins commits to the next ones that go on with the same work, at most so many seconds later.
+    Coalesce(u64),
+    /// Drops operations that later ones of the same commit make void.
+    Simplify,
 }

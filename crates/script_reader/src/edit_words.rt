@@ -5,6 +5,7 @@ ghost use Rattle.script_reader.specs.Commands.{
   add_words,
   alone,
   asked_by,
+  coalesce_words,
   cut_form,
   op_by,
   or_at_fault,
@@ -18,7 +19,7 @@ ghost use Rattle.script_reader.specs.Commands.{
   whole_in,
 };
 ghost use Rattle.script_reader.specs.Cuts.{cut_of};
-ghost use Rattle.script_reader.specs.Numbers.{index_in};
+ghost use Rattle.script_reader.specs.Numbers.{index_in, seconds_in};
 ghost use Rattle.script_reader.specs.Options.{asked_more, reparenting_more, squash_option};
 ghost use Rattle.script_reader.specs.Spelled.{op_more};
 ghost use Rattle.script_reader.specs.declared.edit.Edit.TheVariants as edit;
@@ -27,7 +28,7 @@ ghost use Rattle.squash_laws.specs.Faults.{delete_how};
 use crate::cut::Cut;
 use crate::edit::Edit;
 use crate::form::{at_fault, bad_words, text_before};
-use crate::number::index_in;
+use crate::number::{USUAL_SECONDS, index_in, seconds_in};
 use crate::options::{Asked, Reparenting, SquashOption};
 use crate::script_text::ScriptText;
 use crate::spelled::{SaidOp, SpelledOp};
@@ -248,4 +249,33 @@ pub fn remove(alloc: Global, words: &[Word]) -> Result<Edit, Halt>
     };
     let text = text_before(alloc, others, word)?;
     only(alloc, removal_of(text), others)
+}
+
+// The number of seconds that a word says.
+fn seconds(alloc: Global, word: &Word) -> Result<u64, Halt>
+    ensures { Returns (λ number. number) result
+        (or_at_fault word.now (option_and_then seconds_in (whole_in word.now))) }
+{
+    let number = match word {
+        Word::Plain(text) | Word::Quoted(text) => seconds_in(text.as_bytes()),
+        Word::Broken(_) => None,
+    };
+    match number {
+        Some(number) => Ok(number),
+        None => Err(at_fault(alloc, word)),
+    }
+}
+
+/// `[SECONDS]`
+#[tactic(auto, unfolding(crate::specs::Commands::coalesce_words))]
+pub fn coalesce(alloc: Global, words: &[Word]) -> Result<Edit, Halt>
+    ensures { Returns (λ what. what) result (coalesce_words words.now) }
+{
+    match words {
+        [] => Ok(Edit::Coalesce(USUAL_SECONDS)),
+        [word, others @ ..] => {
+            let seconds = seconds(alloc, word)?;
+            only(alloc, Edit::Coalesce(seconds), others)
+        }
+    }
 }

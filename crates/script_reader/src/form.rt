@@ -10,6 +10,7 @@ ghost use Rattle.script_reader.specs.Commands.{
   drop_form,
   edit_form,
   form_of,
+  free_form,
   if_given,
   name_in,
   name_within,
@@ -36,7 +37,7 @@ ghost use Rattle.script_reader.specs.Words.{text_of};
 use crate::command::{Call, Command, Listing, Order};
 use crate::definition::is_given_name;
 use crate::edit::Edit;
-use crate::edit_words::{add, delete, only, remove, reparent, split, squash};
+use crate::edit_words::{add, coalesce, delete, only, remove, reparent, split, squash};
 use crate::keyword::Keyword;
 use crate::number::{MAX_START, number_between};
 use crate::redirection::{Direction, begins_with_sign, redirected};
@@ -376,6 +377,17 @@ fn edit(
     }
 }
 
+// An edit of selected events, or of all, of which its words say what it is.
+fn free(selection: Option<WrittenSelection>, said: Result<Edit, Halt>) -> Result<Command, Halt>
+    ensures { (expected : _) → Returns (λ what. what) said expected
+        → Returns (λ command. command) result (free_form selection expected) }
+{
+    match said {
+        Ok(what) => Ok(Command::Edit { selection, what }),
+        Err(halt) => Err(halt),
+    }
+}
+
 /// The order of a command word with the selection before it and the words after it.
 pub fn form(
     alloc: Global,
@@ -416,6 +428,8 @@ pub fn form(
         )),
         Keyword::Add => steps(edit(alloc, b"add", selection, add(alloc, words))),
         Keyword::Remove => steps(edit(alloc, b"remove", selection, remove(alloc, words))),
+        Keyword::Coalesce => steps(free(selection, coalesce(alloc, words))),
+        Keyword::Simplify => steps(free(selection, only(alloc, Edit::Simplify, words))),
         Keyword::Names => steps(names(alloc, words)),
         Keyword::Summary => steps(summary(alloc, words)),
         Keyword::Sample => steps(sample(alloc, words)),

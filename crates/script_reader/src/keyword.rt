@@ -26,6 +26,8 @@ pub enum Keyword {
     Unmerge,
     Add,
     Remove,
+    Coalesce,
+    Simplify,
     Names,
     Summary,
     Sample,
@@ -79,6 +81,10 @@ impl Keyword {
             Some(Keyword::Add)
         } else if word == b"remove".as_slice() {
             Some(Keyword::Remove)
+        } else if word == b"coalesce".as_slice() {
+            Some(Keyword::Coalesce)
+        } else if word == b"simplify".as_slice() {
+            Some(Keyword::Simplify)
         } else if word == b"names".as_slice() {
             Some(Keyword::Names)
         } else if word == b"summary".as_slice() {
@@ -114,6 +120,8 @@ impl Keyword {
             | Keyword::Unmerge
             | Keyword::Add
             | Keyword::Remove
+            | Keyword::Coalesce
+            | Keyword::Simplify
             | Keyword::Do => true,
             _ => false,
         }

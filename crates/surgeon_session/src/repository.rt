@@ -1,6 +1,7 @@
 //! A loaded history, with what is kept of it.
-ghost use Rattle.std.specs.Prelude.{◌≡◌, ◌<◌, ◌≤◌, ◌^◌, [], IfOk, OnErr, OnOk};
+ghost use Rattle.std.specs.Prelude.{◌≡◌, ◌<◌, ◌≤◌, ◌^◌, [], Ok, IfOk, OnErr, OnOk};
 ghost use Rattle.byte_patterns.specs.Judging.{Judges};
+ghost use Rattle.coalesce_laws.specs.Coalesce.{coalesce_of};
 ghost use Rattle.event_sets.specs.Once.{AreLive, IsOnce};
 ghost use Rattle.history_machine.specs.Sessions.{edited, remade, said_path, shown, stands_for};
 ghost use Rattle.plain_model.specs.Faults.{Returns};
@@ -11,6 +12,7 @@ ghost use Rattle.selection_parser.specs.Reading.{selection_at};
 ghost use Rattle.surgeon_session.specs.Entries.{repo_under, with_given};
 
 use byte_patterns::Patterns;
+use coalesce_simplify::{coalesce, simplify};
 use event_arena::{Events, Plan};
 use listing::{index, list, manifest, resolve, stamp};
 use manifest_cache::Manifests;
@@ -157,6 +159,21 @@ impl Repository {
         }
     }
 
+    // The plan of a coalesce, which is never refused.
+    fn coalesced(&self, seconds: u64, ids: &[AnyId]) -> Result<Plan, Halt>
+        ensures answer { Returns (λ plan. plan.after) result
+            (Ok (coalesce_of seconds ids.now self.now.history)) }
+        ensures before { IfOk result (λ plan. plan.before ≡ self.now.history) }
+        ensures made_at { IfOk result (λ plan. plan.made_at ≡ self.now.next) }
+        ensures next { IfOk result (λ plan. plan.next ≡ self.now.next) }
+        ensures sound { IfOk result (λ plan. IsSound plan.after) }
+    {
+        match coalesce(self.alloc, &self.events, ids, seconds) {
+            Ok(plan) => Ok(plan),
+            Err(NoMemory) => Err(Halt::Memory),
+        }
+    }
+
     // The plan of an edit of some of its events.
     fn plan_of(&mut self, what: &Edit, ids: &[AnyId]) -> Result<Plan, Halt>
         requires once { IsOnce ids.now }
@@ -200,6 +217,8 @@ impl Repository {
                 ids,
                 op.as_op(),
             ),
+            Edit::Coalesce(seconds) => self.coalesced(*seconds, ids),
+            Edit::Simplify => simplify(self.alloc, &self.events, &mut self.manifests, ids),
             Edit::RemoveAt(number) => {
                 let what = Removal::Index(*number);
                 remove_op(self.alloc, &self.events, &mut self.manifests, ids, &what)

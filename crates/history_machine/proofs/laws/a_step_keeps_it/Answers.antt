@@ -31,6 +31,8 @@ returns-clause-command c =
       add = λ op set events new sound fits e. c.nothing_is_added-2.ensures.add op set events new sound fits.content fits.fits e;
       remove = λ what set events new sound within e. c.nothing_is_added-2.ensures.remove what set events new sound e;
     })
+    c.a_coalescing_keeps_soundness.ensures c.a_coalescing_keeps_the_limits.ensures c.nothing_is_added-3.ensures.below
+    c.simplifying_keeps_soundness.ensures c.simplifying_keeps_the_limits.ensures c.nothing_is_added-4.ensures.below
     c.an_added_operation_is_spelled.ensures
 
 pub returns-clause-line : goal.returns-clause-line
@@ -63,4 +65,6 @@ returns-clause-line c =
       add = λ op set events new sound fits e. c.nothing_is_added-2.ensures.add op set events new sound fits.content fits.fits e;
       remove = λ what set events new sound within e. c.nothing_is_added-2.ensures.remove what set events new sound e;
     })
+    c.a_coalescing_keeps_soundness.ensures c.a_coalescing_keeps_the_limits.ensures c.nothing_is_added-3.ensures.below
+    c.simplifying_keeps_soundness.ensures c.simplifying_keeps_the_limits.ensures c.nothing_is_added-4.ensures.below
     c.an_added_operation_is_spelled.ensures
