@@ -1,0 +1,7 @@
+pub mod Conflicts
+pub mod FateLemmas
+pub mod Judged
+pub mod Nodes
+pub mod Seeking
+pub mod Steps
+pub mod WrittenLemmas

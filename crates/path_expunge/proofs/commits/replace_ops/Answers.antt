@@ -1,0 +1,34 @@
+use Rattle.std.proofs.Common.{◌∙◌, List, ap, add-one}
+use Rattle.plain_model.specs.declared.event.PlainEvent.{PlainEvent}
+use Rattle.plain_model.specs.Lookups.{find_event, id_of}
+use Rattle.event_arena.specs.Changes.{changed}
+use Rattle.event_arena.specs.Graphs.{Change}
+use Rattle.event_arena.proofs.SoundLemmas.{sound-once}
+use Rattle.expunge_laws.specs.Expunged.{replaced_event}
+use Rattle.path_expunge.specs.Matching.{Matches, matched_by}
+use Rattle.path_expunge.proofs.Nodes.{replaced_id}
+use Rattle.path_expunge.proofs.Steps.{step_changed, step_found}
+use Rattle.path_expunge.proofs.commits.replace_ops.Goals as goal
+
+pub replace_at-requires-clause-found : goal.replace_at-requires-clause-found
+replace_at-requires-clause-found c =
+    let events = c.args.events.now.list in
+    let m = matched_by c.args.matching.now in
+    let e = c.nth.result.now in
+    ap (λ (p : Change). find_event (id_of e) p.after) c.loop-place.invariant.plan
+    ∙ step_found (replaced_event m events) (replaced_id m events) events (sound-once events c.count-place-end.ensures.sound).ids c.loop-place.place e c.nth.ensures.event
+
+pub loop-place-preserved : goal.loop-place-preserved
+loop-place-preserved c =
+    let events = c.args.events.now.list in
+    let m = matched_by c.args.matching.now in
+    let e = c.nth.result.now in
+    record {
+      same = c.in_ok-replace_at.ensures.same ∙ c.loop-place.invariant.same;
+      kept = c.in_ok-replace_at.ensures.kept;
+      plan = rw add-one (c.in_ok-replace_at.ensures.changed
+          ∙ ap (λ (ms : List Matches). record c.loop-place.plan { after = changed (id_of e) (replaced_event (matched_by ms) events) c.loop-place.plan.after }) c.loop-place.invariant.same
+          ∙ ap (λ (p : Change). record p { after = changed (id_of e) (replaced_event m events) p.after }) c.loop-place.invariant.plan
+          ∙ ap (λ (es : List PlainEvent). record c.args.plan.now { after = es })
+          (step_changed (replaced_event m events) (replaced_id m events) events (sound-once events c.count-place-end.ensures.sound).ids c.loop-place.place e c.nth.ensures.event));
+    }

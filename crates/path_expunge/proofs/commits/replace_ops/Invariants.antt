@@ -1,0 +1,13 @@
+use Rattle.std.proofs.Common.{◌≡◌}
+use Rattle.expunge_laws.specs.Expunged.{replaced_event}
+use Rattle.manifest_cache.specs.Kept.{AgreesWith}
+use Rattle.path_expunge.specs.Matching.{matched_by}
+use Rattle.path_expunge.proofs.Steps.{so_far}
+use Rattle.path_expunge.proofs.commits.replace_ops.Given as goal
+
+abbrev pub invariant-loop-place : goal.invariant-loop-place
+invariant-loop-place l = record {
+  same : l.matching ≡ l.fn.matching;
+  kept : AgreesWith l.events.list l.manifests;
+  plan : l.plan ≡ record l.initial.plan { after = so_far (replaced_event (matched_by l.fn.matching) l.events.list) l.place l.events.list };
+}

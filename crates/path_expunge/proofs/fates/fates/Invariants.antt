@@ -1,0 +1,7 @@
+use Rattle.path_expunge.specs.declared.fates.Fate.TheVariants.{Same}
+use Rattle.path_expunge.specs.Fates.{FateIs}
+use Rattle.squash_delete.specs.Tables.{IsTableTo}
+use Rattle.path_expunge.proofs.fates.fates.Given as goal
+
+abbrev pub invariant-loop-place : goal.invariant-loop-place
+invariant-loop-place l = IsTableTo Same (FateIs l.removal.set l.removal.events) l.removal.events l.place l.table.items

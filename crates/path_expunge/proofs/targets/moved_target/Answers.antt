@@ -1,0 +1,13 @@
+use Rattle.std.proofs.Common.{◌∙◌, sym}
+use Rattle.squash_delete.proofs.NodeLemmas.{target_there}
+use Rattle.path_expunge.proofs.targets.moved_target.Goals as goal
+
+pub has-requires : goal.has-requires
+has-requires c =
+    target_there c.args.removal.now.events c.count-count.ensures.sound c.args.place c.in_ok-target.target c.nth.result.now c.nth.ensures.event
+    (sym c.target_of.ensures ∙ c.in_ok-target.was)
+
+pub moved-requires-clause-there : goal.moved-requires-clause-there
+moved-requires-clause-there c =
+    target_there c.args.removal.now.events c.count-count.ensures.sound c.args.place c.in_ok-target.target c.nth.result.now c.nth.ensures.event
+    (sym c.target_of.ensures ∙ c.in_ok-target.was)

@@ -1,0 +1,125 @@
+//! The commits of a plan get what is in the place of their operations.
+ghost use Rattle.std.specs.Prelude.{◌≡◌, ◌<◌, Some, length, map, slice_get, IfOk, OnOk};
+ghost use Rattle.std.specs.List.{AllByRecursion, list_any};
+ghost use Rattle.event_arena.specs.Changes.{changed};
+ghost use Rattle.expunge_laws.specs.Expunged.{replaced_event, replaced_events};
+ghost use Rattle.expunge_laws.specs.Untouched.{may_touch};
+ghost use Rattle.manifest_cache.specs.Kept.{AgreesWith};
+ghost use Rattle.path_expunge.specs.Matching.{matched_by};
+ghost use Rattle.plain_model.specs.Histories.{begun, tree};
+ghost use Rattle.plain_model.specs.Lookups.{find_event, id_of};
+ghost use Rattle.plain_model.specs.Soundness.{IsCommitOf};
+
+use crate::matching::Matching;
+use crate::replacing::{may_touch, replaced_all};
+use event_arena::{Events, Plan};
+use manifest_cache::Manifests;
+use path_tree::PathTree;
+use plain_model::{CommitId, FileOp, NoMemory, PlainEvent, Steps};
+use std::alloc::Global;
+
+// The steps of folding the trees of parents, which nobody looks at.
+struct FoldSteps;
+
+// The tree with which a commit with these parents begins.
+fn begun(
+    alloc: Global,
+    events: &Events,
+    manifests: &mut Manifests,
+    parents: &[CommitId],
+) -> Result<PathTree, NoMemory>
+    requires agrees { AgreesWith events.now.list manifests.old }
+    requires there { AllByRecursion (IsCommitOf events.now.list) parents.now }
+    ensures tree { IfOk result (λ t. begun (tree events.now.list) parents.now ≡ Some t) }
+    ensures kept { AgreesWith events.now.list manifests.new }
+{
+    match parents.first() {
+        Some(parent) => {
+            let mut steps: Steps<FoldSteps> = Steps::new();
+            let tree = manifests.get(events, *parent, &mut steps)?;
+            tree.share()
+        }
+        None => PathTree::new(alloc),
+    }
+}
+
+// Whether some of these operations may touch a matched path, as far as it is known without a tree.
+fn may_any_touch(matching: &mut Matching<'_>, ops: &[FileOp]) -> bool
+    ensures touched { result ≡ list_any (may_touch (matched_by matching.old)) ops.now }
+    ensures same { matching.new ≡ matching.old }
+{
+    for op in ops {
+        if may_touch(matching, op) {
+            return true;
+        }
+    }
+    false
+}
+
+// Gives the commit at a place what is in the place of its operations. Its tree is asked for only where a matched path
+// may be touched.
+fn replace_at(
+    alloc: Global,
+    events: &Events,
+    manifests: &mut Manifests,
+    matching: &mut Matching<'_>,
+    plan: &mut Plan,
+    place: usize,
+    event: &PlainEvent,
+) -> Result<(), NoMemory>
+    requires agrees { AgreesWith events.now.list manifests.old }
+    requires at { slice_get events.now.list place ≡ Some event.now }
+    requires found { find_event (id_of event.now) plan.old.after ≡ Some event.now }
+    ensures changed { OnOk result (plan.new ≡ record plan.old {
+      after = changed (id_of event.now)
+          (replaced_event (matched_by matching.old) events.now.list) plan.old.after;
+    }) }
+    ensures same { matching.new ≡ matching.old }
+    ensures kept { AgreesWith events.now.list manifests.new }
+{
+    let _count = events.count();
+    let PlainEvent::Commit {
+        id,
+        parents,
+        ops,
+        ..
+    } = event
+    else {
+        return Ok(());
+    };
+    if !may_any_touch(matching, ops.as_slice()) {
+        return Ok(());
+    }
+    let begun = begun(alloc, events, manifests, parents.as_slice())?;
+    let made = replaced_all(alloc, matching, ops.as_slice(), begun)?;
+    plan.set_ops(*id, made)
+}
+
+/// Gives all commits what is in the place of their operations, in one pass.
+pub fn replace_ops(
+    alloc: Global,
+    events: &Events,
+    manifests: &mut Manifests,
+    matching: &mut Matching<'_>,
+    plan: &mut Plan,
+) -> Result<(), NoMemory>
+    requires agrees { AgreesWith events.now.list manifests.old }
+    requires whole { plan.old.after ≡ events.now.list }
+    ensures changed { OnOk result (plan.new ≡ record plan.old {
+      after = replaced_events (matched_by matching.old) events.now.list;
+    }) }
+    ensures kept { AgreesWith events.now.list manifests.new }
+{
+    for place in 0..events.count() {
+        replace_at(
+            alloc,
+            events,
+            manifests,
+            matching,
+            plan,
+            place,
+            events.nth(place),
+        )?;
+    }
+    Ok(())
+}

@@ -1,0 +1,109 @@
+//! The plan of an expunge.
+ghost use Rattle.std.specs.Prelude.{◌≡◌, Ok, IfOk, IsOk, OnOk};
+ghost use Rattle.edit_laws.specs.Settling.{settle};
+ghost use Rattle.expunge_laws.specs.Expunged.{expunge_of, expunged};
+ghost use Rattle.manifest_cache.specs.Kept.{AgreesWith};
+ghost use Rattle.path_expunge.specs.Matching.{matched_by};
+ghost use Rattle.plain_model.specs.Faults.{Returns};
+ghost use Rattle.plain_model.specs.Soundness.{IsSound};
+ghost use Rattle.squash_laws.specs.Squash.{is_none};
+
+use crate::commits::replace_ops;
+use crate::emptied::emptied;
+use crate::matcher::Matcher;
+use crate::matching::Matching;
+use crate::pushing::give_way;
+use event_arena::{Events, Plan};
+use expunge_laws::{
+    an_expunge_comes_to_its_end, an_expunge_keeps_soundness, emptied_commits_give_way_in_line,
+    what_no_matched_path_touches_stays,
+};
+use graph_walk::settle;
+use manifest_cache::Manifests;
+use plain_model::{AnyId, Halt, NoMemory};
+use plan_limits::limit_passed;
+use squash_delete::sweep;
+use std::alloc::Global;
+
+// Puts each event of a plan after all that it refers to, where that can be done.
+fn put_in_order(alloc: Global, plan: &mut Plan) -> Result<(), NoMemory>
+    requires { IsOk (settle plan.old.after) }
+    ensures settled { OnOk result (settle plan.old.after ≡ Ok plan.new.after) }
+    ensures others { OnOk result (plan.new ≡ record plan.old { after = plan.new.after }) }
+{
+    match settle(alloc, plan) {
+        Ok(()) => Ok(()),
+        Err(Halt::Memory) => Err(NoMemory),
+        Err(Halt::Refused(_)) => unreachable!(),
+    }
+}
+
+// Whether there is no event in a set.
+fn is_nothing(set: &[AnyId]) -> bool
+    ensures { result ≡ is_none set.now }
+{
+    match set {
+        [] => true,
+        _ => false,
+    }
+}
+
+// What an expunge leaves, whatever the limits are.
+fn expunged(
+    alloc: Global,
+    events: &Events,
+    manifests: &mut Manifests,
+    matchers: &[Matcher],
+) -> Result<Plan, NoMemory>
+    requires { AgreesWith events.now.list manifests.old }
+    ensures after { IfOk result (λ plan.
+        expunged (matched_by matchers.now) events.now.list ≡ Ok plan.after) }
+    ensures before { IfOk result (λ plan. plan.before ≡ events.now.list) }
+    ensures made_at { IfOk result (λ plan. plan.made_at ≡ events.now.next_id) }
+    ensures next { IfOk result (λ plan. plan.next ≡ events.now.next_id) }
+    ensures kept { AgreesWith events.now.list manifests.new }
+{
+    let _count = events.count();
+    let mut matching = Matching::new(alloc, matchers)?;
+    let mut plan = Plan::new(alloc, events)?;
+    replace_ops(alloc, events, manifests, &mut matching, &mut plan)?;
+    let set = emptied(alloc, &plan)?;
+    what_no_matched_path_touches_stays();
+    if is_nothing(set.as_slice()) {
+        sweep(alloc, &mut plan)?;
+        return Ok(plan);
+    }
+    emptied_commits_give_way_in_line();
+    an_expunge_comes_to_its_end();
+    give_way(alloc, &mut plan, set.as_slice())?;
+    sweep(alloc, &mut plan)?;
+    put_in_order(alloc, &mut plan)?;
+    Ok(plan)
+}
+
+/// The plan that takes all matched paths out of a history. A commit that this empties goes, unless it is a merge, with
+/// the tags and resets that no commit is left for; blobs go that nothing names any more. What a copy or a rename carries
+/// out of a matched path stays. Refused by the first limit that is passed. (reposurgeon manual, `expunge`.)
+pub fn expunge(
+    alloc: Global,
+    events: &Events,
+    manifests: &mut Manifests,
+    matchers: &[Matcher],
+) -> Result<Plan, Halt>
+    requires agrees { AgreesWith events.now.list manifests.old }
+    ensures answer { Returns (λ plan. plan.after) result
+        (expunge_of (matched_by matchers.now) events.now.list) }
+    ensures before { IfOk result (λ plan. plan.before ≡ events.now.list) }
+    ensures made_at { IfOk result (λ plan. plan.made_at ≡ events.now.next_id) }
+    ensures next { IfOk result (λ plan. plan.next ≡ events.now.next_id) }
+    ensures sound { IfOk result (λ plan. IsSound plan.after) }
+    ensures kept { AgreesWith events.now.list manifests.new }
+{
+    let _count = events.count();
+    let plan = expunged(alloc, events, manifests, matchers)?;
+    if let Some(fault) = limit_passed(&plan) {
+        return Err(Halt::Refused(fault));
+    }
+    an_expunge_keeps_soundness();
+    Ok(plan)
+}

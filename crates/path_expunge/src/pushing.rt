@@ -1,0 +1,63 @@
+//! The emptied commits of a plan give way.
+ghost use Rattle.std.specs.Prelude.{◌≡◌, false, filter, length, map, IfOk, OnOk};
+ghost use Rattle.std.specs.List.{AllByRecursion};
+ghost use Rattle.expunge_laws.specs.InLine.{IsInLine};
+ghost use Rattle.expunge_laws.specs.PushForward.{forward_takes};
+ghost use Rattle.path_expunge.specs.Fates.{FateIs, taken};
+ghost use Rattle.plain_model.specs.Histories.{nodes};
+ghost use Rattle.plain_model.specs.Lookups.{id_of};
+ghost use Rattle.plain_model.specs.Soundness.{IsSound};
+ghost use Rattle.squash_delete.specs.Leaving.{goes};
+ghost use Rattle.squash_delete.specs.Tables.{IsTable};
+ghost use Rattle.squash_laws.specs.Removed.{all_left};
+ghost use Rattle.squash_laws.specs.declared.policy.Lean.TheVariants as lean;
+
+use crate::fates::{Fate, fates};
+use crate::giving::give_all;
+use crate::leaving::leaving;
+use crate::removal::Removal;
+use crate::targets::moved_targets;
+use crate::ways::Leads;
+use event_arena::Plan;
+use plain_model::{AnyId, IdList, NoMemory};
+use std::alloc::Global;
+
+// Which events go, and what becomes of all.
+#[derive(Drop)]
+struct Prepared {
+    ids: IdList,
+    fates: Vec<Fate>,
+}
+
+// Finds them in a plan that is only looked at.
+fn prepare(alloc: Global, plan: &Plan, set: &[AnyId]) -> Result<Prepared, NoMemory>
+    requires sound { IsSound plan.now.after }
+    requires line { AllByRecursion (IsInLine set.now plan.now.after) (nodes plan.now.after) }
+    ensures ids { IfOk result (λ prepared. prepared.ids
+        ≡ map id_of (filter (goes set.now (taken set.now plan.now.after)) plan.now.after)) }
+    ensures fates { IfOk result (λ prepared.
+        IsTable Fate.Same (FateIs set.now plan.now.after) plan.now.after prepared.fates.items) }
+{
+    let removal = Removal::new(alloc, plan, set)?;
+    let leads = Leads::of(alloc, &removal)?;
+    let targets = moved_targets(alloc, &removal, &leads)?;
+    let ids = leaving(alloc, &removal, &targets)?;
+    let fates = fates(alloc, &removal, &leads.back, &targets)?;
+    Ok(Prepared { ids, fates })
+}
+
+/// Takes the commits of a set away, and lets what follows them hang on what stands for them. Nothing is taken over from
+/// them but that a commit begins without files.
+pub fn give_way(alloc: Global, plan: &mut Plan, set: &[AnyId]) -> Result<(), NoMemory>
+    requires sound { IsSound plan.old.after }
+    requires line { AllByRecursion (IsInLine set.now plan.old.after) (nodes plan.old.after) }
+    ensures { OnOk result (plan.new ≡ record plan.old {
+      after = all_left set.now plan.old.after
+          (forward_takes set.now plan.old.after false lean.Forward);
+    }) }
+{
+    let _count = plan.count();
+    let prepared = prepare(alloc, plan, set)?;
+    give_all(alloc, plan, &prepared.fates)?;
+    plan.remove_all(&prepared.ids)
+}
