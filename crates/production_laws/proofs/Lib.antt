@@ -1,0 +1,14 @@
+mod NextLines
+mod Forms
+mod Standings
+mod Texts
+mod Judged
+mod Spelled
+mod Unique
+mod Flags
+mod KnownLines
+mod Meant
+mod FieldsMeant
+mod Raws
+mod Histories
+mod UniqueEvents

@@ -1,0 +1,5 @@
+pub mod Examples
+pub mod Meanings
+pub mod Productions
+pub mod Raw
+pub mod Texts
