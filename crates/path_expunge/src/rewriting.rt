@@ -22,12 +22,11 @@ ghost use Rattle.expunge_laws.specs.Replaced.{
   restricted,
   rewritten,
   same_content,
-  same_entry,
 };
 ghost use Rattle.path_expunge.specs.Matching.{matched_by};
 ghost use Rattle.path_expunge.specs.Written.{gone_of, moving};
 ghost use Rattle.plain_model.specs.Paths.{Bytes, do_conflict, is_below};
-ghost use Rattle.plain_model.specs.Trees.{IsTree, apply, at, change, has, where_path};
+ghost use Rattle.plain_model.specs.Trees.{IsTree, apply, at, change, where_path};
 ghost use Rattle.plain_model.specs.Trees.Change.{Put};
 
 use crate::matching::Matching;

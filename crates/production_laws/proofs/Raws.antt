@@ -1,6 +1,6 @@
 -- The lines of a spelled text are the fields of its events, and mean what these do.
 use Rattle.std.proofs.Common.{◌≡◌, ℕ, zero, suc, Bool, true, false, not, List, [], ◌∷◌, ◌++◌, Some, None, Result, Ok, Err, refl, sym, ◌∙◌, ap, subst, inl, inr}
-use Rattle.std.specs.Prelude.{◌≢◌, ◌&&◌}
+use Rattle.std.specs.Prelude.{◌≢◌, ◌&&◌, ◌||◌}
 use Rattle.std.proofs.lemmas.Bool.{and_parts, true≢false, not-true}
 use Rattle.plain_model.specs.declared.fault.Why.{Why}
 use Rattle.plain_model.specs.Fields.{◌>>=◌}
@@ -19,7 +19,7 @@ use Rattle.production_laws.specs.Raw.{AreEvents, AreFields, AreOperations, AreSa
 use Rattle.production_laws.specs.Raw.Spelled.{Alone, WithBytes}
 use Rattle.production_laws.specs.Texts.{HasParts, Part, is_alone, words_of}
 use Rattle.production_laws.specs.Texts.Part.{Comment, DoneLine, Line, WithData}
-use Rattle.production_laws.proofs.FieldsMeant.{line_means, line_meant}
+use Rattle.production_laws.proofs.FieldsMeant.{data_keeps, is_commit, is_kept, is_op_word, keeps, line_means, line_meant, op_keeps}
 
 -- ---- without comments
 
@@ -92,22 +92,22 @@ not_left_out w h e = true≢false (sym h ∙ ap is_plain e)
 not_other : (w : Word) → is_plain w ≡ true → w ≢ word.Other
 not_other w h e = true≢false (sym h ∙ ap is_plain e)
 
-take_part : (w : Word) (ws : List Word) (parts : List Part) (k final : Known) → is_plain w ≡ true → AreProper parts → words_of parts ≡ w ∷ ws
-    → parts_read false parts k ≡ Ok final → Takes w ws parts k final
-take_part w ws [] k final plain good e read = absurd cc
-take_part w ws (Comment line ∷ parts) k final plain good e read = absurd (true≢false (sym good.0))
-take_part w ws (Line line ∷ parts) k final plain good e read =
+take_part : (w : Word) (ws : List Word) (parts : List Part) (k final : Known) → is_plain w ≡ true → (is_op_word w ≡ true → is_commit k.current ≡ true) → AreProper parts
+    → words_of parts ≡ w ∷ ws → parts_read false parts k ≡ Ok final → Takes w ws parts k final
+take_part w ws [] k final plain within good e read = absurd cc
+take_part w ws (Comment line ∷ parts) k final plain within good e read = absurd (true≢false (sym good.0))
+take_part w ws (Line line ∷ parts) k final plain within good e read =
     let x = head_is (word_of line) w (words_of parts) ws e in
     let a = bind_ok (judged (word_of line) line k) (parts_read (is_inline_word (word_of line)) parts) final read in
     let own : is_plain (word_of line) ≡ true = ap is_plain x.0 ∙ plain in
-    let m = line_means (word_of line) line k a.0 good.0 (not_left_out (word_of line) own) (not_other (word_of line) own) a.1 in
+    let m = line_means (word_of line) line k a.0 good.0 (not_left_out (word_of line) own) (not_other (word_of line) own) (λ op. within (ap is_op_word (sym x.0) ∙ op)) a.1 in
     subst (λ (v : Word). Takes v ws (Line line ∷ parts) k final) x.0
     (record { part = Line line; more = parts; field = m.0; known = a.0; is = refl; says = (refl, m.1); means = m.2; read = a.2; words = x.1; are_proper = good.1 })
-take_part w ws (WithData line bytes ∷ parts) k final plain good e read =
+take_part w ws (WithData line bytes ∷ parts) k final plain within good e read =
     let x = head_is word.Data w (words_of parts) ws e in
     subst (λ (v : Word). Takes v ws (WithData line bytes ∷ parts) k final) x.0
     (record { part = WithData line bytes; more = parts; field = bytes; known = with_data false bytes k; is = refl; says = refl; means = refl; read = read; words = x.1; are_proper = good.1 })
-take_part w ws (DoneLine line ∷ parts) k final plain good e read =
+take_part w ws (DoneLine line ∷ parts) k final plain within good e read =
     let x = head_is word.Done w (words_of parts) ws e in absurd (true≢false (sym plain ∙ ap is_plain (sym x.0)))
 
 -- the data of an operation
@@ -141,16 +141,24 @@ put_flag _ part x says = absurd says
 -- ---- the lines of a place
 
 abbrev is_item : Word → Bool
-is_item w = is_plain w && not (is_inline_word w)
+is_item w = is_plain w && not (is_op_word w)
+
+no_inline : (w : Word) → not (is_op_word w) ≡ true → is_inline_word w ≡ false
+no_inline word.InlineOperation e = absurd (true≢false (sym e))
+no_inline word.Empty e = refl
+no_inline _ e = refl
+
+never_op : (w : Word) (k : Known) → is_item w ≡ true → is_op_word w ≡ true → is_commit k.current ≡ true
+never_op w k h e = absurd (true≢false (sym e ∙ not-true (is_op_word w) (and_parts (is_plain w) (not (is_op_word w)) h).1))
 
 -- after a line that is no operation with `inline` no data of one are there
 plainly_read : (w : Word) (parts : List Part) (k final : Known) → is_item w ≡ true → parts_read (is_inline_word w) parts k ≡ Ok final → parts_read false parts k ≡ Ok final
 plainly_read w parts k final h e =
-    ap (λ f. parts_read f parts k) (sym (not-true (is_inline_word w) (and_parts (is_plain w) (not (is_inline_word w)) h).1)) ∙ e
+    ap (λ f. parts_read f parts k) (sym (no_inline w (and_parts (is_plain w) (not (is_op_word w)) h).1)) ∙ e
 
 inline_read : (w : Word) (parts : List Part) (k final : Known) → is_item w ≡ true → parts_read false parts k ≡ Ok final → parts_read (is_inline_word w) parts k ≡ Ok final
 inline_read w parts k final h e =
-    ap (λ f. parts_read f parts k) (not-true (is_inline_word w) (and_parts (is_plain w) (not (is_inline_word w)) h).1) ∙ e
+    ap (λ f. parts_read f parts k) (no_inline w (and_parts (is_plain w) (not (is_op_word w)) h).1) ∙ e
 
 are_items : List Item → Bool
 are_items [] = true
@@ -176,7 +184,7 @@ take_many : (n : ℕ) (w : Word) (ws : List Word) (parts : List Part) (k final :
     → parts_read false parts k ≡ Ok final → Many' w parts k ws final
 take_many zero w ws parts k final h good e read = ([], record { rest = parts; known = k; said = refl; meant = refl; read = read; words = e; are_proper = good })
 take_many (suc n) w ws parts k final h good e read =
-    let t = take_part w (several n w ++ ws) parts k final (and_parts (is_plain w) (not (is_inline_word w)) h).0 good e read in
+    let t = take_part w (several n w ++ ws) parts k final (and_parts (is_plain w) (not (is_op_word w)) h).0 (never_op w k h) good e read in
     let m = take_many n w ws t.more t.known final h t.are_proper t.words (plainly_read w t.more t.known final h t.read) in
     let b = m.1 in (
       t.field ∷ m.0,
@@ -191,12 +199,12 @@ take_many (suc n) w ws parts k final h good e read =
       },
     )
 
-take_operations : (changes : List Change) (ws : List Word) (parts : List Part) (k final : Known) → AreProper parts → words_of parts ≡ operations changes ++ ws
+take_operations : (changes : List Change) (ws : List Word) (parts : List Part) (k final : Known) → is_commit k.current ≡ true → AreProper parts → words_of parts ≡ operations changes ++ ws
     → parts_read false parts k ≡ Ok final → (ops : List Spelled) × Begins (AreOperations ops parts) (λ known. operations_meant ops k ≡ Ok known) ws final
-take_operations [] ws parts k final good e read = ([], record { rest = parts; known = k; said = refl; meant = refl; read = read; words = e; are_proper = good })
-take_operations (ByItself ∷ changes) ws parts k final good e read =
-    let t = take_part word.Operation (operations changes ++ ws) parts k final refl good e read in
-    let m = take_operations changes ws t.more t.known final t.are_proper t.words t.read in
+take_operations [] ws parts k final c good e read = ([], record { rest = parts; known = k; said = refl; meant = refl; read = read; words = e; are_proper = good })
+take_operations (ByItself ∷ changes) ws parts k final c good e read =
+    let t = take_part word.Operation (operations changes ++ ws) parts k final refl (λ op. c) good e read in
+    let m = take_operations changes ws t.more t.known final (op_keeps k t.known t.field c t.means) t.are_proper t.words t.read in
     let b = m.1 in (
       Alone t.field ∷ m.0,
       record {
@@ -209,10 +217,10 @@ take_operations (ByItself ∷ changes) ws parts k final good e read =
         are_proper = b.are_proper;
       },
     )
-take_operations (HasInline ∷ changes) ws parts k final good e read =
-    let t = take_part word.InlineOperation (word.Data ∷ operations changes ++ ws) parts k final refl good e read in
+take_operations (HasInline ∷ changes) ws parts k final c good e read =
+    let t = take_part word.InlineOperation (word.Data ∷ operations changes ++ ws) parts k final refl (λ op. c) good e read in
     let d = take_data (operations changes ++ ws) t.more t.known final t.are_proper t.words t.read in
-    let m = take_operations changes ws d.1 (with_data true d.2 t.known) final d.7 d.6 d.5 in
+    let m = take_operations changes ws d.1 (with_data true d.2 t.known) final (data_keeps t.known true d.2 (op_keeps k t.known t.field c t.means)) d.7 d.6 d.5 in
     let b = m.1 in (
       WithBytes t.field d.2 ∷ m.0,
       record {
@@ -230,14 +238,41 @@ take_operations (HasInline ∷ changes) ws parts k final good e read =
 abbrev Fields' : List Item → List Part → Known → List Word → Known → Type 0
 Fields' items parts k ws final = (fields : Values items) × Begins (AreFields items fields parts) (λ known. fields_meant items fields k ≡ Ok known) ws final
 
-take_fields : (items : List Item) (ws : List Word) (parts : List Part) (k final : Known) → are_items items ≡ true → AreProper parts → Fit items (words_of parts) ws
+-- operations come only where a commit is being read
+abbrev are_within : Bool → List Item → Bool
+are_within b [] = true
+are_within b (One w ∷ items) = are_within (keeps w b) items
+are_within b (Perhaps w ∷ items) = (not b || keeps w b) && are_within b items
+are_within b (Many w ∷ items) = (not b || keeps w b) && are_within b items
+are_within b (Operations ∷ items) = b && are_within b items
+
+implied : (b c : Bool) → (not b || c) ≡ true → b ≡ true → c ≡ true
+implied true c h e = h
+implied false c h e = absurd (true≢false (sym e))
+
+many_keep : (w : Word) (xs : List (Field w)) (k new : Known) (b : Bool) → (b ≡ true → is_commit k.current ≡ true) → (not b || keeps w b) ≡ true → each_meant w xs k ≡ Ok new
+    → b ≡ true → is_commit new.current ≡ true
+many_keep w [] k new b c h means e = subst (λ (q : Known). is_commit q.current ≡ true) (same_Ok k new means) (c e)
+many_keep w (x ∷ xs) k new b c h means e =
+    let a = bind_ok (meant false w x k) (each_meant w xs) new means in
+    many_keep w xs a.0 new b (λ e. is_kept w x k a.0 b c a.1 (implied b (keeps w b) h e)) h a.2 e
+
+operations_keep : (ops : List Spelled) (k new : Known) → is_commit k.current ≡ true → operations_meant ops k ≡ Ok new → is_commit new.current ≡ true
+operations_keep [] k new c means = subst (λ (q : Known). is_commit q.current ≡ true) (same_Ok k new means) c
+operations_keep (Alone op ∷ ops) k new c means =
+    let a = bind_ok (meant false word.Operation op k) (operations_meant ops) new means in operations_keep ops a.0 new (op_keeps k a.0 op c a.1) a.2
+operations_keep (WithBytes op bytes ∷ ops) k new c means =
+    let a = bind_ok (meant false word.InlineOperation op k) (λ known. meant true word.Data bytes known >>= λ there. operations_meant ops there) new means in
+    operations_keep ops (with_data true bytes a.0) new (data_keeps a.0 true bytes (op_keeps k a.0 op c a.1)) a.2
+
+take_fields : (b : Bool) (items : List Item) (ws : List Word) (parts : List Part) (k final : Known) → are_items items ≡ true → are_within b items ≡ true → (b ≡ true → is_commit k.current ≡ true) → AreProper parts → Fit items (words_of parts) ws
     → parts_read false parts k ≡ Ok final → Fields' items parts k ws final
-unfolding are_items
-take_fields [] ws parts k final h good e read = (tt, record { rest = parts; known = k; said = refl; meant = refl; read = read; words = e; are_proper = good })
-take_fields (One w ∷ items) ws parts k final h good (more, is, fit) read =
+unfolding are_items are_within
+take_fields b [] ws parts k final h r c good e read = (tt, record { rest = parts; known = k; said = refl; meant = refl; read = read; words = e; are_proper = good })
+take_fields b (One w ∷ items) ws parts k final h r c good (more, is, fit) read =
     let both = and_parts (is_item w) (are_items items) h in
-    let t = take_part w more parts k final (and_parts (is_plain w) (not (is_inline_word w)) both.0).0 good is read in
-    let m = take_fields items ws t.more t.known final both.1 t.are_proper (subst (λ (l : List Word). Fit items l ws) (sym t.words) fit) (plainly_read w t.more t.known final both.0 t.read) in
+    let t = take_part w more parts k final (and_parts (is_plain w) (not (is_op_word w)) both.0).0 (never_op w k both.0) good is read in
+    let m = take_fields (keeps w b) items ws t.more t.known final both.1 r (is_kept w t.field k t.known b c t.means) t.are_proper (subst (λ (l : List Word). Fit items l ws) (sym t.words) fit) (plainly_read w t.more t.known final both.0 t.read) in
     let b = m.1 in (
       (t.field, m.0),
       record {
@@ -250,15 +285,16 @@ take_fields (One w ∷ items) ws parts k final h good (more, is, fit) read =
         are_proper = b.are_proper;
       },
     )
-take_fields (Perhaps w ∷ items) ws parts k final h good (inl fit) read =
+take_fields b (Perhaps w ∷ items) ws parts k final h r c good (inl fit) read =
     let both = and_parts (is_item w) (are_items items) h in
-    let m = take_fields items ws parts k final both.1 good fit read in
+    let m = take_fields b items ws parts k final both.1 (and_parts (not b || keeps w b) (are_within b items) r).1 c good fit read in
     let b = m.1 in
     ((None, m.0), record { rest = b.rest; known = b.known; said = b.said; meant = b.meant; read = b.read; words = b.words; are_proper = b.are_proper })
-take_fields (Perhaps w ∷ items) ws parts k final h good (inr (more, is, fit)) read =
+take_fields b (Perhaps w ∷ items) ws parts k final h r c good (inr (more, is, fit)) read =
     let both = and_parts (is_item w) (are_items items) h in
-    let t = take_part w more parts k final (and_parts (is_plain w) (not (is_inline_word w)) both.0).0 good is read in
-    let m = take_fields items ws t.more t.known final both.1 t.are_proper (subst (λ (l : List Word). Fit items l ws) (sym t.words) fit) (plainly_read w t.more t.known final both.0 t.read) in
+    let stays = and_parts (not b || keeps w b) (are_within b items) r in
+    let t = take_part w more parts k final (and_parts (is_plain w) (not (is_op_word w)) both.0).0 (never_op w k both.0) good is read in
+    let m = take_fields b items ws t.more t.known final both.1 stays.1 (λ e. is_kept w t.field k t.known b c t.means (implied b (keeps w b) stays.0 e)) t.are_proper (subst (λ (l : List Word). Fit items l ws) (sym t.words) fit) (plainly_read w t.more t.known final both.0 t.read) in
     let b = m.1 in (
       (Some t.field, m.0),
       record {
@@ -271,11 +307,12 @@ take_fields (Perhaps w ∷ items) ws parts k final h good (inr (more, is, fit)) 
         are_proper = b.are_proper;
       },
     )
-take_fields (Many w ∷ items) ws parts k final h good (n, more, is, fit) read =
+take_fields b (Many w ∷ items) ws parts k final h r c good (n, more, is, fit) read =
     let both = and_parts (is_item w) (are_items items) h in
+    let stays = and_parts (not b || keeps w b) (are_within b items) r in
     let t = take_many n w more parts k final both.0 good is read in
     let a = t.1 in
-    let m = take_fields items ws a.rest a.known final both.1 a.are_proper (subst (λ (l : List Word). Fit items l ws) (sym a.words) fit) a.read in
+    let m = take_fields b items ws a.rest a.known final both.1 stays.1 (many_keep w t.0 k a.known b c stays.0 a.meant) a.are_proper (subst (λ (l : List Word). Fit items l ws) (sym a.words) fit) a.read in
     let b = m.1 in (
       (t.0, m.0),
       record {
@@ -288,10 +325,11 @@ take_fields (Many w ∷ items) ws parts k final h good (n, more, is, fit) read =
         are_proper = b.are_proper;
       },
     )
-take_fields (Operations ∷ items) ws parts k final h good (changes, more, is, fit) read =
-    let t = take_operations changes more parts k final good is read in
+take_fields b (Operations ∷ items) ws parts k final h r c good (changes, more, is, fit) read =
+    let stays = and_parts b (are_within b items) r in
+    let t = take_operations changes more parts k final (c stays.0) good is read in
     let a = t.1 in
-    let m = take_fields items ws a.rest a.known final h a.are_proper (subst (λ (l : List Word). Fit items l ws) (sym a.words) fit) a.read in
+    let m = take_fields b items ws a.rest a.known final h stays.1 (λ e. operations_keep t.0 k a.known (c e) a.meant) a.are_proper (subst (λ (l : List Word). Fit items l ws) (sym a.words) fit) a.read in
     let b = m.1 in (
       (t.0, m.0),
       record {
@@ -305,6 +343,14 @@ take_fields (Operations ∷ items) ws parts k final h good (changes, more, is, f
       },
     )
 
+all_within : (f : Form) → are_within false (lines_of f) ≡ true
+unfolding are_within
+all_within ABlob = refl
+all_within _ = refl
+
+nothing_yet : (k : Known) → false ≡ true → is_commit k.current ≡ true
+nothing_yet k e = absurd (true≢false (sym e))
+
 all_items : (f : Form) → are_items (lines_of f) ≡ true
 unfolding are_items
 all_items ABlob = refl
@@ -317,7 +363,7 @@ pub take_events : (forms : List Form) (ws : List Word) (parts : List Part) (k fi
     → (raws : List Raw) × (forms_of raws ≡ forms) × Begins (AreEvents raws parts) (λ known. events_meant raws k ≡ Ok known) ws final
 take_events [] ws parts k final good e read = ([], refl, record { rest = parts; known = k; said = refl; meant = refl; read = read; words = e; are_proper = good })
 take_events (f ∷ forms) ws parts k final good (more, fit, are) read =
-    let t = take_fields (lines_of f) more parts k final (all_items f) good fit read in
+    let t = take_fields false (lines_of f) more parts k final (all_items f) (all_within f) (nothing_yet k) good fit read in
     let a = t.1 in
     let m = take_events forms ws a.rest a.known final a.are_proper (subst (λ (l : List Word). AreForms forms l ws) (sym a.words) are) a.read in
     let b = m.2 in

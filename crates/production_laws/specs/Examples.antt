@@ -5,6 +5,8 @@ use Rattle.plain_model.specs.declared.event.PlainEvent.TheVariants as plain
 use Rattle.plain_model.specs.declared.operation.Content.TheVariants.{Blob as OfBlob}
 use Rattle.plain_model.specs.declared.operation.FileOp.TheVariants.{Modify}
 use Rattle.plain_model.specs.declared.operation.Mode.TheVariants.{Plain}
+use Rattle.plain_model.specs.declared.raw.RawContent.TheVariants.{Inline}
+use Rattle.plain_model.specs.declared.raw.RawOp.TheVariants as rawop
 use Rattle.plain_model.specs.Paths.{Bytes}
 use Rattle.stream_grammar.specs.Worked.{ann, lines}
 use Rattle.production_laws.specs.Productions.Form.{ABlob, ACommit, AReset}
@@ -24,7 +26,7 @@ small_events =
     ∷ record {
       form = ACommit;
       fields =
-          (codes "refs/heads/b", (Some 2, (None, (None, (ann, (None, ([], (None, ([], (WithBytes (codes "M 644 inline f") (codes "x") ∷ [], tt))))))))));
+          (codes "refs/heads/b", (Some 2, (None, (None, (ann, (None, ([], (None, ([], (WithBytes (rawop.Modify Plain Inline (codes "f")) (codes "x") ∷ [], tt))))))))));
     }
     ∷ record { form = AReset; fields = (codes "refs/heads/c", (Some (OfMark 2), tt)) } ∷ []
 

@@ -1,20 +1,24 @@
 -- Events as they are spelled, each field at its place, and the history of a list of them (git-fast-import, "Input format").
-use Rattle.std.specs.Prelude.{◌≡◌, Bool, true, false, not, List, [], ◌∷◌, ℕ, Option, Some, None, Result, Ok, Err, codes, map, if◌then◌else◌}
+use Rattle.std.specs.Prelude.{◌≡◌, ◌++◌, bytes_eq, Bool, true, false, not, List, [], ◌∷◌, ℕ, Option, Some, None, Result, Ok, Err, codes, map, if◌then◌else◌}
 use Rattle.std.specs.List.{list_any}
 use Rattle.plain_model.specs.declared.event.PlainEvent.{PlainEvent}
 use Rattle.plain_model.specs.declared.fault.Why.{Why}
-use Rattle.plain_model.specs.declared.fault.Why.TheVariants.{BadMark, LeftOut, RepeatedMark, UnknownLine, UnknownMark, UnknownRef}
+use Rattle.plain_model.specs.declared.fault.Why.TheVariants.{BadMark, BadMode, BadPath, LeftOut, MissingSource, RepeatedMark, UnknownLine, UnknownMark, UnknownRef}
+use Rattle.plain_model.specs.declared.operation.FileOp.{FileOp}
+use Rattle.plain_model.specs.declared.operation.FileOp.TheVariants.{Copy, Delete, DeleteAll, Modify, Rename}
+use Rattle.plain_model.specs.declared.raw.RawOp.{RawOp}
+use Rattle.plain_model.specs.declared.raw.RawOp.TheVariants as rawop
 use Rattle.plain_model.specs.declared.person.Signed.{Signed}
-use Rattle.plain_model.specs.Fields.{◌>>=◌, mark_in, name_in, or_defect, person_in}
+use Rattle.plain_model.specs.Fields.{◌>>=◌, after_space, first_word, last_path_in, mark_in, modify_in, name_in, or_defect, paths_in, person_in}
 use Rattle.plain_model.specs.Parts.{begins}
 use Rattle.plain_model.specs.Paths.{Bytes, is_empty}
 use Rattle.plain_model.specs.Snapshots.{refs}
 use Rattle.plain_model.specs.Trees.{at}
 use Rattle.stream_grammar.specs.declared.lines.Word.{Word}
 use Rattle.stream_grammar.specs.declared.lines.Word.TheVariants as word
-use Rattle.stream_grammar.specs.Known.{Known, commit_with, ensure, history_of, is_known_mark, is_left_out_ref, with_data, with_parent}
-use Rattle.stream_grammar.specs.Known.Open.{ABlob, AReset, ATag, AnAlias}
-use Rattle.stream_grammar.specs.Lines.{aliased, begun_with, changed, commit_on, is_left_out_feature, nothing_known, passed, text_of, with_commit, with_from, with_mark, with_operation, with_tagger, word_of}
+use Rattle.stream_grammar.specs.Known.{Known, OpenCommit, commit_with, ensure, has_source, history_of, is_known_mark, is_left_out_ref, placed, tree_now, with_data, with_parent}
+use Rattle.stream_grammar.specs.Known.Open.{ABlob, ACommit, AReset, ATag, AnAlias, Nothing}
+use Rattle.stream_grammar.specs.Lines.{aliased, begun_with, changed, commit_on, is_left_out_feature, nothing_known, passed, text_of, with_commit, with_from, with_mark, with_tagger, word_of}
 use Rattle.production_laws.specs.Productions.{Form, IsEnd, Item, is_promise, lines_of}
 use Rattle.production_laws.specs.Productions.Item.{Many, One, Operations, Perhaps}
 use Rattle.production_laws.specs.Texts.{HasParts, Part, words_of}
@@ -33,8 +37,18 @@ ref_spelled text =
     if is_left_out_ref text then Err LeftOut else
     if begins (codes ":") text then (mark_in text >>= λ mark. Ok (OfMark mark)) else Ok (OfBranch text)
 
--- what a line of the word has: a name, a mark, who and when, a commit, any text, the bytes of a block; an operation and a line
--- that is kept whole are there as they are
+-- an operation as its line spells it; of the lines of an operation only `deleteall` has another first word
+unfoldable pub op_spelled : Bytes → Result RawOp Why
+op_spelled line =
+    let first = first_word line in
+    if bytes_eq first (codes "M") then (or_defect BadMode (after_space line) >>= λ text. modify_in text) else
+    if bytes_eq first (codes "D") then (last_path_in (after_space line) >>= λ path. Ok (rawop.Delete path)) else
+    if bytes_eq first (codes "C") then (or_defect BadPath (after_space line) >>= λ text. paths_in text >>= λ p. Ok (rawop.Copy p.0 p.1)) else
+    if bytes_eq first (codes "R") then (or_defect BadPath (after_space line) >>= λ text. paths_in text >>= λ p. Ok (rawop.Rename p.0 p.1)) else
+    Ok rawop.DeleteAll
+
+-- what a line of the word has: a name, a mark, who and when, a commit, an operation, any text, the bytes of a block; a line
+-- that is kept whole is there as it is
 abbrev pub Field : Word → Type 0
 Field word.Commit = Bytes
 Field word.Tag = Bytes
@@ -48,8 +62,8 @@ Field word.Data = Bytes
 Field word.From = Ref
 Field word.Merge = Ref
 Field word.To = Ref
-Field word.Operation = Bytes
-Field word.InlineOperation = Bytes
+Field word.Operation = RawOp
+Field word.InlineOperation = RawOp
 Field word.Pass = Bytes
 Field word.FeatureDone = Bytes
 Field _ = Unit {0}
@@ -69,8 +83,8 @@ field_in word.From line = ref_spelled (text_of line)
 field_in word.Merge line = ref_spelled (text_of line)
 field_in word.Alias line = Ok tt
 field_in word.To line = ref_spelled (text_of line)
-field_in word.Operation line = Ok line
-field_in word.InlineOperation line = Ok line
+field_in word.Operation line = op_spelled line
+field_in word.InlineOperation line = op_spelled line
 field_in word.Pass line = ensure (not (is_left_out_feature line)) LeftOut >>= λ kept. Ok line
 field_in word.FeatureDone line = Ok line
 field_in word.Empty line = Ok tt
@@ -89,8 +103,8 @@ Says _ part x = ⊥
 
 -- an operation by itself, or one with `inline` and the bytes that follow it
 pub data Spelled : Type 0 where
-  Alone : Bytes → Spelled
-  WithBytes : Bytes → Bytes → Spelled
+  Alone : RawOp → Spelled
+  WithBytes : RawOp → Bytes → Spelled
 
 -- what each place of an event has: its field; a field or none; any number of them
 abbrev pub Value : Item → Type 0
@@ -116,11 +130,11 @@ AreSaid w (x ∷ xs) parts rest = (part : Part) × (more : List Part) × (parts 
 
 abbrev pub AreOperations : List Spelled → List Part → List Part → Type 0
 AreOperations [] parts rest = parts ≡ rest
-AreOperations (Alone line ∷ ops) parts rest =
-    (part : Part) × (more : List Part) × (parts ≡ part ∷ more) × Says word.Operation part line × AreOperations ops more rest
-AreOperations (WithBytes line bytes ∷ ops) parts rest =
+AreOperations (Alone op ∷ ops) parts rest =
+    (part : Part) × (more : List Part) × (parts ≡ part ∷ more) × Says word.Operation part op × AreOperations ops more rest
+AreOperations (WithBytes op bytes ∷ ops) parts rest =
     (part data_part : Part) × (more : List Part) × (parts ≡ part ∷ data_part ∷ more)
-    × Says word.InlineOperation part line × Says word.Data data_part bytes × AreOperations ops more rest
+    × Says word.InlineOperation part op × Says word.Data data_part bytes × AreOperations ops more rest
 
 -- the parts begin with lines of these fields, each at its place, and the rest comes after them
 abbrev pub AreFields : (items : List Item) → Values items → List Part → List Part → Type 0
@@ -160,6 +174,25 @@ abbrev pub named : Known → Ref → Result ℕ Why
 named k (OfMark mark) = or_defect UnknownMark (commit_with k.events k.aliases mark)
 named k (OfBranch branch) = or_defect UnknownRef (at (refs k.events) branch)
 
+-- the operation, where what it names is there: an earlier blob, or the source in the tree at this point
+abbrev pub operation_of : List PlainEvent → OpenCommit → RawOp → Result FileOp Why
+operation_of events c (rawop.Modify mode raw path) = placed events raw >>= λ content. Ok (Modify mode content path)
+operation_of events c (rawop.Delete path) = Ok (Delete path)
+operation_of events c (rawop.Copy source target) = ensure (has_source source (tree_now events c)) MissingSource >>= λ there. Ok (Copy source target)
+operation_of events c (rawop.Rename source target) = ensure (has_source source (tree_now events c)) MissingSource >>= λ there. Ok (Rename source target)
+operation_of events c rawop.DeleteAll = Ok DeleteAll
+
+-- the commit that is being read has one operation more
+abbrev pub with_op : Known → RawOp → Result Known Why
+with_op k raw = elim k.current [
+  | ACommit c ↦ operation_of k.events c raw >>= λ op. Ok (record k { current = ACommit (record c { ops = c.ops ++ op ∷ [] }) })
+  | Nothing ↦ Ok k
+  | ABlob mark ↦ Ok k
+  | ATag name target tagger mark ↦ Ok k
+  | AReset branch target ↦ Ok k
+  | AnAlias mark ↦ Ok k
+]
+
 -- what is known after a field; the flag says that bytes are those of an operation
 abbrev pub meant : Bool → (w : Word) → Field w → Known → Result Known Why
 meant inline word.Blob x k = Ok (begun_with k (ABlob 0))
@@ -176,8 +209,8 @@ meant inline word.Data bytes k = Ok (with_data inline bytes k)
 meant inline word.From ref k = named k ref >>= λ commit. Ok (changed k (with_from commit))
 meant inline word.Merge ref k = named k ref >>= λ commit. Ok (changed k (with_commit (with_parent commit)))
 meant inline word.To ref k = named k ref >>= λ commit. Ok (aliased commit k)
-meant inline word.Operation line k = with_operation k line
-meant inline word.InlineOperation line k = with_operation k line
+meant inline word.Operation op k = with_op k op
+meant inline word.InlineOperation op k = with_op k op
 meant inline word.Pass line k = Ok (passed k line)
 meant inline word.FeatureDone line k = Ok (passed k line)
 meant inline word.Empty x k = Ok k
@@ -193,9 +226,9 @@ each_meant w (x ∷ xs) k = meant false w x k >>= λ known. each_meant w xs know
 -- the bytes of an operation are there after it
 abbrev pub operations_meant : List Spelled → Known → Result Known Why
 operations_meant [] k = Ok k
-operations_meant (Alone line ∷ ops) k = meant false word.Operation line k >>= λ known. operations_meant ops known
-operations_meant (WithBytes line bytes ∷ ops) k =
-    meant false word.InlineOperation line k >>= λ known. meant true word.Data bytes known >>= λ there. operations_meant ops there
+operations_meant (Alone op ∷ ops) k = meant false word.Operation op k >>= λ known. operations_meant ops known
+operations_meant (WithBytes op bytes ∷ ops) k =
+    meant false word.InlineOperation op k >>= λ known. meant true word.Data bytes known >>= λ there. operations_meant ops there
 
 abbrev pub fields_meant : (items : List Item) → Values items → Known → Result Known Why
 fields_meant [] fields k = Ok k
