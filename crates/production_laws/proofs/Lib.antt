@@ -11,4 +11,9 @@ mod Meant
 mod FieldsMeant
 mod Raws
 mod Histories
+mod Given
 mod UniqueEvents
+mod FirstWrong
+mod Places
+mod Wrong
+mod Either

@@ -8,7 +8,7 @@ use Rattle.production_laws.specs.Productions.{Item, several, operations, Fit}
 use Rattle.production_laws.specs.Productions.Item.{One, Perhaps, Many, Operations}
 use Rattle.production_laws.specs.Productions.Change.{Alone, Inline}
 
--- ---- words are told apart by numbers
+-- ---- words are distinguished by numbers
 
 abbrev pub number : Word → ℕ
 number word.Empty = 0

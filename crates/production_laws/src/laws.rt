@@ -1,13 +1,26 @@
 //! Laws of the form of streams. Each function's contract is one, and its body is empty.
-ghost use Rattle.std.specs.Prelude.{◌≡◌, ℕ, List, Some};
+ghost use Rattle.std.specs.Prelude.{◌≡◌, ◌↔◌, ◌⊎◌, ℕ, List, Some, Ok, Err};
 ghost use Rattle.plain_model.specs.declared.event.PlainEvent.{PlainEvent};
-ghost use Rattle.line_automaton.specs.Machine.{none, outcome, up_to};
+ghost use Rattle.plain_model.specs.declared.fault.Fault.TheVariants.{BadStream};
+ghost use Rattle.plain_model.specs.declared.fault.Why.{Why};
+ghost use Rattle.line_automaton.specs.Machine.{IsCleanThrough, Stops, none, outcome, up_to};
 ghost use Rattle.line_automaton.specs.Machine.Outcome.{Reads};
-ghost use Rattle.stream_grammar.specs.Lines.{State, history_in, stream};
+ghost use Rattle.stream_grammar.specs.Limits.{stream_of};
+ghost use Rattle.stream_grammar.specs.Lines.{State, defect_in, history_in, stream};
 ghost use Rattle.production_laws.specs.Meanings.{HasHistory};
 ghost use Rattle.production_laws.specs.Productions.{Form, Spells};
-ghost use Rattle.production_laws.specs.Raw.{Raw, SpellsRaw, history};
+ghost use Rattle.production_laws.specs.Raw.{Raw, SpellsRaw};
+ghost use Rattle.production_laws.specs.Streams.{
+  HasDefect,
+  IsFirstWrong,
+  IsGiven,
+  IsNoStream,
+  IsRightThrough,
+  IsStreamOf,
+};
 ghost use Rattle.production_laws.specs.Texts.{HasParts, Part};
+
+use stream_grammar::{limits_refuse_nothing_else, what_is_no_history_has_a_first_defect};
 
 /// A text that the productions spell is read, as far as its form goes.
 pub fn what_has_the_form_is_read()
@@ -45,11 +58,47 @@ pub fn a_history_is_what_the_lines_mean()
 
 /// A text has a history exactly where it spells events that have it; and at most one list of events is spelled by it.
 pub fn a_history_is_that_of_the_spelled_events()
-    ensures read { (bytes : List ℕ) (raws : List Raw) (events : List PlainEvent) →
-        SpellsRaw bytes raws → history raws ≡ Some events → history_in bytes ≡ Some events }
-    ensures spelled { (bytes : List ℕ) (events : List PlainEvent) →
-        history_in bytes ≡ Some events →
-        (raws : List Raw) × SpellsRaw bytes raws × (history raws ≡ Some events) }
+    ensures exactly { (bytes : List ℕ) (events : List PlainEvent) →
+        (history_in bytes ≡ Some events) ↔ IsStreamOf bytes events }
     ensures once { (bytes : List ℕ) (raws others : List Raw) → SpellsRaw bytes raws →
         SpellsRaw bytes others → raws ≡ others }
 {}
+
+/// Within the limits a text gives the history of the events that it spells; a limit alone may stand in the way of one; and a
+/// text that is refused for a defect spells no events that have a history, and has this defect first.
+pub fn what_is_given_is_spelled()
+    ensures history { (bytes : List ℕ) (events : List PlainEvent) →
+        stream_of bytes ≡ Ok events → IsStreamOf bytes events }
+    ensures stream { (bytes : List ℕ) (events : List PlainEvent) →
+        IsStreamOf bytes events → IsGiven events (stream_of bytes) }
+    ensures refused { (bytes : List ℕ) (n : ℕ) (why : Why) →
+        stream_of bytes ≡ Err (BadStream n why) → IsNoStream bytes × HasDefect bytes n why }
+{
+    limits_refuse_nothing_else();
+    what_is_no_history_has_a_first_defect();
+}
+
+/// First defects are sought among texts that are spelled: what is clean through a line is what is right through it, and the
+/// line at which a text stops is the first that is wrong.
+pub fn a_first_defect_is_one_of_spelled_texts()
+    ensures right { (n : ℕ) (bytes : List ℕ) →
+        IsCleanThrough stream n bytes ↔ IsRightThrough n bytes }
+    ensures stops { (bytes : List ℕ) (n : ℕ) (why : Why) → Stops stream bytes n why →
+        IsFirstWrong bytes n }
+    ensures exactly { (bytes : List ℕ) (n : ℕ) (why : Why) →
+        (defect_in bytes ≡ Some (n, why)) ↔ HasDefect bytes n why }
+{}
+
+/// Each text is a stream of one history or has one first defect, and none is both.
+pub fn a_text_is_a_stream_or_has_a_defect()
+    ensures either { (bytes : List ℕ) → ((events : List PlainEvent) × IsStreamOf bytes events)
+        ⊎ ((n : ℕ) × (why : Why) × HasDefect bytes n why) }
+    ensures not_both { (bytes : List ℕ) (n : ℕ) (why : Why) → HasDefect bytes n why →
+        IsNoStream bytes }
+    ensures history { (bytes : List ℕ) (events others : List PlainEvent) →
+        IsStreamOf bytes events → IsStreamOf bytes others → events ≡ others }
+    ensures defect { (bytes : List ℕ) (n m : ℕ) (why other : Why) → HasDefect bytes n why →
+        HasDefect bytes m other → (n ≡ m) × (why ≡ other) }
+{
+    what_is_no_history_has_a_first_defect();
+}
