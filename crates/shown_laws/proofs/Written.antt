@@ -1,7 +1,7 @@
 -- What is written of a sound history is read again, as the history with resets before its roots and places as ids, and shows
 -- what the history shows.
 use Rattle.std.proofs.Common.{◌≡◌, ℕ, Bool, List, [], ◌++◌, map, refl, sym, ap, subst, ◌∙◌, Option, Some, None}
-use Rattle.std.specs.Prelude.{IsSome, option_map, if◌then◌else◌, codes}
+use Rattle.std.specs.Prelude.{◌↔◌, IsSome, option_map, if◌then◌else◌, codes}
 use Rattle.plain_model.specs.declared.id.AnyId.TheVariants as any
 use Rattle.plain_model.specs.declared.event.PlainEvent.{PlainEvent}
 use Rattle.plain_model.specs.Paths.{Bytes}
@@ -14,6 +14,7 @@ use Rattle.stream_grammar.specs.Lines.{history_in}
 use Rattle.replay_laws.specs.Replay.{replay_in}
 use Rattle.round_trip_laws.specs.AsRead.{IsAsRead}
 use Rattle.shown_laws.specs.AsWritten.{as_written, place, with_resets}
+use Rattle.production_laws.specs.Streams.{IsStreamOf}
 use Rattle.shown_laws.specs.Showing.{IsShownBy}
 use Rattle.shown_laws.proofs.Known.{AreFitAfter, AreKnown, all_known, fit_with_resets, formed_with_resets, known_with_resets}
 use Rattle.shown_laws.proofs.Places.{Agree, blob_mark_under, bytes_under, commit_mark_under, one_place, placed, promise_under}
@@ -116,12 +117,13 @@ module _ (again : (events : List PlainEvent) → IsAsRead events → history_in 
 
 module _
     (again : (events : List PlainEvent) → IsAsRead events → history_in (text events) ≡ Some events)
+    (exactly : (bytes : List ℕ) (events : List PlainEvent) → (history_in bytes ≡ Some events) ↔ IsStreamOf bytes events)
     (replayed : (bytes : List ℕ) (events : List PlainEvent) → history_in bytes ≡ Some events → replay_in bytes ≡ Some (snapshot events))
   where
     pub shown_by : (h : List PlainEvent) → IsSound h → IsShownBy (text h) h
     shown_by h w = record {
       history = as_written h;
-      read = written_and_read again h w;
+      spelled = (exactly (text h) (as_written h)).0 (written_and_read again h w);
       written = text_is h w;
       replayed = replayed (text h) (as_written h) (written_and_read again h w) ∙ ap Some (snapshot_is h w);
     }

@@ -3,3 +3,4 @@ mod Pieces
 mod Lines
 mod Taken
 pub mod Ends
+mod Spelled

@@ -18,6 +18,7 @@ ghost use Rattle.std.specs.Prelude.{
   take,
   true,
 };
+ghost use Rattle.plain_model.specs.declared.event.PlainEvent.{PlainEvent};
 ghost use Rattle.plain_model.specs.Paths.{Bytes};
 ghost use Rattle.line_automaton.specs.Machine.{all, closed, verdict};
 ghost use Rattle.line_automaton.specs.Machine.Machine.{At};
@@ -26,7 +27,8 @@ ghost use Rattle.line_automaton.proofs.FirstLines.{inside_after};
 ghost use Rattle.stream_grammar.specs.declared.lines.Word.TheVariants as word;
 ghost use Rattle.stream_grammar.specs.Limits.{known_given, stream_of, stream_within};
 ghost use Rattle.stream_grammar.specs.Lines.{data_arrived, next_of};
-ghost use Rattle.stream_reader.specs.Answers.{IsFaultOf};
+ghost use Rattle.production_laws.specs.Streams.{IsStreamOf};
+ghost use Rattle.stream_reader.specs.Answers.{IsFaultOf, IsOfNoStream};
 ghost use Rattle.stream_reader.specs.Reading.{
   HasCome,
   HasRead,
@@ -51,6 +53,7 @@ ghost use Rattle.stream_reader.specs.Reading.{
 use crate::fault::ReadFault;
 use crate::place::Place;
 use plain_model::{EventList, Items, Text, Why};
+use production_laws::what_is_given_is_spelled;
 use std::alloc::Global;
 use std::marker::Model;
 use std::mem;
@@ -517,6 +520,7 @@ impl StreamReader {
     /// and the limits: own.)
     pub fn feed(&mut self, piece: &[u8]) -> Result<(), ReadFault>
         ensures reads { (m : StreamMachine) → HasCome self.old m → HasCome self.new (after m piece.now) }
+        ensures text { (bytes : Bytes) → HasRead self.old bytes → HasRead self.new (bytes ++ piece.now) }
         ensures answer { result ≡ reported self.new.place }
     {
         if piece.len() as u64 >= MAX_BYTES - self.come {
@@ -587,7 +591,16 @@ impl StreamReader {
             (λ list. (bytes : Bytes) → HasRead self bytes → stream_of bytes ≡ Ok list) }
         ensures fault { IfErr result
             (λ fault. (bytes : Bytes) → HasRead self bytes → IsFaultOf (stream_of bytes) fault) }
+
+        // The same by the productions: the text spells events that have this history, or none that have one.
+        ensures stream { IfOk result
+            (λ list. (bytes : Bytes) → HasRead self bytes → IsStreamOf bytes list) }
+        ensures only { IfOk result (λ list. (bytes : Bytes) → HasRead self bytes →
+            (events : List PlainEvent) → IsStreamOf bytes events → list ≡ events) }
+        ensures refused { IfErr result
+            (λ fault. (bytes : Bytes) → HasRead self bytes → IsOfNoStream bytes fault) }
     {
+        what_is_given_is_spelled();
         if let Err(fault) = self.close() {
             return Err(fault);
         }
@@ -606,7 +619,14 @@ impl StreamReader {
 pub fn read_stream(alloc: Global, text: &[u8]) -> Result<EventList, ReadFault>
     ensures list { IfOk result (λ list. stream_of text.now ≡ Ok list) }
     ensures fault { IfErr result (IsFaultOf (stream_of text.now)) }
+
+    // The same by the productions: the text spells events that have this history and no others, or none that have one.
+    ensures stream { IfOk result (λ list. IsStreamOf text.now list) }
+    ensures only { IfOk result (λ list. (events : List PlainEvent) →
+        IsStreamOf text.now events → list ≡ events) }
+    ensures refused { IfErr result (IsOfNoStream text.now) }
 {
+    what_is_given_is_spelled();
     let mut reader = StreamReader::new(alloc);
     if let Err(fault) = reader.feed(text) {
         return Err(fault);

@@ -5,7 +5,7 @@ use Rattle.plain_model.specs.Paths.{Bytes}
 use Rattle.line_automaton.specs.Machine.{all}
 use Rattle.line_automaton.proofs.Runs.{run_append}
 use Rattle.stream_grammar.specs.Limits.{stream_within}
-use Rattle.stream_reader.specs.Reading.{HasCome, Reading, StreamMachine, after}
+use Rattle.stream_reader.specs.Reading.{HasCome, Reading, StreamMachine, after, at_start}
 use Rattle.stream_reader.proofs.reader.StreamReader.feed.Goals as goal
 
 pub loop-at-init : goal.loop-at-init
@@ -51,3 +51,7 @@ loop-at-preserved c =
 pub returns-clause-reads : goal.returns-clause-reads
 returns-clause-reads c = λ m h.
     subst (λ (t : Bytes). HasCome c.loop-at.self (after m t)) (take_all c.loop-at.at c.args.piece.now (omega (arith, c.loop-at-test.false))) (c.loop-at.invariant.reads m h)
+
+pub returns-clause-text : goal.returns-clause-text
+returns-clause-text c = λ bytes h.
+    subst (λ (m : StreamMachine). HasCome c.loop-at.self m) (sym (run_append stream_within all at_start bytes c.args.piece.now)) (returns-clause-reads c (after at_start bytes) h)
