@@ -3,40 +3,41 @@ use Rattle.std.proofs.Common.{◌≡◌, ◌∙◌, ℕ, zero, suc, ◌<◌, ◌
 use Rattle.std.specs.List.{list_any}
 use Rattle.std.specs.Prelude.{map}
 use Rattle.plain_model.specs.contracts.id.CommitIdPartialEq.TheImpl.{eq-value}
+use Rattle.plain_model.specs.declared.event.PlainEvent.{PlainEvent}
 use Rattle.indexmap.specs.IndexSet.{insert_key}
 use Rattle.ancestry_laws.specs.Ancestry.{is_one_of}
 use Rattle.graph_walk.specs.Entries.{AllThere, IsThere, list_of}
 use Rattle.graph_walk.specs.Joined.{with_all, with_one}
 use Rattle.graph_walk.specs.declared.expansion.Expansion.{Expansion}
-use Rattle.graph_walk.specs.declared.expansion.Expansion.TheVariants.{One, Many, TooMany}
+use Rattle.graph_walk.specs.declared.expansion.Expansion.TheVariants.{At, Many, TooMany}
 use Rattle.plain_model.proofs.Numbers.{eqb_turned}
 
 -- ---- lists that are there
 
-there_push : (n : ℕ) (xs : List Expansion) (x : Expansion) → AllThere n xs → IsThere n x → AllThere n (xs ++ x ∷ [])
-there_push n [] x all own = (own, tt)
-there_push n (y ∷ xs) x all own = (all.0, there_push n xs x all.1 own)
+there_push : (w n : ℕ) (xs : List Expansion) (x : Expansion) → AllThere w n xs → IsThere w n x → AllThere w n (xs ++ x ∷ [])
+there_push w n [] x all own = (own, tt)
+there_push w n (y ∷ xs) x all own = (all.0, there_push w n xs x all.1 own)
 
 -- whether or not a push was carried out
-pub there_tried : (n : ℕ) (xs ys : List Expansion) (x : Expansion) (b : Bool) → ys ≡ cond b (xs ++ x ∷ []) xs →
-    AllThere n xs → IsThere n x → AllThere n ys
-there_tried n xs ys x true is all own = subst (AllThere n) (sym is) (there_push n xs x all own)
-there_tried n xs ys x false is all own = subst (AllThere n) (sym is) all
+pub there_tried : (w n : ℕ) (xs ys : List Expansion) (x : Expansion) (b : Bool) → ys ≡ cond b (xs ++ x ∷ []) xs →
+    AllThere w n xs → IsThere w n x → AllThere w n ys
+there_tried w n xs ys x true is all own = subst (AllThere w n) (sym is) (there_push w n xs x all own)
+there_tried w n xs ys x false is all own = subst (AllThere w n) (sym is) all
 
-one_more : (m n : ℕ) → m ≤ n → (x : Expansion) → IsThere m x → IsThere n x
-one_more m n h (One c) own = tt
-one_more m n h (Many at) own = omega arith
-one_more m n h TooMany own = tt
+one_more : (w m n : ℕ) → m ≤ n → (x : Expansion) → IsThere w m x → IsThere w n x
+one_more w m n h (At place) own = own
+one_more w m n h (Many at) own = omega arith
+one_more w m n h TooMany own = tt
 
-pub there_more : (m n : ℕ) → m ≤ n → (xs : List Expansion) → AllThere m xs → AllThere n xs
-there_more m n h [] all = tt
-there_more m n h (x ∷ xs) all = (one_more m n h x all.0, there_more m n h xs all.1)
+pub there_more : (w m n : ℕ) → m ≤ n → (xs : List Expansion) → AllThere w m xs → AllThere w n xs
+there_more w m n h [] all = tt
+there_more w m n h (x ∷ xs) all = (one_more w m n h x all.0, there_more w m n h xs all.1)
 
-pub there_get : (n : ℕ) (xs : List Expansion) (k : ℕ) (x : Expansion) → k < length xs → x ≡ get_or xs k x →
-    AllThere n xs → IsThere n x
-there_get n [] k x low is all = absurd (omega arith)
-there_get n (y ∷ xs) zero x low is all = subst (IsThere n) (sym is) all.0
-there_get n (y ∷ xs) (suc k) x low is all = there_get n xs k x (omega arith) is all.1
+pub there_get : (w n : ℕ) (xs : List Expansion) (k : ℕ) (x : Expansion) → k < length xs → x ≡ get_or xs k x →
+    AllThere w n xs → IsThere w n x
+there_get w n [] k x low is all = absurd (omega arith)
+there_get w n (y ∷ xs) zero x low is all = subst (IsThere w n) (sym is) all.0
+there_get w n (y ∷ xs) (suc k) x low is all = there_get w n xs k x (omega arith) is all.1
 
 -- ---- entries under one list more
 
@@ -50,29 +51,29 @@ get_last : (lists : List (List ℕ)) (l : List ℕ) → get_or (lists ++ l ∷ [
 get_last [] l = refl
 get_last (x ∷ lists) l = get_last lists l
 
-entry_more : (lists : List (List ℕ)) (l : List ℕ) (x : Expansion) → IsThere (length lists) x →
-    list_of (lists ++ l ∷ []) x ≡ list_of lists x
-entry_more lists l (One c) own = refl
-entry_more lists l (Many at) own = ap Some (get_front lists l at own)
-entry_more lists l TooMany own = refl
+entry_more : (events : List PlainEvent) (w : ℕ) (lists : List (List ℕ)) (l : List ℕ) (x : Expansion) → IsThere w (length lists) x →
+    list_of events (lists ++ l ∷ []) x ≡ list_of events lists x
+entry_more events w lists l (At place) own = refl
+entry_more events w lists l (Many at) own = ap Some (get_front lists l at own)
+entry_more events w lists l TooMany own = refl
 
-pub entries_more : (lists : List (List ℕ)) (l : List ℕ) (xs : List Expansion) → AllThere (length lists) xs →
-    map (list_of (lists ++ l ∷ [])) (xs ++ Many (length lists) ∷ []) ≡ map (list_of lists) xs ++ Some l ∷ []
-entries_more lists l [] all = ap (λ ys. Some ys ∷ []) (get_last lists l)
-entries_more lists l (x ∷ xs) all =
-    ap (λ e. e ∷ map (list_of (lists ++ l ∷ [])) (xs ++ Many (length lists) ∷ [])) (entry_more lists l x all.0)
-    ∙ ap (λ es. list_of lists x ∷ es) (entries_more lists l xs all.1)
+pub entries_more : (events : List PlainEvent) (w : ℕ) (lists : List (List ℕ)) (l : List ℕ) (xs : List Expansion) → AllThere w (length lists) xs →
+    map (list_of events (lists ++ l ∷ [])) (xs ++ Many (length lists) ∷ []) ≡ map (list_of events lists) xs ++ Some l ∷ []
+entries_more events w lists l [] all = ap (λ ys. Some ys ∷ []) (get_last lists l)
+entries_more events w lists l (x ∷ xs) all =
+    ap (λ e. e ∷ map (list_of events (lists ++ l ∷ [])) (xs ++ Many (length lists) ∷ [])) (entry_more events w lists l x all.0)
+    ∙ ap (λ es. list_of events lists x ∷ es) (entries_more events w lists l xs all.1)
 
 pub length_more : {X : Type 0} (xs : List X) (x : X) → length (xs ++ x ∷ []) ≡ suc (length xs)
 length_more [] x = refl
 length_more (y ∷ xs) x = ap suc (length_more xs x)
 
 -- the entry at a place
-pub entry_get : (lists : List (List ℕ)) (xs : List Expansion) (k : ℕ) (x : Expansion) → k < length xs →
-    x ≡ get_or xs k x → get_or (map (list_of lists) xs) k None ≡ list_of lists x
-entry_get lists [] k x low is = absurd (omega arith)
-entry_get lists (y ∷ xs) zero x low is = ap (list_of lists) (sym is)
-entry_get lists (y ∷ xs) (suc k) x low is = entry_get lists xs k x (omega arith) is
+pub entry_get : (events : List PlainEvent) (lists : List (List ℕ)) (xs : List Expansion) (k : ℕ) (x : Expansion) → k < length xs →
+    x ≡ get_or xs k x → get_or (map (list_of events lists) xs) k None ≡ list_of events lists x
+entry_get events lists [] k x low is = absurd (omega arith)
+entry_get events lists (y ∷ xs) zero x low is = ap (list_of events lists) (sym is)
+entry_get events lists (y ∷ xs) (suc k) x low is = entry_get events lists xs k x (omega arith) is
 
 -- ---- commits that are gathered
 

@@ -1,4 +1,5 @@
 pub mod BetweenLemmas
+pub mod ChildLemmas
 pub mod ClosureLemmas
 pub mod DescendantLemmas
 pub mod EarlierLemmas

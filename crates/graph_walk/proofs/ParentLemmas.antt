@@ -1,6 +1,6 @@
 -- From entries and flags to the changes of parents.
 use Rattle.std.proofs.Common.{◌≡◌, ◌∙◌, ℕ, suc, ◌<◌, ◌≤◌, Bool, true, false, cond, not, ◌&&◌, inl, inr, List, [], ◌∷◌, ◌++◌, Option, Some, None, refl, sym, ap, subst, length, get_or, take, drop, arith, append-nil}
-use Rattle.std.proofs.lemmas.Bool.{cases_Bool}
+use Rattle.std.proofs.lemmas.Bool.{and_right, cases_Bool}
 use Rattle.std.proofs.lemmas.Bool.Decides.{nat_tests}
 use Rattle.std.proofs.lemmas.Option.{none-some, same_Some}
 use Rattle.std.specs.List.{AllByRecursion, list_any}
@@ -17,10 +17,12 @@ use Rattle.plain_model.specs.Soundness.{IsCommitOf, IsSound}
 use Rattle.event_arena.specs.Once.{AreDistinct}
 use Rattle.event_arena.proofs.ListLemmas.{drop-item, flat-split, flat-take-item}
 use Rattle.event_arena.proofs.SoundLemmas.{has_id-find}
+use Rattle.graph_walk.specs.Children.{AreChildrenOf, children_of_all}
 use Rattle.graph_walk.specs.Expansions.{AreFew, IsCauseOfMany, is_removed, new_parents, own_change, parent_changes}
-use Rattle.graph_walk.specs.Joined.{AreExpansions, Expanded, IsBeforePlace, IsTooMany, PushesIf, flagged_change, entry_at, entry_of, joined_from, kept}
+use Rattle.graph_walk.specs.Joined.{AreExpansions, Expanded, IsBeforePlace, IsTooMany, PushesChange, PushesIf, flagged_change, entry_at, entry_of, joined_from, kept}
 use Rattle.graph_walk.specs.Flags.{FlagsOf, is_flagged_commit}
 use Rattle.edit_laws.specs.Removal.{expand}
+use Rattle.graph_walk.proofs.ChildLemmas.{no_child}
 use Rattle.graph_walk.proofs.EarlierLemmas.{any_on, parents_before, is_earlier}
 use Rattle.graph_walk.proofs.FlagLemmas.{flag_of}
 use Rattle.graph_walk.proofs.ExpandingLemmas.{expand_once, from_kept, map_on, none_fits, of_commit_at}
@@ -44,6 +46,17 @@ place_event events id k e once there at =
     let p = event_placed events id k there in
     let is : p.event ≡ e = same_Some p.event e (sym p.at ∙ at) in
     ap (λ i. find_event i events) (p.own ∙ ap id_of is) ∙ (place_found events k e at once).1
+
+-- a commit none of whose parents has a flag doesn't change
+pub unchanged : (events : List PlainEvent) (flags : List Bool) (s : Expanded) (k : ℕ) (e : PlainEvent) (old : List (ℕ × List ℕ)) →
+    list_any (is_flagged_commit flags events) (event_parents e) ≡ false → PushesChange events flags s k e old old
+unchanged events flags s k (Commit id mark branch author committer encoding comment parents ops aliases) old none =
+    subst (λ change. PushesIf change old old)
+    (sym (ap (λ b. cond b (Some (id, joined_from s.bounded [] (map (entry_of s.entries events) parents))) None) (and_right (not (get_or flags k false)) (list_any (is_flagged_commit flags events) parents) none))) refl
+unchanged events flags s k (Blob id mark bytes) old none = refl
+unchanged events flags s k (Tag id name target tagger comment mark) old none = refl
+unchanged events flags s k (Reset id branch target) old none = refl
+unchanged events flags s k (Pass id line) old none = refl
 
 module _ (events : List PlainEvent) (sound : IsSound events) (once : AreDistinct events) (removed : List AnyId) where
   -- what the parents of an event expand to by their entries
@@ -72,6 +85,14 @@ module _ (events : List PlainEvent) (sound : IsSound events) (once : AreDistinct
       one p h =
           let b = is_earlier events k p h in
           flag_of flags events b.place p b.event once b.at b.own ∙ f.flag b.place b.event b.at ∙ ap (λ id. is_listed id removed) (sym b.own)
+
+  -- those that are no children of removed commits by their flags
+  pub children_flagged : (flags children : List Bool) → FlagsOf events removed flags → FlagsOf events (children_of_all events removed) children →
+      AreChildrenOf flags events children
+  children_flagged flags children f c = record {
+    count = c.count;
+    none = λ k e at off. removed_parents flags f k e at ∙ no_child k e events removed at (sym (c.flag k e at) ∙ off);
+  }
 
   -- the change of an event, with a list that may be too long
   abbrev pub change_of : List (ℕ × List ℕ) → Option (ℕ × Option (List ℕ))

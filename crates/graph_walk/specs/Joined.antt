@@ -1,5 +1,5 @@
 -- Expansions of several commits, joined, and kept place by place.
-use Rattle.std.specs.Prelude.{ℕ, ◌≡◌, ◌<◌, Bool, true, false, not, ◌||◌, ◌&&◌, List, [], ◌∷◌, ◌++◌, length, map, nat_le, Option, Some, None, slice_get, slice_index_or, if◌then◌else◌}
+use Rattle.std.specs.Prelude.{ℕ, ◌≡◌, ◌<◌, Bool, true, false, not, ◌||◌, ◌&&◌, List, [], ◌∷◌, ◌++◌, length, map, nat_le, Option, Some, None, option_and_then, slice_get, slice_index_or, if◌then◌else◌}
 use Rattle.std.specs.List.{list_any}
 use Rattle.plain_model.specs.declared.limit.TheConstants.{MAX_PARENTS}
 use Rattle.plain_model.specs.declared.id.AnyId.{AnyId}
@@ -53,10 +53,23 @@ joined bounded (part ∷ other ∷ parts) = joined_from bounded [] (part ∷ oth
 
 -- ---- place by place
 
--- whether the long ones are left out, and the expansion of the commit at each place
+-- the history, whether the long ones are left out, and the expansion of the commit at each place
 pub record Expanded : Type 0 where
+  pub events : List PlainEvent
   pub bounded : Bool
   pub entries : List (Option (List ℕ))
+
+-- a commit alone, and nothing for another event
+abbrev pub itself : PlainEvent → Option (List ℕ)
+itself (Commit id mark branch author committer encoding comment parents ops aliases) = Some (id ∷ [])
+itself (Blob id mark bytes) = None
+itself (Tag id name target tagger comment mark) = None
+itself (Reset id branch target) = None
+itself (Pass id line) = None
+
+-- the commit at a place
+abbrev pub itself_at : List PlainEvent → ℕ → Option (List ℕ)
+itself_at events place = option_and_then itself (slice_get events place)
 
 -- the entry at a place, if there is one
 abbrev pub entry_at : List (Option (List ℕ)) → Option ℕ → Option (List ℕ)

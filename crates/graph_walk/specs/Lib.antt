@@ -1,3 +1,4 @@
+pub mod Children
 pub mod Entries
 pub mod Expansions
 pub mod Flags

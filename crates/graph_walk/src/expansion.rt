@@ -12,6 +12,7 @@ ghost use Rattle.std.specs.Prelude.{
   map,
   slice_get,
   slice_index_or,
+  true,
   IfErr,
   IfOk,
   IsSome,
@@ -21,10 +22,12 @@ ghost use Rattle.std.specs.Prelude.{
 };
 ghost use Rattle.std.specs.List.{AllByRecursion};
 ghost use Rattle.graph_walk.specs.Expansions.{AreFew, IsCauseOfMany, expanded_parents, parent_changes};
-ghost use Rattle.graph_walk.specs.Joined.{AddsEntry, AreExpansions, IsBeforePlace, IsTooMany, PushesChange, entry_of, fits, joined, joined_from, kept, next_entry, with_all};
+ghost use Rattle.graph_walk.specs.Children.{AreChildrenOf};
+ghost use Rattle.graph_walk.specs.Joined.{AddsEntry, AreExpansions, IsBeforePlace, IsTooMany, PushesChange, entry_of, fits, itself_at, joined, joined_from, kept, next_entry, with_all};
 ghost use Rattle.plain_model.specs.Lookups.{event_parents, find_event};
 ghost use Rattle.plain_model.specs.declared.id.AnyId.TheVariants.{Commit};
 
+use crate::children::children_of_all;
 use crate::flags::{flags_of, is_any_flagged};
 use event_arena::Events;
 use indexmap::IndexSet;
@@ -84,26 +87,28 @@ impl Gathered {
 /// Commits, each with the parents that it gets.
 pub type ParentChanges = Items<(CommitId, ParentList)>;
 
-/// What a commit expands to: one commit, a list of the table, or more than a commit can have as parents.
+/// What a commit expands to: the one at a place, a list of the table, or more than a commit can have as parents.
 #[derive(Clone, Copy)]
 pub enum Expansion {
-    One(CommitId),
+    At(usize),
     Many(usize),
     TooMany,
 }
 
-/// For each place of a history what the commit there expands to. A removed commit with one parent shares its
-/// parent's expansion, so that a long line of them copies nothing. Where expansions are bounded, none is kept
-/// that has more commits than a commit can have parents: whoever descends from it would have too many.
+/// For each place of a history what the commit there expands to. A commit that stays is noted by its place, so that only
+/// removed ones are looked at. A removed commit with one parent shares its parent's expansion, so that a long line of
+/// them copies nothing. Where expansions are bounded, none is kept that has more commits than a commit can have parents:
+/// whoever descends from it would have too many.
 #[derive(Drop)]
-pub struct Expansions {
+pub struct Expansions<'a> {
     alloc: Global,
+    events: &'a Events,
     bounded: bool,
     entries: Vec<Expansion>,
     lists: Vec<ParentList>,
 }
 
-impl Model for Expansions {
+impl<'a> Model for Expansions<'a> {
     ghost use Rattle.graph_walk.specs.Joined.{Expanded};
     ghost use Rattle.graph_walk.specs.Entries.{AreListed, expanded};
 
@@ -114,32 +119,39 @@ impl Model for Expansions {
     ghost invariant = { AreListed };
 }
 
-impl Expansions {
-    fn empty(alloc: Global, bounded: bool) -> Expansions
-        ensures bounded { result.bounded ≡ bounded }
-        ensures entries { result.entries ≡ [] }
+impl<'a> Expansions<'a> {
+    fn empty(alloc: Global, events: &'a Events, bounded: bool) -> Result<Expansions<'a>, NoMemory>
+        ensures events { IfOk result (λ made. made.events ≡ events.now.list) }
+        ensures bounded { IfOk result (λ made. made.bounded ≡ bounded) }
+        ensures entries { IfOk result (λ made. made.entries ≡ []) }
     {
-        Expansions {
+        let entries = Vec::with_capacity(alloc, events.count())?;
+        Ok(Expansions {
             alloc,
+            events,
             bounded,
-            entries: Vec::new(alloc),
+            entries,
             lists: Vec::new(alloc),
-        }
+        })
     }
 
-    // A commit that stays.
-    fn push_one(&mut self, commit: CommitId) -> Result<(), NoMemory>
+    // An event that stays, at a place. It is looked at where it is a parent of one that is removed or changes, and not
+    // before.
+    fn push_staying(&mut self, place: usize) -> Result<(), NoMemory>
+        requires { place < length self.old.events }
+        ensures events { self.new.events ≡ self.old.events }
         ensures bounded { self.new.bounded ≡ self.old.bounded }
         ensures entries { OnOk result
-            (self.new.entries ≡ self.old.entries ++ Some (commit ∷ []) ∷ []) }
+            (self.new.entries ≡ self.old.entries ++ itself_at self.old.events place ∷ []) }
     {
-        self.entries.push(Expansion::One(commit))?;
+        self.entries.push(Expansion::At(place))?;
         Ok(())
     }
 
     // One that expands to what an earlier one expands to.
     fn push_same(&mut self, place: usize) -> Result<(), NoMemory>
         requires { place < length self.old.entries }
+        ensures events { self.new.events ≡ self.old.events }
         ensures bounded { self.new.bounded ≡ self.old.bounded }
         ensures entries { OnOk result (self.new.entries
             ≡ self.old.entries ++ slice_index_or self.old.entries place None ∷ []) }
@@ -151,6 +163,7 @@ impl Expansions {
 
     // One with a list of its own, if that isn't too long.
     fn push_found(&mut self, found: Option<ParentList>) -> Result<(), NoMemory>
+        ensures events { self.new.events ≡ self.old.events }
         ensures bounded { self.new.bounded ≡ self.old.bounded }
         ensures entries { OnOk result (self.new.entries ≡ self.old.entries ++ found ∷ []) }
     {
@@ -172,6 +185,21 @@ impl Expansions {
         !self.bounded || count as u64 <= MAX_PARENTS
     }
 
+    // Adds the commit at a place itself, or says that there is none.
+    fn add_itself(&self, place: usize, gathered: &mut Gathered) -> Result<bool, NoMemory>
+        requires { place < length self.now.events }
+        ensures { IfOk result
+            (λ added. AddsEntry (itself_at self.now.events place) gathered.old gathered.new added) }
+    {
+        match self.events.nth(place) {
+            PlainEvent::Commit { id, .. } => {
+                gathered.add_all(&[*id])?;
+                Ok(true)
+            }
+            _ => Ok(false),
+        }
+    }
+
     // Adds what the commit at a place expands to, or says that this is too much.
     fn add_to(&self, place: usize, gathered: &mut Gathered) -> Result<bool, NoMemory>
         requires { place < length self.now.entries }
@@ -179,10 +207,7 @@ impl Expansions {
             gathered.old gathered.new added) }
     {
         match self.entries[place] {
-            Expansion::One(commit) => {
-                gathered.add_all(&[commit])?;
-                Ok(true)
-            }
+            Expansion::At(place) => self.add_itself(place, gathered),
             Expansion::Many(at) => {
                 gathered.add_all(self.lists[at].as_slice())?;
                 Ok(true)
@@ -215,6 +240,7 @@ impl Expansions {
     fn push_joined(&mut self, events: &Events, parents: &[CommitId]) -> Result<(), NoMemory>
         requires { AllByRecursion (IsBeforePlace events.now.list (length self.old.entries))
             parents.now }
+        ensures events { self.new.events ≡ self.old.events }
         ensures bounded { self.new.bounded ≡ self.old.bounded }
         ensures entries { OnOk result (self.new.entries ≡ self.old.entries ++ joined self.old.bounded
             (map (entry_of self.old.entries events.now.list) parents.now) ∷ []) }
@@ -228,25 +254,38 @@ impl Expansions {
         }
     }
 
-    // The event at the next place.
-    fn push_event(&mut self, events: &Events, place: usize, removed: bool) -> Result<(), NoMemory>
-        requires within { place < length events.now.list }
+    // The removed event at the next place.
+    fn push_removed(&mut self, place: usize) -> Result<(), NoMemory>
+        requires within { place < length self.old.events }
         requires next { length self.old.entries ≡ place }
+        ensures events { self.new.events ≡ self.old.events }
         ensures bounded { self.new.bounded ≡ self.old.bounded }
-        ensures entries { OnOk result ((event : _) → slice_get events.now.list place ≡ Some event
+        ensures entries { OnOk result ((event : _) → slice_get self.old.events place ≡ Some event
             → self.new.entries ≡ self.old.entries
-            ++ next_entry self.old.bounded events.now.list self.old.entries removed event ∷ []) }
+            ++ next_entry self.old.bounded self.old.events self.old.entries true event ∷ []) }
     {
+        let events = self.events;
         let _count = events.count();
         match events.nth(place) {
-            PlainEvent::Commit { id, parents, .. } => {
-                if removed {
-                    self.push_joined(events, parents.as_slice())
-                } else {
-                    self.push_one(*id)
-                }
-            }
+            PlainEvent::Commit { parents, .. } => self.push_joined(events, parents.as_slice()),
             _ => self.push_found(None),
+        }
+    }
+
+    // The event at the next place.
+    fn push_event(&mut self, place: usize, removed: bool) -> Result<(), NoMemory>
+        requires within { place < length self.old.events }
+        requires next { length self.old.entries ≡ place }
+        ensures events { self.new.events ≡ self.old.events }
+        ensures bounded { self.new.bounded ≡ self.old.bounded }
+        ensures entries { OnOk result ((event : _) → slice_get self.old.events place ≡ Some event
+            → self.new.entries ≡ self.old.entries
+            ++ next_entry self.old.bounded self.old.events self.old.entries removed event ∷ []) }
+    {
+        if removed {
+            self.push_removed(place)
+        } else {
+            self.push_staying(place)
         }
     }
 
@@ -266,17 +305,17 @@ impl Expansions {
     // The expansions of all commits of a history, from the first one on.
     fn of(
         alloc: Global,
-        events: &Events,
+        events: &'a Events,
         removed: &IdList,
         bounded: bool,
-    ) -> Result<Expansions, NoMemory>
+    ) -> Result<Expansions<'a>, NoMemory>
         ensures bounded { IfOk result (λ made. made.bounded ≡ bounded) }
         ensures expansions { IfOk result (λ made. AreExpansions events.now.list removed.now made) }
     {
         let flags = flags_of(alloc, events, removed.as_slice())?;
-        let mut made = Expansions::empty(alloc, bounded);
+        let mut made = Expansions::empty(alloc, events, bounded)?;
         for place in 0..events.count() {
-            made.push_event(events, place, flags[place])?;
+            made.push_event(place, flags[place])?;
         }
         Ok(made)
     }
@@ -300,16 +339,18 @@ pub fn expand_parents(
     Ok(list)
 }
 
-// The change of the event at a place, if it stays and has a removed parent.
+// The change of the event at a place, if it stays and has a removed parent. Only a child of a removed commit can have one.
 fn push_change(
     events: &Events,
     made: &Expansions,
     flags: &[bool],
+    children: &[bool],
     place: usize,
     changes: &mut ParentChanges,
 ) -> Result<(), Halt>
     requires within { place < length events.now.list }
     requires flags { length flags.now ≡ length events.now.list }
+    requires children { AreChildrenOf flags.now events.now.list children.now }
     requires made { length made.now.entries ≡ length events.now.list }
     ensures ok { OnOk result ((event : _) → slice_get events.now.list place ≡ Some event →
         PushesChange events.now.list flags.now made.now place event changes.old changes.new) }
@@ -317,6 +358,9 @@ fn push_change(
         IfErr result (IsTooMany events.now.list flags.now made.now place event) }
 {
     let _count = events.count();
+    if !children[place] {
+        return Ok(());
+    }
     if let PlainEvent::Commit { id, parents, .. } = events.nth(place) {
         let parents = parents.as_slice();
         if !flags[place] && is_any_flagged(events, parents, flags) {
@@ -346,9 +390,11 @@ pub fn parent_changes(
 {
     let made = Expansions::of(alloc, events, removed, true)?;
     let flags = flags_of(alloc, events, removed.as_slice())?;
+    let children = children_of_all(alloc, events, removed.as_slice())?;
+    let children = flags_of(alloc, events, children.as_slice())?;
     let mut changes = ParentChanges::new(alloc)?;
     for place in 0..events.count() {
-        push_change(events, &made, &flags, place, &mut changes)?;
+        push_change(events, &made, &flags, &children, place, &mut changes)?;
     }
     Ok(changes)
 }

@@ -1,7 +1,9 @@
-//! Walks over the event graph: ancestry, the settled order of a plan, and what removed parents expand to.
+//! Walks over the event graph: ancestry, the settled order of a plan, and what removed parents expand to; and flags for the
+//! events of a set.
 #![tactic(auto)]
 
 mod ancestry;
+mod children;
 mod expansion;
 mod flags;
 mod referents;
@@ -9,8 +11,10 @@ mod settling;
 mod waiting;
 
 pub use ancestry::{Scratch, ancestors, descendants, is_ancestor};
+pub use children::children_of_all;
 pub use expansion::{ParentChanges, expand_parents, parent_changes};
-pub use settling::settle;
+pub use flags::flags_of;
+pub use settling::{is_ready_at, settle};
 
 #[cfg(test)]
 mod tests;

@@ -69,6 +69,15 @@ fn is_after(plan: &Plan, event: &PlainEvent, place: usize) -> bool
     true
 }
 
+/// Whether the event at a place is after all that it refers to.
+pub fn is_ready_at(plan: &Plan, place: usize) -> bool
+    requires { place < length plan.now.after }
+    ensures { (event : _) → slice_get plan.now.after place ≡ Some event →
+        OnTrue result (is_ready (take place plan.now.after) event ≡ true) }
+{
+    is_after(plan, plan.nth(place), place)
+}
+
 // Whether each event is after all that it refers to. Then the list is its own settled order.
 fn is_settled(plan: &Plan) -> bool
     ensures { OnTrue result (settle plan.now.after ≡ Ok plan.now.after) }

@@ -1,5 +1,5 @@
 -- Sums over the events of a list, counted so far.
-use Rattle.std.proofs.Common.{◌≡◌, ◌∙◌, ℕ, zero, suc, ◌+◌, ◌≤◌, ◌<◌, Bool, true, false, List, [], ◌∷◌, ◌++◌, take, drop, take-append-drop, Some, refl, sym, ap, length, arith, length-append}
+use Rattle.std.proofs.Common.{◌≡◌, ◌∙◌, ℕ, zero, suc, ◌+◌, ◌-◌, ◌≤◌, ◌<◌, Bool, true, false, List, [], ◌∷◌, ◌++◌, take, drop, take-append-drop, Some, refl, sym, ap, length, arith, length-append, true≢false}
 use Rattle.std.specs.List.{list_any}
 use Rattle.std.specs.Prelude.{◌||◌, nat_lt, slice_get}
 use Rattle.std.proofs.Math.Bool.{or-true}
@@ -15,7 +15,8 @@ use Rattle.edit_laws.specs.Parts.{tally}
 use Rattle.edit_laws.proofs.Limits.{not_many}
 use Rattle.edit_laws.proofs.Lists.{tally_append}
 use Rattle.event_arena.proofs.ListLemmas.{take-all, take-item}
-use Rattle.plan_limits.specs.Counts.{count_of, total_of}
+use Rattle.plan_limits.specs.Counts.{IsSum, count_of, total_of}
+use Rattle.plan_limits.specs.declared.limits.Sum.{Sum}
 use Rattle.plan_limits.specs.declared.limits.Counted.{Counted}
 use Rattle.plan_limits.specs.declared.limits.Counted.TheVariants.{Operations, Aliases}
 
@@ -92,6 +93,32 @@ module _ (f : PlainEvent → ℕ) (count : List PlainEvent → ℕ) (counted : (
 pub totals : (what : Counted) (es : List PlainEvent) → tally (count_of what) es ≡ total_of what es
 totals Operations es = ops_counted es
 totals Aliases es = aliases_counted es
+
+-- ---- what is noted of a sum
+
+-- above a limit it stays above
+pub sum_above : (most counted more : ℕ) (s : Sum) → IsSum most counted s → s.is_above ≡ true → IsSum most (counted + more) (record { left = 0; is_above = true })
+sum_above most counted more s h it = record {
+  above = sym (more_than most (counted + more) (let low = passed most counted (sym h.above ∙ it) in omega arith));
+  left = λ is. absurd (true≢false is);
+}
+  where
+    passed : (a b : ℕ) → nat_lt a b ≡ true → a < b
+    passed a b h = grind (arith, nat_tests)
+
+-- it comes above
+pub sum_passed : (most counted more : ℕ) (s : Sum) → IsSum most counted s → s.is_above ≡ false → s.left < more → IsSum most (counted + more) (record { left = 0; is_above = true })
+sum_passed most counted more s h no_it over = record {
+  above = sym (more_than most (counted + more) (let whole = h.left no_it in omega arith));
+  left = λ is. absurd (true≢false is);
+}
+
+-- or it stays below
+pub sum_more : (most counted more : ℕ) (s : Sum) → IsSum most counted s → s.is_above ≡ false → more ≤ s.left → IsSum most (counted + more) (record { left = s.left - more; is_above = false })
+sum_more most counted more s h no_it low = record {
+  above = sym (not_many most (counted + more) (let whole = h.left no_it in omega arith));
+  left = λ is. let whole = h.left no_it in omega arith;
+}
 
 -- ---- whether an event passes a test
 

@@ -4,9 +4,7 @@
 
 mod limits;
 
-pub use limits::{
-    has_many_aliases, has_many_events, has_many_operations, has_many_parents, limit_passed,
-};
+pub use limits::{Many, has_many, has_many_events, has_many_parents, limit_passed};
 
 #[cfg(test)]
 mod tests;

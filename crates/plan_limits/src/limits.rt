@@ -1,5 +1,5 @@
 //! Limits of the list after a plan.
-ghost use Rattle.std.specs.Prelude.{◌≡◌, ◌∷◌, [], length, nat_lt};
+ghost use Rattle.std.specs.Prelude.{◌≡◌, ◌+◌, length, nat_lt};
 ghost use Rattle.std.specs.List.{list_any};
 ghost use Rattle.edit_laws.specs.Passing.{limit_fault};
 ghost use Rattle.history_laws.specs.FirstParents.{ops_along};
@@ -11,7 +11,7 @@ ghost use Rattle.plain_model.specs.declared.limit.TheConstants.{
   MAX_OPERATIONS,
   MAX_PARENTS,
 };
-ghost use Rattle.plan_limits.specs.Counts.{count_of, total_of};
+ghost use Rattle.plan_limits.specs.Counts.{IsSum, count_of};
 
 use event_arena::Plan;
 use plain_model::{Fault, MAX_ALIASES, MAX_EVENTS, MAX_OPERATIONS, MAX_PARENTS, PlainEvent, Which};
@@ -36,19 +36,63 @@ fn count_of(event: &PlainEvent, what: Counted) -> u64
     }
 }
 
-// Whether all events together have more than so many.
-fn has_more(plan: &Plan, what: Counted, most: u64) -> bool
-    ensures { result ≡ nat_lt most (total_of what plan.now.after) }
+// Whether a sum is above a limit, and how much is left up to it where it isn't.
+#[derive(Clone, Copy)]
+struct Sum {
+    left: u64,
+    is_above: bool,
+}
+
+// A sum of nothing.
+fn no_sum(most: u64) -> Sum
+    ensures { IsSum most 0 result }
 {
-    let mut total: u64 = 0;
-    for place in 0..plan.count() {
-        let more = count_of(plan.nth(place), what);
-        if most - total < more {
-            return true;
-        }
-        total += more;
+    Sum {
+        left: most,
+        is_above: false,
     }
-    false
+}
+
+// A sum with more.
+fn add(sum: Sum, more: u64) -> Sum
+    ensures { (most counted : _) → IsSum most counted sum → IsSum most (counted + more) result }
+{
+    if sum.is_above || sum.left < more {
+        return Sum {
+            left: 0,
+            is_above: true,
+        };
+    }
+    Sum {
+        left: sum.left - more,
+        is_above: false,
+    }
+}
+
+/// Of what the commits of a plan have more than those of a history may have.
+#[derive(Clone, Copy)]
+pub struct Many {
+    pub operations: bool,
+    pub aliases: bool,
+}
+
+/// Whether its commits have more operations or aliases than those of a history may have, in one pass.
+pub fn has_many(plan: &Plan) -> Many
+    ensures operations { result.operations
+        ≡ nat_lt MAX_OPERATIONS (length (ops_along (nodes plan.now.after))) }
+    ensures aliases { result.aliases ≡ nat_lt MAX_ALIASES (alias_count plan.now.after) }
+{
+    let mut operations = no_sum(MAX_OPERATIONS);
+    let mut aliases = no_sum(MAX_ALIASES);
+    for place in 0..plan.count() {
+        let event = plan.nth(place);
+        operations = add(operations, count_of(event, Counted::Operations));
+        aliases = add(aliases, count_of(event, Counted::Aliases));
+    }
+    Many {
+        operations: operations.is_above,
+        aliases: aliases.is_above,
+    }
 }
 
 /// Whether a plan leaves more events than a history may have.
@@ -56,13 +100,6 @@ pub fn has_many_events(plan: &Plan) -> bool
     ensures { result ≡ nat_lt MAX_EVENTS (length plan.now.after) }
 {
     MAX_EVENTS < plan.count() as u64
-}
-
-/// Whether its commits have more operations than those of a history may have.
-pub fn has_many_operations(plan: &Plan) -> bool
-    ensures { result ≡ nat_lt MAX_OPERATIONS (length (ops_along (nodes plan.now.after))) }
-{
-    has_more(plan, Counted::Operations, MAX_OPERATIONS)
 }
 
 // Whether an event has more parents than a commit may have.
@@ -88,24 +125,18 @@ pub fn has_many_parents(plan: &Plan) -> bool
     false
 }
 
-/// Whether its commits have more aliases than those of a history may have.
-pub fn has_many_aliases(plan: &Plan) -> bool
-    ensures { result ≡ nat_lt MAX_ALIASES (alias_count plan.now.after) }
-{
-    has_more(plan, Counted::Aliases, MAX_ALIASES)
-}
-
 /// The first limit that a plan's list passes, if it passes one.
 pub fn limit_passed(plan: &Plan) -> Option<Fault>
     ensures { result ≡ limit_fault plan.now.after }
 {
+    let many = has_many(plan);
     let (which, number) = if has_many_events(plan) {
         (Which::Events, MAX_EVENTS)
-    } else if has_many_operations(plan) {
+    } else if many.operations {
         (Which::Operations, MAX_OPERATIONS)
     } else if has_many_parents(plan) {
         (Which::Parents, MAX_PARENTS)
-    } else if has_many_aliases(plan) {
+    } else if many.aliases {
         (Which::Aliases, MAX_ALIASES)
     } else {
         return None;

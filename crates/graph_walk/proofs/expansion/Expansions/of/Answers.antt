@@ -1,7 +1,9 @@
-use Rattle.std.proofs.Common.{◌≡◌, ◌∙◌, ◌<◌, List, length, arith, add-one, false}
+use Rattle.std.proofs.Common.{◌≡◌, ◌∙◌, ◌<◌, ◌∷◌, ◌++◌, [], List, ap, length, arith, add-one, false}
 use Rattle.std.proofs.lemmas.List.{get_or_read}
 use Rattle.event_arena.proofs.SoundLemmas.{sound-once}
+use Rattle.std.specs.Prelude.{slice_get}
 use Rattle.graph_walk.specs.Flags.{FlagsOf}
+use Rattle.graph_walk.specs.Joined.{next_entry}
 use Rattle.plain_model.specs.Lookups.{id_of, is_listed}
 use Rattle.plain_model.specs.declared.id.AnyId.{AnyId}
 use Rattle.std.proofs.Common.{subst}
@@ -20,9 +22,13 @@ loop-place-preserved c =
     let flags : FlagsOf events c.args.removed.now c.in_ok-flags.flags.items = subst (λ (ids : List AnyId). FlagsOf events ids c.in_ok-flags.flags.items) c.as_slice.ensures c.in_ok-flags.ensures in
     let low : place < length c.in_ok-flags.flags.items = let n = flags.count in omega arith in
     let flag : c.index.result.now ≡ is_listed (id_of item.0) c.args.removed.now = get_or_read c.in_ok-flags.flags.items place c.index.result.now low c.index.ensures false ∙ flags.flag place item.0 item.1 in
+    let same = c.loop-place.invariant.events in
+    let entries = subst (λ es. c.push_event.new.self.entries ≡ c.loop-place.made.entries ++ next_entry c.loop-place.made.bounded es c.loop-place.made.entries c.index.result.now item.0 ∷ []) same
+    (c.in_ok-push_event.ensures.entries item.0 (ap (λ es. slice_get es place) same ∙ item.1)) in
     record {
+      events = c.in_ok-push_event.ensures.events ∙ same;
       bounded = c.in_ok-push_event.ensures.bounded ∙ c.loop-place.invariant.bounded;
-      so_far = rw add-one (expanded_more events sound once c.args.removed.now place item.0 c.loop-place.made c.push_event.new.self c.index.result.now item.1 flag c.loop-place.invariant.so_far c.in_ok-push_event.ensures.bounded (c.in_ok-push_event.ensures.entries item.0 item.1));
+      so_far = rw add-one (expanded_more events sound once c.args.removed.now place item.0 c.loop-place.made c.push_event.new.self c.index.result.now item.1 flag c.loop-place.invariant.so_far c.in_ok-push_event.ensures.bounded entries);
     }
 
 pub returns-clause-expansions : goal.returns-clause-expansions

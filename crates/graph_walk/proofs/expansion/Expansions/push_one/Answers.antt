@@ -1,6 +1,0 @@
-use Rattle.graph_walk.proofs.EntryLemmas.{there_tried}
-use Rattle.graph_walk.proofs.expansion.Expansions.push_one.Goals as goal
-
-pub invariant_of-self-2 : goal.invariant_of-self-2
-invariant_of-self-2 c =
-    there_tried _ c.self.inside.entries.items c.push.new.self.items _ _ c.push.ensures.items c.self.invariant tt
