@@ -3,6 +3,5 @@ pub mod Joins
 pub mod Leading
 pub mod Left
 pub mod Noting
-pub mod Steps
 pub mod Voided
 pub mod Walks

@@ -6,7 +6,7 @@ use Rattle.plain_model.specs.declared.event.PlainEvent.TheVariants.{Blob, Commit
 use Rattle.plain_model.specs.Lookups.{id_of, is_listed}
 use Rattle.manifest_cache.specs.Walks.{commit_id}
 use Rattle.simplify_laws.specs.Simplify.{ops_left, simplified_event}
-use Rattle.coalesce_simplify.specs.Chosen.{simple_event}
+use Rattle.coalesce_simplify.specs.Voiding.{simple_event}
 
 -- what isn't a commit has none that are void
 pub no_commit : (e : PlainEvent) → commit_id e ≡ None → simple_event e ≡ e

@@ -1,4 +1,3 @@
-pub mod Chosen
 pub mod Examples
 pub mod Joining
 pub mod Voiding

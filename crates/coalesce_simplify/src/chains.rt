@@ -1,55 +1,13 @@
 //! The joined commits before one that stays, and what it has of them.
-ghost use Rattle.std.specs.Prelude.{◌≡◌, ◌++◌, flat_map, map, IfOk, OnOk};
+ghost use Rattle.std.specs.Prelude.{◌≡◌, ◌++◌, flat_map, map, IfOk};
 ghost use Rattle.coalesce_simplify.specs.Joining.{commit_node, first_joined};
-ghost use Rattle.manifest_cache.specs.Walks.{event_ops, ops_at};
-ghost use Rattle.plain_model.specs.Lookups.{event_parents};
-ghost use Rattle.squash_delete.specs.Chains.{parents_at};
+ghost use Rattle.manifest_cache.specs.Walks.{ops_at};
 ghost use Rattle.squash_laws.specs.Squash.{links};
 
-use crate::flagged::Flagged;
 use event_arena::Events;
-use plain_model::{AnyId, CommitId, Copied, FileOp, NoMemory, OpList, PlainEvent};
+use plain_model::{CommitId, FileOp, NoMemory, OpList};
+use plan_steps::{Flagged, ops_of, parents_of, push_ops};
 use std::alloc::Global;
-
-// The parents of an event; none where it is no commit.
-fn event_parents(event: &PlainEvent) -> &[CommitId]
-    ensures { result.now ≡ event_parents event.now }
-{
-    match event {
-        PlainEvent::Commit { parents, .. } => parents.as_slice(),
-        _ => &[],
-    }
-}
-
-/// The parents of a commit; none where it isn't there.
-pub fn parents_of(events: &Events, commit: CommitId) -> &[CommitId]
-    ensures { result.now ≡ parents_at events.now.list commit }
-{
-    match events.event(AnyId::Commit(commit)) {
-        Some(event) => event_parents(event),
-        None => &[],
-    }
-}
-
-// The operations of an event; none where it is no commit.
-fn event_ops(event: &PlainEvent) -> &[FileOp]
-    ensures { result.now ≡ event_ops event.now }
-{
-    match event {
-        PlainEvent::Commit { ops, .. } => ops.as_slice(),
-        _ => &[],
-    }
-}
-
-// The operations of a commit; none where it isn't there.
-fn ops_of(events: &Events, commit: CommitId) -> &[FileOp]
-    ensures { result.now ≡ ops_at events.now.list commit }
-{
-    match events.event(AnyId::Commit(commit)) {
-        Some(event) => event_ops(event),
-        None => &[],
-    }
-}
 
 // The first of these parents, if it is joined.
 fn first_joined(going: &Flagged, parents: &[CommitId]) -> Option<CommitId>
@@ -85,16 +43,6 @@ pub fn joined_before(
     }
     commits.reverse();
     Ok(commits)
-}
-
-// Puts copies of operations at the end.
-fn push_ops(ops: &mut OpList, more: &[FileOp]) -> Result<(), NoMemory>
-    ensures { OnOk result (ops.new ≡ ops.old ++ more.now) }
-{
-    for op in more {
-        ops.push(op.copied(ops.alloc())?)?;
-    }
-    Ok(())
 }
 
 /// The operations of commits, one after another, and then these.

@@ -2,14 +2,12 @@
 ghost use Rattle.std.specs.Prelude.{
   ◌≡◌,
   ◌++◌,
-  Ok,
   Some,
   length,
   map,
   slice_get,
   IfOk,
   IfSome,
-  IsOk,
   IsSome,
   IsTrue,
   OnOk,
@@ -17,8 +15,6 @@ ghost use Rattle.std.specs.Prelude.{
 ghost use Rattle.coalesce_laws.specs.Coalesce.{coalesce_of, joined_ones};
 ghost use Rattle.coalesce_laws.specs.Remaining.{parents_of_oldest};
 ghost use Rattle.coalesce_simplify.specs.Joining.{AreEndsFrom, AreJoined, end_of, joined_event, joins};
-ghost use Rattle.edit_laws.specs.Parts.{AreComplete};
-ghost use Rattle.edit_laws.specs.Settling.{settle};
 ghost use Rattle.event_arena.specs.Changes.{changed, has_target, with_ops, with_parents, with_target};
 ghost use Rattle.history_laws.specs.FirstParents.{ops_along};
 ghost use Rattle.plain_model.specs.Lookups.{find_event, id_of};
@@ -27,16 +23,13 @@ ghost use Rattle.plain_model.specs.declared.id.AnyId.TheVariants.{Commit};
 ghost use Rattle.squash_laws.specs.Removed.{without_set};
 ghost use Rattle.squash_laws.specs.Squash.{links};
 
-use crate::chains::{joined_before, ops_after, parents_of};
+use crate::chains::{joined_before, ops_after};
 use crate::ends::{end_of, ends};
-use crate::flagged::Flagged;
 use crate::joining::joined_ones;
 use coalesce_laws::{a_coalescing_keeps_soundness, nothing_changes_where_none_is_joined};
 use event_arena::{Events, Plan};
-use graph_walk::settle;
-use plain_model::{
-    AnyId, CommitId, FileOp, Halt, IdList, NoMemory, OpList, ParentList, PlainEvent,
-};
+use plain_model::{AnyId, CommitId, FileOp, IdList, NoMemory, OpList, ParentList, PlainEvent};
+use plan_steps::{Flagged, parents_of, put_in_order};
 use squash_delete::sweep;
 use std::alloc::Global;
 
@@ -193,20 +186,6 @@ fn joined_up(alloc: Global, events: &Events, ids: &IdList) -> Result<Plan, NoMem
     plan.remove_all(ids)?;
     sweep(alloc, &mut plan)?;
     Ok(plan)
-}
-
-// Puts each event of a plan after all that it refers to, where that can be done.
-fn put_in_order(alloc: Global, plan: &mut Plan) -> Result<(), NoMemory>
-    requires complete { AreComplete plan.old.after }
-    requires ends { IsOk (settle plan.old.after) }
-    ensures settled { OnOk result (settle plan.old.after ≡ Ok plan.new.after) }
-    ensures others { OnOk result (plan.new ≡ record plan.old { after = plan.new.after }) }
-{
-    match settle(alloc, plan) {
-        Ok(()) => Ok(()),
-        Err(Halt::Memory) => Err(NoMemory),
-        Err(Halt::Refused(_)) => unreachable!(),
-    }
 }
 
 /// The plan in which a selected commit becomes part of its only child, where that is selected too and has no other

@@ -2,8 +2,8 @@
 ghost use Rattle.std.specs.Prelude.{◌≡◌, ◌<◌, None, Some, length, slice_get, slice_index_or, suc, IfOk};
 ghost use Rattle.coalesce_simplify.specs.Joining.{AreEndsFrom, AreJoined, EndIs, end_of};
 
-use crate::flagged::Flagged;
 use plain_model::{AnyId, CommitId, NoMemory, PlainEvent};
+use plan_steps::Flagged;
 use std::alloc::Global;
 
 // What stands at a place.

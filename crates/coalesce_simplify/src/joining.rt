@@ -6,9 +6,9 @@ ghost use Rattle.coalesce_simplify.specs.Joining.{agree, are_linked, only_of};
 ghost use Rattle.manifest_cache.specs.Walks.{commit_id};
 ghost use Rattle.plain_model.specs.Lookups.{children_of, find_event, id_of};
 
-use crate::flagged::Flagged;
 use event_arena::Events;
 use plain_model::{AnyId, CommitId, IdList, NoMemory, PlainEvent, Signed};
+use plan_steps::Flagged;
 use std::alloc::Global;
 
 // Whether a list has the commit alone.

@@ -5,14 +5,14 @@ ghost use Rattle.manifest_cache.specs.Kept.{AgreesWith};
 ghost use Rattle.plain_model.specs.Faults.{Returns};
 ghost use Rattle.plain_model.specs.Lookups.{find_event, id_of};
 ghost use Rattle.plain_model.specs.Soundness.{IsSound};
-ghost use Rattle.coalesce_simplify.specs.Chosen.{simple_event};
+ghost use Rattle.coalesce_simplify.specs.Voiding.{simple_event};
 ghost use Rattle.simplify_laws.specs.Simplify.{simplified, simplified_event, simplify_of};
 
-use crate::flagged::Flagged;
 use crate::voiding::simpler;
 use event_arena::{Events, Plan};
 use manifest_cache::Manifests;
 use plain_model::{AnyId, Halt, NoMemory, PlainEvent};
+use plan_steps::Flagged;
 use simplify_laws::simplifying_keeps_soundness;
 use squash_delete::sweep;
 use std::alloc::Global;

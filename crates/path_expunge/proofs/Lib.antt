@@ -3,5 +3,4 @@ pub mod FateLemmas
 pub mod Judged
 pub mod Nodes
 pub mod Seeking
-pub mod Steps
 pub mod WrittenLemmas

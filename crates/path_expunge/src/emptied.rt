@@ -6,22 +6,12 @@ ghost use Rattle.expunge_laws.specs.Expunged.{
   replaced_event,
   replaced_events,
 };
-ghost use Rattle.manifest_cache.specs.Walks.{event_ops};
 ghost use Rattle.plain_model.specs.Paths.{Bytes};
 
 use event_arena::Plan;
-use plain_model::{FileOp, IdList, NoMemory, PlainEvent};
+use plain_model::{IdList, NoMemory, PlainEvent};
+use plan_steps::event_ops;
 use std::alloc::Global;
-
-// The operations of an event; none where it is no commit.
-fn ops_of(event: &PlainEvent) -> &[FileOp]
-    ensures { result.now ≡ event_ops event.now }
-{
-    match event {
-        PlainEvent::Commit { ops, .. } => ops.as_slice(),
-        _ => &[],
-    }
-}
 
 // Whether a commit had an operation, has none left, and is no merge.
 fn is_emptied(old: &PlainEvent, new: &PlainEvent) -> bool
@@ -32,7 +22,7 @@ fn is_emptied(old: &PlainEvent, new: &PlainEvent) -> bool
     let PlainEvent::Commit { parents, ops, .. } = old else {
         return false;
     };
-    if ops.as_slice().is_empty() || !ops_of(new).is_empty() {
+    if ops.as_slice().is_empty() || !event_ops(new).is_empty() {
         return false;
     }
     match parents.as_slice() {

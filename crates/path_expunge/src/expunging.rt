@@ -1,6 +1,5 @@
 //! The plan of an expunge.
-ghost use Rattle.std.specs.Prelude.{◌≡◌, Ok, IfOk, IsOk, OnOk};
-ghost use Rattle.edit_laws.specs.Settling.{settle};
+ghost use Rattle.std.specs.Prelude.{◌≡◌, Ok, IfOk};
 ghost use Rattle.expunge_laws.specs.Expunged.{expunge_of, expunged};
 ghost use Rattle.manifest_cache.specs.Kept.{AgreesWith};
 ghost use Rattle.path_expunge.specs.Matching.{matched_by};
@@ -18,25 +17,12 @@ use expunge_laws::{
     an_expunge_comes_to_its_end, an_expunge_keeps_soundness, emptied_commits_give_way_in_line,
     what_no_matched_path_touches_stays,
 };
-use graph_walk::settle;
 use manifest_cache::Manifests;
 use plain_model::{AnyId, Halt, NoMemory};
 use plan_limits::limit_passed;
+use plan_steps::put_in_order;
 use squash_delete::sweep;
 use std::alloc::Global;
-
-// Puts each event of a plan after all that it refers to, where that can be done.
-fn put_in_order(alloc: Global, plan: &mut Plan) -> Result<(), NoMemory>
-    requires { IsOk (settle plan.old.after) }
-    ensures settled { OnOk result (settle plan.old.after ≡ Ok plan.new.after) }
-    ensures others { OnOk result (plan.new ≡ record plan.old { after = plan.new.after }) }
-{
-    match settle(alloc, plan) {
-        Ok(()) => Ok(()),
-        Err(Halt::Memory) => Err(NoMemory),
-        Err(Halt::Refused(_)) => unreachable!(),
-    }
-}
 
 // Whether there is no event in a set.
 fn is_nothing(set: &[AnyId]) -> bool

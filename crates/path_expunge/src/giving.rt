@@ -1,25 +1,14 @@
 //! The events of a plan become what they become where its emptied commits give way.
-ghost use Rattle.std.specs.Prelude.{◌≡◌, ◌<◌, ◌∷◌, Some, length, slice_get, IfOk, OnOk};
+ghost use Rattle.std.specs.Prelude.{◌≡◌, ◌<◌, Some, length, slice_get, OnOk};
 ghost use Rattle.event_arena.specs.Changes.{changed, with_parents, with_target};
 ghost use Rattle.path_expunge.specs.Fates.{all_given_way, begun_anew, given_way};
 ghost use Rattle.plain_model.specs.Lookups.{id_of};
 
 use crate::fates::Fate;
 use event_arena::Plan;
-use plain_model::{AnyId, CommitId, Copied, FileOp, NoMemory, OpList, ParentList, PlainEvent};
+use plain_model::{AnyId, CommitId, NoMemory, ParentList, PlainEvent};
+use plan_steps::anew;
 use std::alloc::Global;
-
-// Operations after one that takes all files away.
-fn anew(alloc: Global, ops: &[FileOp]) -> Result<OpList, NoMemory>
-    ensures { IfOk result (λ made. made ≡ FileOp.DeleteAll ∷ ops.now) }
-{
-    let mut made = OpList::new(alloc)?;
-    made.push(FileOp::DeleteAll)?;
-    for op in ops {
-        made.push(op.copied(alloc)?)?;
-    }
-    Ok(made)
-}
 
 // Gives the commit at a place other parents.
 fn link(plan: &mut Plan, place: usize, parents: &ParentList) -> Result<(), NoMemory>

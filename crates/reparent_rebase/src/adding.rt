@@ -15,14 +15,13 @@ ghost use Rattle.reparent_laws.specs.Operations.{
   op_of,
 };
 
-use crate::changing::give_ops;
-use crate::judging::{judge, put_in_order};
-use crate::one_commit::{ops_of, the_commit};
+use crate::judging::judge;
 use event_arena::{Events, Plan};
 use manifest_cache::Manifests;
 use plain_model::{
     AnyId, CommitId, Content, Copied, Fault, FileOp, Halt, NoMemory, OpList, RawContent, RawOp,
 };
+use plan_steps::{give_ops, ops_of, put_in_order, the_commit};
 use reparent_laws::{a_change_keeps_soundness, settling_comes_to_its_end};
 use std::alloc::Global;
 

@@ -1,31 +1,15 @@
-//! What a plan leaves is put in order, and judged: limits, trees.
-ghost use Rattle.std.specs.Prelude.{◌≡◌, Ok, IsOk, OnOk};
+//! What a plan leaves is judged: limits, trees.
+ghost use Rattle.std.specs.Prelude.{◌≡◌};
 ghost use Rattle.edit_laws.specs.Passing.{limit_fault};
-ghost use Rattle.edit_laws.specs.Settling.{settle};
 ghost use Rattle.manifest_cache.specs.Kept.{AgreesWith};
 ghost use Rattle.plain_model.specs.Faults.{Returns};
 ghost use Rattle.plain_model.specs.Histories.{IsLinkedPast, past};
 ghost use Rattle.reparent_laws.specs.Faults.{any_fault, tree_fault, unless_fault};
 
 use event_arena::Plan;
-use graph_walk::settle;
 use manifest_cache::Manifests;
-use plain_model::{Halt, NoMemory};
+use plain_model::Halt;
 use plan_limits::limit_passed;
-use std::alloc::Global;
-
-/// Puts each event of a plan after all that it refers to, where that can be done.
-pub fn put_in_order(alloc: Global, plan: &mut Plan) -> Result<(), NoMemory>
-    requires { IsOk (settle plan.old.after) }
-    ensures settled { OnOk result (settle plan.old.after ≡ Ok plan.new.after) }
-    ensures others { OnOk result (plan.new ≡ record plan.old { after = plan.new.after }) }
-{
-    match settle(alloc, plan) {
-        Ok(()) => Ok(()),
-        Err(Halt::Memory) => Err(NoMemory),
-        Err(Halt::Refused(_)) => unreachable!(),
-    }
-}
 
 /// The first limit that a plan passes.
 pub fn judge_limits(plan: &Plan) -> Result<(), Halt>

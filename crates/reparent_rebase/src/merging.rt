@@ -12,13 +12,12 @@ ghost use Rattle.reparent_laws.specs.Merge.{
   with_parent,
 };
 
-use crate::changing::{give_ops, give_parents};
-use crate::copying::anew;
-use crate::one_commit::{kind_fault, ops_of, parents_of, the_commit};
-use crate::selected::listed;
 use event_arena::{Events, Plan};
 use plain_model::{AnyId, CommitId, Fault, Halt, NoMemory, ParentList};
 use plan_limits::limit_passed;
+use plan_steps::{
+    anew, give_ops, give_parents, kind_fault, listed, ops_of, parents_of, the_commit,
+};
 use reparent_laws::a_change_keeps_soundness;
 use std::alloc::Global;
 

@@ -14,13 +14,11 @@ ghost use Rattle.reparent_laws.specs.Operations.{
   removed,
 };
 
-use crate::changing::give_ops;
-use crate::copying::push_ops;
 use crate::judging::judge_trees;
-use crate::one_commit::{ops_of, the_commit};
 use event_arena::{Events, Plan};
 use manifest_cache::Manifests;
 use plain_model::{AnyId, CommitId, Copied, Fault, FileOp, Halt, NoMemory, OpList, Path, Text};
+use plan_steps::{give_ops, ops_of, push_ops, the_commit};
 use reparent_laws::{Removal, a_change_keeps_soundness};
 use squash_delete::sweep;
 use std::alloc::Global;

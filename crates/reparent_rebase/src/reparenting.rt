@@ -24,16 +24,16 @@ ghost use Rattle.reparent_laws.specs.Reparent.{
   reparents,
 };
 
-use crate::changing::{give_ops, give_parents};
-use crate::judging::{judge, judge_limits, put_in_order};
-use crate::one_commit::{chosen, kind_fault, ops_of, parents_of};
-use crate::selected::{flags_of, listed};
+use crate::judging::{judge, judge_limits};
 use crate::written::written_out;
 use commit_laws::a_selection_has_its_commits_once;
 use event_arena::{Events, Plan};
-use graph_walk::descendants;
+use graph_walk::{descendants, flags_of};
 use manifest_cache::Manifests;
 use plain_model::{AnyId, CommitId, Fault, Halt, Items, Mark, NoMemory, ParentList, PlainEvent};
+use plan_steps::{
+    chosen, give_ops, give_parents, kind_fault, listed, ops_of, parents_of, put_in_order,
+};
 use reparent_laws::{a_change_keeps_soundness, settling_comes_to_its_end};
 use std::alloc::Global;
 

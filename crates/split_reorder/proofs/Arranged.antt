@@ -38,7 +38,7 @@ use Rattle.reorder_laws.specs.Reorder.{filled, is_placed, last_of, line_fault, l
 use Rattle.reorder_laws.proofs.Reordered.{left_settles, left_sums}
 use Rattle.split_reorder.specs.Ordered.{ordered}
 use Rattle.split_reorder.proofs.Permuted.{permuted, tally_times}
-use Rattle.split_reorder.proofs.Steps.{absent_mapped, found_mapped}
+use Rattle.plan_steps.proofs.Steps.{absent_mapped, found_mapped}
 
 -- ---- lists
 

@@ -19,7 +19,7 @@ use Rattle.plain_model.specs.Soundness.{IsSound}
 use Rattle.commit_laws.proofs.Given.{rank}
 use Rattle.split_laws.specs.Split.{onto, split_event, split_list}
 use Rattle.split_reorder.specs.Copies.{put_onto}
-use Rattle.split_reorder.proofs.Nodes.{given}
+use Rattle.plan_steps.proofs.Nodes.{given}
 
 -- parents among which the commit isn't stay
 pub unmoved : (c copy : ℕ) (ps : List ℕ) → list_any (λ p. p == c) ps ≡ false → map (onto c copy) ps ≡ ps

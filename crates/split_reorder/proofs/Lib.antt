@@ -3,8 +3,6 @@ pub mod Below
 pub mod Halving
 pub mod Histories
 pub mod Listed
-pub mod Nodes
 pub mod Permuted
 pub mod Relinked
 pub mod SplitDone
-pub mod Steps

@@ -1,42 +1,19 @@
--- The commits of a set along a list, and the order in which a reorder puts the events.
-use Rattle.std.proofs.Common.{◌≡◌, ◌∙◌, ℕ, suc, Bool, true, false, cond, inl, inr, List, [], ◌∷◌, ◌++◌, Some, filter, map, take, drop, length, arith, append_assoc, refl, sym, ap}
+-- The order in which a reorder puts the events.
+use Rattle.std.proofs.Common.{◌≡◌, ◌∙◌, ℕ, suc, Bool, true, false, cond, List, [], ◌∷◌, ◌++◌, Some, map, drop, length, arith, append_assoc, refl, sym, ap}
 use Rattle.std.specs.Prelude.{option_to_list, slice_get}
-use Rattle.std.proofs.lemmas.Bool.{cases_Bool}
-use Rattle.std.proofs.lemmas.List.{map-append}
 use Rattle.plain_model.specs.declared.id.AnyId.{AnyId}
 use Rattle.plain_model.specs.declared.id.AnyId.TheVariants as any
 use Rattle.plain_model.specs.declared.event.PlainEvent.{PlainEvent}
 use Rattle.plain_model.specs.declared.event.PlainEvent.TheVariants.{Blob, Commit, Tag, Reset, Pass}
-use Rattle.plain_model.specs.Histories.{Node, nodes}
+use Rattle.plain_model.specs.Histories.{Node}
 use Rattle.plain_model.specs.Lookups.{id_of, is_listed}
-use Rattle.history_laws.proofs.Commits.{nodes_append}
-use Rattle.event_arena.proofs.ListLemmas.{drop-item, take-item}
+use Rattle.event_arena.proofs.ListLemmas.{drop-item}
 use Rattle.manifest_cache.specs.Walks.{commit_id}
 use Rattle.commit_laws.specs.Selected.{listed}
 use Rattle.reorder_laws.specs.Reorder.{is_placed}
 use Rattle.split_reorder.specs.Ordered.{ordered}
 
-filter_append : (test : Node → Bool) (xs ys : List Node) → filter test (xs ++ ys) ≡ filter test xs ++ filter test ys
-filter_append test [] ys = refl
-filter_append test (x ∷ xs) ys = elim (cases_Bool (test x)) [
-  | inl it ↦ rw it (ap (λ zs. x ∷ zs) (filter_append test xs ys))
-  | inr no_it ↦ rw no_it (filter_append test xs ys)
-]
-
 module _ (set : List AnyId) where
-  abbrev test : Node → Bool
-  test n = is_listed (any.Commit n.id) set
-
-  listed_append : (xs ys : List PlainEvent) → listed set (xs ++ ys) ≡ listed set xs ++ listed set ys
-  listed_append xs ys =
-      ap (λ (ns : List Node). map (λ n. n.id) (filter test ns)) (nodes_append xs ys)
-      ∙ ap (map (λ n. n.id)) (filter_append test (nodes xs) (nodes ys))
-      ∙ map-append (λ (n : Node). n.id) (filter test (nodes xs)) (filter test (nodes ys))
-
-  -- one event more
-  pub listed_more : (es : List PlainEvent) (k : ℕ) (e : PlainEvent) → slice_get es k ≡ Some e → listed set (take (suc k) es) ≡ listed set (take k es) ++ listed set (e ∷ [])
-  listed_more es k e is = ap (listed set) (take-item es k e is) ∙ listed_append (take k es) (e ∷ [])
-
   -- one event: the commit, if it is one of the set
   pub listed_one : (e : PlainEvent) → listed set (e ∷ []) ≡ cond (is_listed (id_of e) set) (option_to_list (commit_id e)) []
   listed_one (Commit id mark branch author committer encoding comment parents ops aliases) = go (is_listed (any.Commit id) set)

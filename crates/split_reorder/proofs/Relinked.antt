@@ -25,7 +25,7 @@ use Rattle.reorder_laws.specs.Reorder.{instead, last_of, lined_up, relinked}
 use Rattle.reorder_laws.proofs.Line.{IsChild, all_children}
 use Rattle.split_reorder.specs.Parents.{moved_parents, with_all}
 use Rattle.split_reorder.proofs.Halving.{unmoved}
-use Rattle.split_reorder.proofs.Nodes.{found_parts}
+use Rattle.plan_steps.proofs.Nodes.{found_parts}
 
 -- ---- lists
 

@@ -12,8 +12,3 @@ ordered set ws [] = []
 ordered set [] (e ∷ events) = if is_placed set e then ordered set [] events else id_of e ∷ ordered set [] events
 ordered set (w ∷ ws) (e ∷ events) =
     if is_placed set e then any.Commit w ∷ ordered set ws events else id_of e ∷ ordered set (w ∷ ws) events
-
--- a history and a set of its events
-pub record Placing : Type 0 where
-  pub events : List PlainEvent
-  pub set : List AnyId

@@ -1,10 +1,9 @@
 //! Plans for single commits: one is split in two, and a line of commits is put into another order. Read in this order:
-//! `one_commit`, `touching` (where a commit is split), `onto` (what was on it goes onto its copy), `splitting`; then
-//! `lines`, `relinking` (parents), `placing` (places), `reordering`.
+//! `touching` (where a commit is split), `onto` (what was on it goes onto its copy), `splitting`; then `lines`,
+//! `relinking` (parents), `placing` (places), `reordering`.
 #![tactic(auto)]
 
 mod lines;
-mod one_commit;
 mod onto;
 mod placing;
 mod relinking;

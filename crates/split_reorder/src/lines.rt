@@ -4,9 +4,9 @@ ghost use Rattle.commit_laws.specs.Selected.{node_of};
 ghost use Rattle.plain_model.specs.Lookups.{children_of};
 ghost use Rattle.reorder_laws.specs.Reorder.{is_only, last_of, line_fault};
 
-use crate::one_commit::{event_number, parents_of};
 use event_arena::Events;
 use plain_model::{AnyId, CommitId, Fault};
+use plan_steps::{event_number, parents_of};
 
 /// The last of a commit and those after it.
 pub fn last_of(first: CommitId, rest: &[CommitId]) -> CommitId

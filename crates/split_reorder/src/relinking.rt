@@ -1,30 +1,16 @@
 //! The parents that commits get in a reorder.
 ghost use Rattle.std.specs.Prelude.{◌≡◌, ◌∷◌, OnOk, IsTrue};
-ghost use Rattle.event_arena.specs.Changes.{changed, with_parents};
 ghost use Rattle.plain_model.specs.Lookups.{children_of};
 ghost use Rattle.plain_model.specs.Soundness.{are_distinct};
-ghost use Rattle.plain_model.specs.declared.id.AnyId.TheVariants.{Commit};
 ghost use Rattle.reorder_laws.specs.Reorder.{lined_up, relinked_all};
 ghost use Rattle.split_reorder.specs.Parents.{moved_parents, with_all};
 
 use crate::lines::last_of;
-use crate::one_commit::parents_of;
 use crate::onto::parents_onto;
 use event_arena::{Events, Plan};
-use plain_model::{AnyId, CommitId, NoMemory, ParentList};
+use plain_model::{CommitId, NoMemory, ParentList};
+use plan_steps::{give_parents, parents_of};
 use std::alloc::Global;
-
-// Gives a commit other parents, if it is there.
-fn give(plan: &mut Plan, commit: CommitId, parents: ParentList) -> Result<(), NoMemory>
-    ensures { OnOk result (plan.new ≡ record plan.old {
-      after = changed (Commit commit) (with_parents parents) plan.old.after;
-    }) }
-{
-    match plan.place(AnyId::Commit(commit)) {
-        Some(_) => plan.set_parents(commit, parents),
-        None => Ok(()),
-    }
-}
 
 // Gives the children of the old last commit of a line the new one as their parent.
 fn move_children(
@@ -41,7 +27,7 @@ fn move_children(
 {
     for child in events.children(old) {
         let parents = parents_onto(alloc, old, new, parents_of(events, child))?;
-        give(plan, child, parents)?;
+        give_parents(plan, child, parents)?;
     }
     Ok(())
 }
@@ -58,10 +44,10 @@ fn line_up(
       after = with_all (lined_up parents.now (first ∷ rest.now)) plan.old.after;
     }) }
 {
-    give(plan, first, ParentList::of(alloc, parents)?)?;
+    give_parents(plan, first, ParentList::of(alloc, parents)?)?;
     let mut before = first;
     for commit in rest {
-        give(plan, *commit, ParentList::of(alloc, &[before])?)?;
+        give_parents(plan, *commit, ParentList::of(alloc, &[before])?)?;
         before = *commit;
     }
     Ok(())

@@ -13,13 +13,13 @@ ghost use Rattle.reorder_laws.specs.Reorder.{
 };
 
 use crate::lines::line_fault;
-use crate::one_commit::{chosen, kind_fault};
-use crate::placing::Places;
+use crate::placing::order;
 use crate::relinking::relink;
 use event_arena::{Events, Plan};
 use graph_walk::settle;
 use manifest_cache::Manifests;
 use plain_model::{AnyId, CommitId, Fault, Halt, NoMemory};
+use plan_steps::{Flagged, chosen, kind_fault};
 use reorder_laws::a_reorder_keeps_soundness;
 use std::alloc::Global;
 
@@ -27,7 +27,7 @@ use std::alloc::Global;
 // then places. It isn't settled yet.
 fn arrange(
     alloc: Global,
-    places: &Places,
+    places: &Flagged,
     plan: &mut Plan,
     first: CommitId,
     rest: &[CommitId],
@@ -49,14 +49,14 @@ fn arrange(
     let events = places.events();
     let _count = events.count();
     relink(alloc, events, plan, first, rest, head, tail)?;
-    let ids = places.order(alloc, wanted)?;
+    let ids = order(alloc, places, wanted)?;
     plan.set_order(ids)
 }
 
 // The plan that puts a line into the order that is wanted, or the first fault.
 fn reorder_these(
     alloc: Global,
-    places: &Places,
+    places: &Flagged,
     mut plan: Plan,
     manifests: &mut Manifests,
     line: &[CommitId],
@@ -122,7 +122,7 @@ pub fn reorder(
     if let Some(fault) = kind_fault(events, list) {
         return Err(Halt::Refused(fault));
     }
-    let places = Places::new(alloc, events, list)?;
+    let places = Flagged::new(alloc, events, list)?;
     let line = places.listed(alloc)?;
     let wanted = chosen(alloc, list)?;
     let plan = Plan::new(alloc, events)?;

@@ -20,7 +20,6 @@ ghost use Rattle.plain_model.specs.declared.id.AnyId.TheVariants.{Commit};
 ghost use Rattle.split_laws.specs.Split.{split_at_of, split_by_of, split_from, split_list};
 ghost use Rattle.split_reorder.specs.Copies.{put_onto};
 
-use crate::one_commit::{ops_of, the_commit};
 use crate::onto::put_all_onto;
 use crate::touching::first_touch;
 use event_arena::{Events, Plan};
@@ -29,6 +28,7 @@ use plain_model::{
     PlainEvent, Text,
 };
 use plan_limits::limit_passed;
+use plan_steps::{ops_of, the_commit};
 use split_laws::a_split_keeps_soundness;
 use std::alloc::Global;
 

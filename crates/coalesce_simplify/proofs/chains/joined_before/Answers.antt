@@ -19,7 +19,7 @@ loop-at-smaller c =
     let events = c.args.going.now.events in
     let set = c.args.going.now.set in
     let d = c.in-Some.commit in
-    let parents : c.parents_of.result.now ≡ parents_at events d = c.parents_of.ensures ∙ ap (λ (es : List PlainEvent). parents_at es d) c.events.ensures in
+    let parents : c.parents_of.result.now ≡ parents_at events d = c.parents_of.ensures.found ∙ ap (λ (es : List PlainEvent). parents_at es d) c.events.ensures in
     let next : c.first_joined-at-in-Some.result ≡ first_joined set events (parents_at events d) = c.first_joined-at-in-Some.ensures ∙ ap (first_joined set events) parents in
     let less = shallower set events c.count-count.ensures.sound d (c.loop-at.invariant.there d c.in-Some.is) in
     let new : option_map_or (depth events) c.first_joined-at-in-Some.result 0 ≡ option_map_or (depth events) (first_joined set events (parents_at events d)) 0 = ap (λ (o : Option ℕ). option_map_or (depth events) o 0) next in
@@ -33,7 +33,7 @@ loop-at-preserved c =
     let ps = c.args.parents.now in
     let d = c.in-Some.commit in
     let walk = c.loop-at.commits.items in
-    let parents : c.parents_of.result.now ≡ parents_at events d = c.parents_of.ensures ∙ ap (λ (es : List PlainEvent). parents_at es d) c.events.ensures in
+    let parents : c.parents_of.result.now ≡ parents_at events d = c.parents_of.ensures.found ∙ ap (λ (es : List PlainEvent). parents_at es d) c.events.ensures in
     let next : c.first_joined-at-in-Some.result ≡ first_joined set events (parents_at events d) = c.first_joined-at-in-Some.ensures ∙ ap (first_joined set events) parents in
     let was = subst (λ (o : Option ℕ). IsOn set events ps o walk) c.in-Some.is c.loop-at.invariant in
     subst (λ (o : Option ℕ). IsOn set events ps o c.push.new.self.items) (sym next)

@@ -2,25 +2,18 @@ use Rattle.std.proofs.Common.{◌≡◌, ◌∙◌, List, Result, Ok, Err, is_ok
 use Rattle.std.specs.Prelude.{IsOk}
 use Rattle.plain_model.specs.declared.event.PlainEvent.{PlainEvent}
 use Rattle.plain_model.specs.Soundness.{IsSound}
-use Rattle.edit_laws.specs.Parts.{AreComplete}
 use Rattle.edit_laws.specs.Settling.{settle}
 use Rattle.squash_laws.specs.Removed.{without_set}
 use Rattle.coalesce_laws.specs.Coalesce.{coalesced}
-use Rattle.coalesce_laws.proofs.Coalesced.{done, settles}
+use Rattle.coalesce_laws.proofs.Coalesced.{done}
 use Rattle.coalesce_simplify.specs.Joining.{joins}
 use Rattle.coalesce_simplify.proofs.coalescing.coalesce.Goals as goal
 
 pub joined_up-requires : goal.joined_up-requires
 joined_up-requires c = (c.args.seconds, c.args.set.now, c.in_ok-ids.ensures)
 
-pub put_in_order-requires-clause-complete : goal.put_in_order-requires-clause-complete
-put_in_order-requires-clause-complete c =
-    let events = c.args.events.now.list in
-    let after = c.in_ok-plan.ensures.after ∙ ap (λ ids. without_set ids events (joins ids events)) c.in_ok-ids.ensures in
-    subst AreComplete (sym after) (settles c.args.seconds c.args.set.now events c.count-count.ensures.sound).complete
-
-pub put_in_order-requires-clause-ends : goal.put_in_order-requires-clause-ends
-put_in_order-requires-clause-ends c =
+pub put_in_order-requires : goal.put_in_order-requires
+put_in_order-requires c =
     let events = c.args.events.now.list in
     let after = c.in_ok-plan.ensures.after ∙ ap (λ ids. without_set ids events (joins ids events)) c.in_ok-ids.ensures in
     subst (λ (es : List PlainEvent). IsOk (settle es)) (sym after)

@@ -6,7 +6,7 @@ use Rattle.event_arena.specs.Graphs.{Change}
 use Rattle.event_arena.proofs.SoundLemmas.{sound-once}
 use Rattle.coalesce_simplify.specs.Joining.{joined_event}
 use Rattle.coalesce_simplify.proofs.Left.{joined_id}
-use Rattle.coalesce_simplify.proofs.Steps.{step_changed, step_found}
+use Rattle.plan_steps.proofs.Steps.{step_changed, step_found}
 use Rattle.coalesce_simplify.proofs.coalescing.join_all.Goals as goal
 
 pub join_at-requires-clause-found : goal.join_at-requires-clause-found

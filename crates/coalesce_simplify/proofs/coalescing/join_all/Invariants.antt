@@ -1,6 +1,6 @@
 use Rattle.std.proofs.Common.{◌≡◌}
 use Rattle.coalesce_simplify.specs.Joining.{joined_event}
-use Rattle.coalesce_simplify.proofs.Steps.{so_far}
+use Rattle.plan_steps.proofs.Steps.{so_far}
 use Rattle.coalesce_simplify.proofs.coalescing.join_all.Given as goal
 
 abbrev pub invariant-loop-place : goal.invariant-loop-place

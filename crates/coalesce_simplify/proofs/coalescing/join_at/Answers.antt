@@ -10,7 +10,7 @@ use Rattle.squash_laws.specs.Squash.{links}
 use Rattle.coalesce_laws.specs.Remaining.{parents_of_oldest}
 use Rattle.coalesce_simplify.specs.Joining.{end_of, joined_event}
 use Rattle.coalesce_simplify.proofs.Left.{begin_same, blob_same, commit_joined, one_same, pass_same, reset_moved, tag_moved}
-use Rattle.coalesce_simplify.proofs.Steps.{alike_of, kept_of, on_ok}
+use Rattle.plan_steps.proofs.Steps.{alike_of, kept_of, on_ok}
 use Rattle.coalesce_simplify.proofs.coalescing.join_at.Goals as goal
 
 pub returns-then-has_at : goal.returns-then-has_at

@@ -11,7 +11,7 @@ use Rattle.manifest_cache.specs.Walks.{ops_at}
 use Rattle.squash_laws.specs.Squash.{links}
 use Rattle.squash_delete.specs.Chains.{parents_at}
 use Rattle.coalesce_laws.specs.Remaining.{parents_of_oldest}
-use Rattle.coalesce_simplify.proofs.Steps.{kept, on_ok}
+use Rattle.plan_steps.proofs.Steps.{kept, on_ok}
 use Rattle.coalesce_simplify.proofs.Walks.{none_walked, ops_walked, parents_walked}
 use Rattle.coalesce_simplify.proofs.coalescing.join_commit.Goals as goal
 
@@ -41,7 +41,7 @@ returns c =
     let oldest = c.in-Some.oldest.now in
     let first : slice_get ws 0 ≡ Some oldest = ap (λ (l : List ℕ). slice_get l 0) (sym c.deref.ensures.value) ∙ sym c.in-Some.ensures.value in
     let parents : c.in_ok-parents.parents ≡ parents_of_oldest before ps =
-    c.in_ok-parents.ensures ∙ c.parents_of.ensures ∙ ap (λ (es : List PlainEvent). parents_at es oldest) c.events-2.ensures
+    c.in_ok-parents.ensures ∙ c.parents_of.ensures.found ∙ ap (λ (es : List PlainEvent). parents_at es oldest) c.events-2.ensures
     ∙ parents_walked set events before ws oldest ps c.in_ok-commits.ensures first in
     let ops : c.in_ok-ops.ops ≡ ops_along before ++ os =
     c.in_ok-ops.ensures ∙ (λ i. flat_map (ops_at (c.events.ensures i)) (c.deref-2.ensures.value i) ++ os)

@@ -3,7 +3,7 @@ use Rattle.std.specs.Prelude.{IfSome}
 use Rattle.plain_model.specs.Lookups.{find_event}
 use Rattle.event_arena.specs.Changes.{with_target}
 use Rattle.coalesce_simplify.specs.Joining.{end_of}
-use Rattle.coalesce_simplify.proofs.Steps.{kept}
+use Rattle.plan_steps.proofs.Steps.{kept}
 use Rattle.coalesce_simplify.proofs.coalescing.move_target.Goals as goal
 
 pub returns-then-eq : goal.returns-then-eq

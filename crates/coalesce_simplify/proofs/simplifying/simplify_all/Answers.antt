@@ -5,7 +5,7 @@ use Rattle.event_arena.specs.Changes.{changed}
 use Rattle.event_arena.specs.Graphs.{Change}
 use Rattle.event_arena.proofs.SoundLemmas.{sound-once}
 use Rattle.simplify_laws.specs.Simplify.{simplified_event}
-use Rattle.coalesce_simplify.proofs.Steps.{step_changed, step_found}
+use Rattle.plan_steps.proofs.Steps.{step_changed, step_found}
 use Rattle.coalesce_simplify.proofs.Voided.{same_id_of}
 use Rattle.coalesce_simplify.proofs.simplifying.simplify_all.Goals as goal
 

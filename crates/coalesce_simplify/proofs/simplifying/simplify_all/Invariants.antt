@@ -1,6 +1,6 @@
 use Rattle.std.proofs.Common.{◌≡◌}
 use Rattle.simplify_laws.specs.Simplify.{simplified_event}
-use Rattle.coalesce_simplify.proofs.Steps.{so_far}
+use Rattle.plan_steps.proofs.Steps.{so_far}
 use Rattle.coalesce_simplify.proofs.simplifying.simplify_all.Given as goal
 
 abbrev pub invariant-loop-place : goal.invariant-loop-place

@@ -2,8 +2,8 @@ use Rattle.std.proofs.Common.{◌≡◌, ◌∙◌, List, refl, sym, ap}
 use Rattle.plain_model.specs.declared.event.PlainEvent.{PlainEvent}
 use Rattle.plain_model.specs.Lookups.{find_event, id_of}
 use Rattle.simplify_laws.specs.Simplify.{simplified_event}
-use Rattle.coalesce_simplify.specs.Chosen.{simple_event}
-use Rattle.coalesce_simplify.proofs.Steps.{changed_alike, found_holds, kept_of, on_ok}
+use Rattle.coalesce_simplify.specs.Voiding.{simple_event}
+use Rattle.plan_steps.proofs.Steps.{changed_alike, found_holds, kept_of, on_ok}
 use Rattle.coalesce_simplify.proofs.Voided.{chosen_simple, other_same}
 use Rattle.coalesce_simplify.proofs.simplifying.simplify_at.Goals as goal
 

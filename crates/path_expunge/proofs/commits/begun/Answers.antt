@@ -2,7 +2,7 @@ use Rattle.std.proofs.Common.{◌∙◌, sym}
 use Rattle.plain_model.specs.declared.id.AnyId.TheVariants as any
 use Rattle.plain_model.specs.Soundness.{IsCommitOf}
 use Rattle.event_arena.proofs.SoundLemmas.{has_id-find}
-use Rattle.path_expunge.proofs.Nodes.{first_of}
+use Rattle.plan_steps.proofs.Nodes.{first_of}
 use Rattle.path_expunge.proofs.commits.begun.Goals as goal
 
 pub get-requires-clause-live : goal.get-requires-clause-live

@@ -13,7 +13,7 @@ use Rattle.expunge_laws.specs.Replaced.{replaced_all}
 use Rattle.expunge_laws.specs.Untouched.{may_touch}
 use Rattle.path_expunge.specs.Matching.{Matches, matched_by}
 use Rattle.path_expunge.proofs.Nodes.{begins_with, begun_tree, has_tree_from, no_commit, parents_known, stays_by_name}
-use Rattle.path_expunge.proofs.Steps.{alike_of, kept_of, on_ok}
+use Rattle.plan_steps.proofs.Steps.{alike_of, kept_of, on_ok}
 use Rattle.path_expunge.proofs.commits.replace_at.Goals as goal
 
 pub returns-in_default : goal.returns-in_default

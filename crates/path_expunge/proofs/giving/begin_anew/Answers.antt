@@ -12,7 +12,7 @@ use Rattle.event_arena.specs.Graphs.{Change}
 use Rattle.squash_delete.proofs.TakingLemmas.{changed_there, changed_twice}
 use Rattle.path_expunge.specs.Fates.{begun_anew}
 use Rattle.path_expunge.proofs.FateLemmas.{not_anew, parents_id}
-use Rattle.path_expunge.proofs.Steps.{alike_of, kept_of, on_ok}
+use Rattle.plan_steps.proofs.Steps.{alike_of, kept_of, on_ok}
 use Rattle.path_expunge.proofs.giving.begin_anew.Goals as goal
 
 pub returns-in_default : goal.returns-in_default

@@ -5,7 +5,7 @@ use Rattle.event_arena.specs.Changes.{changed}
 use Rattle.graph_walk.proofs.PlaceLemmas.{place_found}
 use Rattle.path_expunge.specs.declared.fates.Fate.{Fate}
 use Rattle.path_expunge.specs.Fates.{given_way}
-use Rattle.path_expunge.proofs.Steps.{kept_of}
+use Rattle.plan_steps.proofs.Steps.{kept_of}
 use Rattle.path_expunge.proofs.giving.give_at.Goals as goal
 
 pub returns-in-Same : goal.returns-in-Same

@@ -4,7 +4,7 @@ use Rattle.plain_model.specs.declared.event.PlainEvent.{PlainEvent}
 use Rattle.plain_model.specs.Lookups.{id_of}
 use Rattle.event_arena.specs.Changes.{changed, with_parents}
 use Rattle.path_expunge.proofs.FateLemmas.{not_linked}
-use Rattle.path_expunge.proofs.Steps.{kept_of}
+use Rattle.plan_steps.proofs.Steps.{kept_of}
 use Rattle.path_expunge.proofs.giving.link.Goals as goal
 
 pub returns-in_default : goal.returns-in_default

@@ -6,7 +6,7 @@ use Rattle.event_arena.specs.Graphs.{Change}
 use Rattle.path_expunge.specs.declared.fates.Fate.{Fate}
 use Rattle.path_expunge.specs.Fates.{all_given_way, fated}
 use Rattle.path_expunge.proofs.FateLemmas.{given_all, left_all}
-use Rattle.path_expunge.proofs.Steps.{on_ok}
+use Rattle.plan_steps.proofs.Steps.{on_ok}
 use Rattle.path_expunge.proofs.pushing.give_way.Goals as goal
 
 pub returns : goal.returns

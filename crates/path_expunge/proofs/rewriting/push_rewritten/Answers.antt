@@ -4,7 +4,7 @@ use Rattle.plain_model.specs.Trees.{Tree, at, subtree}
 use Rattle.expunge_laws.specs.Replaced.{deletes_of, has_entry, puts_of, restricted}
 use Rattle.path_expunge.specs.Matching.{Matches, matched_by}
 use Rattle.path_expunge.specs.Written.{gone_of}
-use Rattle.path_expunge.proofs.Steps.{on_ok}
+use Rattle.plan_steps.proofs.Steps.{on_ok}
 use Rattle.path_expunge.proofs.WrittenLemmas.{written}
 use Rattle.path_expunge.proofs.rewriting.push_rewritten.Goals as goal
 

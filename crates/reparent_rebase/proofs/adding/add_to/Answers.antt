@@ -4,7 +4,7 @@ use Rattle.edit_laws.proofs.Sound.{in_parts}
 use Rattle.commit_laws.specs.Rewriting.{rewritten_all}
 use Rattle.commit_laws.proofs.Rewritten.{once_same}
 use Rattle.reparent_laws.specs.Operations.{adds}
-use Rattle.reparent_rebase.proofs.Settling.{settled_linked}
+use Rattle.plan_steps.proofs.Settling.{settled_linked}
 use Rattle.reparent_rebase.proofs.adding.add_to.Goals as goal
 
 pub judge-requires-clause-earlier : goal.judge-requires-clause-earlier

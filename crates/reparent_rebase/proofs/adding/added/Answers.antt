@@ -12,7 +12,7 @@ pub returns-clause-after : goal.returns-clause-after
 returns-clause-after c =
     let events = c.args.events.now.list in
     let own = node_of events c.args.commit in
-    let ops : c.push.new.self ≡ own.ops ++ c.args.op ∷ [] = c.in_ok-push.ensures.ok ∙ ap (λ (l : List FileOp). l ++ c.args.op ∷ []) (c.in_ok-ops.ensures ∙ c.ops_of.ensures) in
+    let ops : c.push.new.self ≡ own.ops ++ c.args.op ∷ [] = c.in_ok-push.ensures.ok ∙ ap (λ (l : List FileOp). l ++ c.args.op ∷ []) (c.in_ok-ops.ensures ∙ c.ops_of.ensures.node) in
     ap (λ (p : Change). p.after) c.in_ok-give_ops.ensures
     ∙ (λ i. changed (any.Commit c.args.commit) (with_ops (ops i)) (c.in_ok-plan.ensures.after i))
     ∙ ops_given c.args.commit (adds c.args.op) events c.count-count.ensures.sound refl

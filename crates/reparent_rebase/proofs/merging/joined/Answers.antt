@@ -19,7 +19,7 @@ returns-clause-after c =
     let low = c.args.low in
     let high = c.args.high in
     let own = node_of events high in
-    let parents : c.parents_of-parents.result.now ≡ own.parents = c.parents_of-parents.ensures in
+    let parents : c.parents_of-parents.result.now ≡ own.parents = c.parents_of-parents.ensures.node in
     let more : c.in_ok-with_parent.field-0 ≡ with_parent low own.parents = c.in_ok-with_parent.ensures ∙ ap (with_parent low) parents in
     let given : c.give_parents.new.plan.after ≡ changed (any.Commit high) (with_parents (with_parent low own.parents)) events =
     ap (λ (p : Change). p.after) c.in_ok-give_parents.ensures ∙ (λ i. changed (any.Commit high) (with_parents (more i)) (c.in_ok-plan.ensures.after i)) in
@@ -27,7 +27,7 @@ returns-clause-after c =
       | then-is_empty+in_ok-anew+in_ok-give_ops w ↦
           let none : own.parents ≡ [] = sym parents ∙ nil_of c.parents_of-parents.result.now (eqb-true (length c.parents_of-parents.result.now) 0 (sym c.is_empty.ensures ∙ w.if-is_empty.true)) in
           let ops : w.in_ok-anew.field-0 ≡ ops_with_parent own.parents own.ops =
-          w.in_ok-anew.ensures ∙ ap (λ (l : List FileOp). DeleteAll ∷ l) w.ops_of.ensures ∙ ap (λ (ps : List ℕ). ops_with_parent ps own.ops) (sym none) in
+          w.in_ok-anew.ensures ∙ ap (λ (l : List FileOp). DeleteAll ∷ l) w.ops_of.ensures.node ∙ ap (λ (ps : List ℕ). ops_with_parent ps own.ops) (sym none) in
           ap (λ (p : Change). p.after) (w.plan-is ∙ w.in_ok-give_ops.ensures)
           ∙ (λ i. changed (any.Commit high) (with_ops (ops i)) (given i)) ∙ both_given high (merges low) events sound
       | else-is_empty w ↦

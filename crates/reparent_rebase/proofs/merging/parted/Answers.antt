@@ -10,7 +10,7 @@ use Rattle.reparent_rebase.proofs.merging.parted.Goals as goal
 pub returns-clause-after : goal.returns-clause-after
 returns-clause-after c =
     let events = c.args.events.now.list in
-    let parents : c.in_ok-parents.parents ≡ take 1 (node_of events c.args.commit).parents = c.in_ok-parents.ensures ∙ ap (λ (ps : List ℕ). take 1 ps) c.parents_of.ensures in
+    let parents : c.in_ok-parents.parents ≡ take 1 (node_of events c.args.commit).parents = c.in_ok-parents.ensures ∙ ap (λ (ps : List ℕ). take 1 ps) c.parents_of.ensures.node in
     ap (λ (p : Change). p.after) c.in_ok-give_parents.ensures
     ∙ (λ i. changed (any.Commit c.args.commit) (with_parents (parents i)) (c.in_ok-plan.ensures.after i))
     ∙ parents_given c.args.commit unmerges events c.count-count.ensures.sound refl

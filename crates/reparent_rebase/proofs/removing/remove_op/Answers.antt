@@ -9,7 +9,7 @@ use Rattle.reparent_rebase.proofs.Fewer.{removed_linked}
 use Rattle.reparent_rebase.proofs.removing.remove_op.Goals as goal
 
 pub removed-requires : goal.removed-requires
-removed-requires c = ap (removal_fault c.args.what.now) (sym c.ops_of.ensures) ∙ sym c.in_ok-found.ensures ∙ c.in_default.is
+removed-requires c = ap (removal_fault c.args.what.now) (sym c.ops_of.ensures.node) ∙ sym c.in_ok-found.ensures ∙ c.in_default.is
 
 pub judge_trees-requires-clause-earlier : goal.judge_trees-requires-clause-earlier
 judge_trees-requires-clause-earlier c =
@@ -21,7 +21,7 @@ returns-in-Ok-judge_trees-clause-sound c =
     let set = c.args.set.now in
     let what = c.args.what.now in
     let new = c.in_ok-plan.plan.after in
-    let none : removal_fault what (node_of events c.in-Ok.commit).ops ≡ None = ap (removal_fault what) (sym c.ops_of.ensures) ∙ sym c.in_ok-found.ensures ∙ c.in_default.is in
+    let none : removal_fault what (node_of events c.in-Ok.commit).ops ≡ None = ap (removal_fault what) (sym c.ops_of.ensures.node) ∙ sym c.in_ok-found.ensures ∙ c.in_default.is in
     c.a_change_keeps_soundness.ensures.remove what set events new c.count-count.ensures.sound
     (removed_of set events what c.in-Ok.commit (Ok new) c.in-Ok.ensures none
     (ap (λ (es : List PlainEvent). unless_fault (tree_fault es) es) (sym c.in_ok-plan.ensures.after) ∙ c.in-Ok-judge_trees.ensures.judged))

@@ -10,13 +10,13 @@ use Rattle.reparent_rebase.proofs.Rewritten.{ops_given}
 use Rattle.reparent_rebase.proofs.removing.removed.Goals as goal
 
 pub ops_without-requires : goal.ops_without-requires
-ops_without-requires c = ap (removal_fault c.args.what.now) c.ops_of.ensures ∙ c.requires
+ops_without-requires c = ap (removal_fault c.args.what.now) c.ops_of.ensures.node ∙ c.requires
 
 pub returns-clause-after : goal.returns-clause-after
 returns-clause-after c =
     let events = c.args.events.now.list in
     let what = c.args.what.now in
-    let ops : c.in_ok-ops.ops ≡ ops_without what (node_of events c.args.commit).ops = c.in_ok-ops.ensures ∙ ap (ops_without what) c.ops_of.ensures in
+    let ops : c.in_ok-ops.ops ≡ ops_without what (node_of events c.args.commit).ops = c.in_ok-ops.ensures ∙ ap (ops_without what) c.ops_of.ensures.node in
     let after : c.give_ops.new.plan.after ≡ rewritten_all c.args.commit (removes what) events =
     ap (λ (p : Change). p.after) c.in_ok-give_ops.ensures
     ∙ (λ i. changed (any.Commit c.args.commit) (with_ops (ops i)) (c.in_ok-plan.ensures.after i))

@@ -11,7 +11,7 @@ use Rattle.commit_laws.specs.Rewriting.{rewritten_all}
 use Rattle.commit_laws.proofs.Rewritten.{once_same}
 use Rattle.reparent_laws.specs.Reparent.{reparents}
 use Rattle.reparent_rebase.proofs.Descending.{found_among}
-use Rattle.reparent_rebase.proofs.Settling.{settled_linked}
+use Rattle.plan_steps.proofs.Settling.{settled_linked}
 use Rattle.reparent_rebase.proofs.reparenting.reparent_commit.Goals as goal
 
 pub commit_mark-mark-requires : goal.commit_mark-mark-requires

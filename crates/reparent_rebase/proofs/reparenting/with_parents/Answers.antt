@@ -8,14 +8,14 @@ use Rattle.commit_laws.specs.Selected.{node_of}
 use Rattle.reparent_laws.specs.Reparent.{have_same_first, reparents}
 use Rattle.reparent_laws.specs.WrittenOut.{written_out}
 use Rattle.reparent_rebase.proofs.Answered.{ops_stay, tree_written}
-use Rattle.reparent_rebase.proofs.Nodes.{parents_there}
+use Rattle.plan_steps.proofs.Nodes.{parents_there}
 use Rattle.reparent_rebase.proofs.Rewritten.{both_given, parents_given}
 use Rattle.reparent_rebase.proofs.reparenting.with_parents.Goals as goal
 use Rattle.reparent_rebase.proofs.reparenting.with_parents.Goals.{then-rebase-via-then-rebase, then-rebase-via-else-rebase+then-have_same_first}
 
 pub written_out-requires-clause-there : goal.written_out-requires-clause-there
 written_out-requires-clause-there c =
-    subst (AllByRecursion (IsCommitOf c.args.events.now.list)) (sym c.parents_of-old.ensures) (parents_there c.args.events.now.list c.count-count.ensures.sound c.args.commit)
+    subst (AllByRecursion (IsCommitOf c.args.events.now.list)) (sym c.parents_of-old.ensures.node) (parents_there c.args.events.now.list c.count-count.ensures.sound c.args.commit)
 
 pub returns-then-rebase-clause-after : goal.returns-then-rebase-clause-after
 returns-then-rebase-clause-after c =
@@ -24,7 +24,7 @@ returns-then-rebase-clause-after c =
     let new = c.args.parents.now in
     let rebase = c.args.rebase in
     let own = node_of events commit in
-    let old : c.parents_of-old.result.now ≡ own.parents = c.parents_of-old.ensures in
+    let old : c.parents_of-old.result.now ≡ own.parents = c.parents_of-old.ensures.node in
     let stay : (rebase ≡ true) ⊎ (have_same_first own.parents new ≡ true) = elim c.then-rebase.branch [
       | then-rebase-via-then-rebase w ↦ inl w.if-rebase.true
       | then-rebase-via-else-rebase+then-have_same_first w ↦ inr (ap (λ (ps : List ℕ). have_same_first ps new) (sym old) ∙ sym w.have_same_first.ensures ∙ w.if-have_same_first.true)
@@ -41,8 +41,8 @@ returns-clause-after c =
     let rebase = c.args.rebase in
     let own = node_of events commit in
     let how = reparents rebase events new in
-    let old : c.parents_of-old.result.now ≡ own.parents = c.parents_of-old.ensures in
-    let its : c.ops_of.result.now ≡ own.ops = c.ops_of.ensures in
+    let old : c.parents_of-old.result.now ≡ own.parents = c.parents_of-old.ensures.node in
+    let its : c.ops_of.result.now ≡ own.ops = c.ops_of.ensures.node in
     let other = ap (λ (ps : List ℕ). have_same_first ps new) (sym old) ∙ sym c.have_same_first.ensures ∙ c.if-have_same_first.false in
     let ops : c.in_ok-ops.ops ≡ how.ops own.parents own.ops =
     c.in_ok-ops.ensures.made ∙ (λ i. written_out events (old i) (its i)) ∙ sym (tree_written rebase events commit new own.parents own.ops c.if-rebase.false other) in

@@ -5,7 +5,7 @@ use Rattle.plain_model.specs.declared.id.AnyId.TheVariants as any
 use Rattle.event_arena.specs.Changes.{with_parents}
 use Rattle.split_laws.specs.Split.{onto}
 use Rattle.split_reorder.proofs.Halving.{unmoved}
-use Rattle.split_reorder.proofs.Steps.{kept}
+use Rattle.plan_steps.proofs.Steps.{kept}
 use Rattle.split_reorder.proofs.onto.move_child.Goals as goal
 
 pub returns-then-not-contains : goal.returns-then-not-contains

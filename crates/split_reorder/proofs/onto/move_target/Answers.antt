@@ -4,7 +4,7 @@ use Rattle.std.proofs.lemmas.Bool.{cond-false, not-true}
 use Rattle.plain_model.specs.Lookups.{find_event}
 use Rattle.event_arena.specs.Changes.{with_target}
 use Rattle.split_laws.specs.Split.{onto}
-use Rattle.split_reorder.proofs.Steps.{kept}
+use Rattle.plan_steps.proofs.Steps.{kept}
 use Rattle.split_reorder.proofs.onto.move_target.Goals as goal
 
 pub returns-then-ne : goal.returns-then-ne

@@ -6,7 +6,7 @@ use Rattle.event_arena.specs.Graphs.{Change}
 use Rattle.event_arena.proofs.SoundLemmas.{sound-once}
 use Rattle.split_reorder.specs.Copies.{put_onto}
 use Rattle.split_reorder.proofs.Halving.{onto_id}
-use Rattle.split_reorder.proofs.Steps.{step_changed, step_found}
+use Rattle.plan_steps.proofs.Steps.{step_changed, step_found}
 use Rattle.split_reorder.proofs.onto.put_all_onto.Goals as goal
 
 pub put_onto-requires : goal.put_onto-requires

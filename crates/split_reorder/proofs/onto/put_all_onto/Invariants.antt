@@ -1,6 +1,6 @@
 use Rattle.std.proofs.Common.{◌≡◌}
 use Rattle.split_reorder.specs.Copies.{put_onto}
-use Rattle.split_reorder.proofs.Steps.{so_far}
+use Rattle.plan_steps.proofs.Steps.{so_far}
 use Rattle.split_reorder.proofs.onto.put_all_onto.Given as goal
 
 abbrev pub invariant-loop-place : goal.invariant-loop-place

@@ -22,7 +22,7 @@ loop-commit-preserved c =
     let given : c.in_ok-of-2.field-0 ≡ last_of first so_far ∷ [] = c.in_ok-of-2.ensures ∙ ap (λ b. b ∷ []) v.before in
     rw add-one (record {
       before = sym (ap (last_of first) more ∙ last_push first so_far x);
-      plan = c.in_ok-give-2.ensures
+      plan = c.in_ok-give_parents-2.ensures
           ∙ ap (λ (p : Change). record p { after = changed (any.Commit x) (with_parents c.in_ok-of-2.field-0) p.after }) v.plan
           ∙ ap (λ (es : List PlainEvent). record start { after = es })
           (ap (λ ps. changed (any.Commit x) (with_parents ps) (with_all (lined_up parents (first ∷ so_far)) start.after)) given

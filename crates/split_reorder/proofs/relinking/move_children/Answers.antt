@@ -19,10 +19,10 @@ loop-child-preserved c =
     let v = c.loop-child.invariant in
     let to = instead c.args.old c.args.new in
     let before = moved_parents events c.args.old c.args.new so_far in
-    let given : c.in_ok-parents.parents ≡ map to (node_of events x).parents = c.in_ok-parents.ensures ∙ ap (map to) c.parents_of.ensures in
+    let given : c.in_ok-parents.parents ≡ map to (node_of events x).parents = c.in_ok-parents.ensures ∙ ap (map to) c.parents_of.ensures.node in
     record {
       items = append_assoc so_far (x ∷ []) c.next.new.self ∙ ap (λ l. so_far ++ l) (sym c.in-Some.ensures.steps) ∙ v.items;
-      plan = c.in_ok-give.ensures
+      plan = c.in_ok-give_parents.ensures
           ∙ ap (λ (p : Change). record p { after = changed (any.Commit x) (with_parents c.in_ok-parents.parents) p.after }) v.plan
           ∙ ap (λ (es : List PlainEvent). record start { after = es })
           (ap (λ ps. changed (any.Commit x) (with_parents ps) (with_all before start.after)) given

@@ -6,7 +6,7 @@ use Rattle.commit_laws.specs.Selected.{node_of}
 use Rattle.reorder_laws.specs.Reorder.{last_of, lined_up}
 use Rattle.split_reorder.specs.Parents.{moved_parents, with_all}
 use Rattle.split_reorder.proofs.Relinked.{all_relinked}
-use Rattle.split_reorder.proofs.Steps.{on_ok}
+use Rattle.plan_steps.proofs.Steps.{on_ok}
 use Rattle.split_reorder.proofs.relinking.relink.Goals as goal
 
 pub returns : goal.returns
@@ -16,7 +16,7 @@ returns c =
     let line = c.args.head ∷ c.args.tail.now in
     let old : c.last_of-old.result ≡ last_of c.args.first c.args.rest.now = c.last_of-old.ensures in
     let new : c.last_of-new.result ≡ last_of c.args.head c.args.tail.now = c.last_of-new.ensures in
-    let first : c.parents_of.result.now ≡ (node_of events c.args.first).parents = c.parents_of.ensures in
+    let first : c.parents_of.result.now ≡ (node_of events c.args.first).parents = c.parents_of.ensures.node in
     let after : plan.after ≡ events = c.requires.after in
     on_ok c.line_up.result _ _ (λ is.
     is ∙ ap (λ (p : Change). record p { after = with_all (lined_up c.parents_of.result.now line) p.after }) c.in_ok-move_children.ensures

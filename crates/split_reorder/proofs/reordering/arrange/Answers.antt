@@ -9,7 +9,7 @@ use Rattle.commit_laws.proofs.Selections.{chosen_distinct}
 use Rattle.reorder_laws.specs.Reorder.{relinked_all}
 use Rattle.split_reorder.specs.Ordered.{ordered}
 use Rattle.split_reorder.proofs.Arranged.{order_permutes, order_puts}
-use Rattle.split_reorder.proofs.Steps.{on_ok}
+use Rattle.plan_steps.proofs.Steps.{on_ok}
 use Rattle.split_reorder.proofs.reordering.arrange.Goals as goal
 
 pub relink-requires-clause-once : goal.relink-requires-clause-once

@@ -14,8 +14,8 @@ use Rattle.event_arena.proofs.SpentLemmas.{adds-changed, find-id}
 use Rattle.manifest_cache.specs.Walks.{event_ops}
 use Rattle.split_reorder.specs.Copies.{put_onto}
 use Rattle.split_reorder.proofs.Halving.{cut_found, onto_id}
-use Rattle.split_reorder.proofs.Nodes.{found_node, only_commits}
-use Rattle.split_reorder.proofs.Steps.{found_mapped, on_ok, still_there}
+use Rattle.plan_steps.proofs.Nodes.{found_node, only_commits}
+use Rattle.plan_steps.proofs.Steps.{found_mapped, on_ok, still_there}
 use Rattle.split_reorder.proofs.splitting.cut.Goals as goal
 
 pub unreachable-requires : goal.unreachable-requires

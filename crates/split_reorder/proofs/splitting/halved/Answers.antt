@@ -4,7 +4,7 @@ use Rattle.plain_model.specs.Lookups.{find_event}
 use Rattle.event_arena.specs.Graphs.{Change}
 use Rattle.split_reorder.specs.Copies.{put_onto}
 use Rattle.split_reorder.proofs.Halving.{never_given, onto_id}
-use Rattle.split_reorder.proofs.Steps.{absent_mapped}
+use Rattle.plan_steps.proofs.Steps.{absent_mapped}
 use Rattle.split_reorder.proofs.splitting.halved.Goals as goal
 
 pub cut-requires-clause-unknown : goal.cut-requires-clause-unknown

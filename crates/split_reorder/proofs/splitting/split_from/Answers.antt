@@ -5,14 +5,14 @@ use Rattle.plain_model.specs.declared.operation.FileOp.{FileOp}
 use Rattle.edit_laws.specs.Passing.{limit_fault}
 use Rattle.event_arena.proofs.SoundLemmas.{has_id-find}
 use Rattle.split_reorder.proofs.Halving.{never_given}
-use Rattle.split_reorder.proofs.Nodes.{there_with_ops}
+use Rattle.plan_steps.proofs.Nodes.{there_with_ops}
 use Rattle.split_reorder.proofs.SplitDone.{split_done}
 use Rattle.split_reorder.proofs.splitting.split_from.Goals as goal
 
 pub halved-requires-clause-there : goal.halved-requires-clause-there
 halved-requires-clause-there c =
     let low = c.if-number-lt2.false in
-    let high = subst (λ (ops : List FileOp). c.args.number ≤ length ops) c.ops_of.ensures c.if-ops_of-number.false in
+    let high = subst (λ (ops : List FileOp). c.args.number ≤ length ops) c.ops_of.ensures.node c.if-ops_of-number.false in
     there_with_ops c.args.events.now.list c.args.commit (omega arith)
 
 pub returns-clause-sound : goal.returns-clause-sound
@@ -20,7 +20,7 @@ returns-clause-sound c =
     let events = c.args.events.now.list in
     let copy = c.args.events.now.next_id in
     let low = c.if-number-lt2.false in
-    let high = subst (λ (ops : List FileOp). c.args.number ≤ length ops) c.ops_of.ensures c.if-ops_of-number.false in
+    let high = subst (λ (ops : List FileOp). c.args.number ≤ length ops) c.ops_of.ensures.node c.if-ops_of-number.false in
     let there = there_with_ops events c.args.commit (omega arith) in
     let fresh = ap is_some (never_given copy events c.next_id-next.ensures.spent) in
     let within = ap limit_fault (sym c.in_ok-plan.ensures.after) ∙ sym c.limit_passed.ensures ∙ c.in_default-limit_passed.is in

@@ -1,0 +1,4 @@
+pub mod Along
+pub mod Nodes
+pub mod Settling
+pub mod Steps

@@ -1,0 +1,162 @@
+-- How the list of a plan goes on, while one event after another becomes what it becomes.
+use Rattle.std.proofs.Common.{◌≡◌, ◌∙◌, ℕ, zero, suc, ◌≤◌, inl, inr, List, [], ◌∷◌, ◌++◌, Option, Some, None, refl, sym, ap, subst, length, take, drop, map, arith, append_assoc, append-nil}
+use Rattle.std.proofs.lemmas.Bool.{cases_Bool}
+use Rattle.std.proofs.lemmas.List.{take-append-drop}
+use Rattle.std.proofs.lemmas.Option.{none-some, same_Some}
+use Rattle.std.specs.Prelude.{Result, Ok, Err, slice_get, is_some, IfSome, OnOk}
+use Rattle.plain_model.specs.declared.id.AnyId.{AnyId}
+use Rattle.plain_model.specs.declared.event.PlainEvent.{PlainEvent}
+use Rattle.plain_model.specs.Lookups.{find_event, id_of, same_id}
+use Rattle.history_laws.proofs.Ids.{same_id-refl}
+use Rattle.event_arena.specs.Changes.{changed}
+use Rattle.event_arena.specs.Graphs.{Change}
+use Rattle.event_arena.specs.Once.{AreDistinct}
+use Rattle.event_arena.proofs.ListLemmas.{drop-item, take-all, take-item}
+use Rattle.event_arena.proofs.OnceLemmas.{distinct-absent}
+use Rattle.event_arena.proofs.SpentLemmas.{absent-cons, cons-absent}
+
+-- ---- changes of one event
+
+-- what holds of the event that is found
+pub found_holds : (o : Option PlainEvent) (e : PlainEvent) (P : PlainEvent → Type 0) → o ≡ Some e → P e → IfSome o P
+found_holds None e P is h = tt
+found_holds (Some x) e P is h = subst P (sym (same_Some x e is)) h
+
+-- two changes that are one for the event that is found
+pub changed_alike : (id : AnyId) (f g : PlainEvent → PlainEvent) (es : List PlainEvent) → IfSome (find_event id es) (λ e. f e ≡ g e) → changed id f es ≡ changed id g es
+changed_alike id f g [] h = refl
+changed_alike id f g (x ∷ es) h = elim (cases_Bool (same_id id (id_of x))) [
+  | inl it ↦ rw it (ap (λ y. y ∷ es) (rw it at h))
+  | inr no_it ↦ rw no_it (ap (λ ys. x ∷ ys) (changed_alike id f g es (rw no_it at h)))
+]
+
+-- one that leaves it as it is
+pub changed_same : (id : AnyId) (f : PlainEvent → PlainEvent) (es : List PlainEvent) → IfSome (find_event id es) (λ e. f e ≡ e) → changed id f es ≡ es
+changed_same id f [] h = refl
+changed_same id f (x ∷ es) h = elim (cases_Bool (same_id id (id_of x))) [
+  | inl it ↦ rw it (ap (λ y. y ∷ es) (rw it at h))
+  | inr no_it ↦ rw no_it (ap (λ ys. x ∷ ys) (changed_same id f es (rw no_it at h)))
+]
+
+-- a plan in which nothing changes
+pub kept : (plan : Change) (id : AnyId) (f : PlainEvent → PlainEvent) → IfSome (find_event id plan.after) (λ e. f e ≡ e) →
+    plan ≡ record plan { after = changed id f plan.after }
+kept plan id f h = ap (λ (es : List PlainEvent). record plan { after = es }) (sym (changed_same id f plan.after h))
+
+-- an event that is there is there after a change that keeps ids
+pub still_there : (x : AnyId) (f : PlainEvent → PlainEvent) → ((e : PlainEvent) → id_of (f e) ≡ id_of e) → (es : List PlainEvent) (id : AnyId) →
+    is_some (find_event id (changed x f es)) ≡ is_some (find_event id es)
+still_there x f same [] id = refl
+still_there x f same (e ∷ es) id = elim (cases_Bool (same_id x (id_of e))) [
+  | inl it ↦ rw it (elim (cases_Bool (same_id id (id_of e))) [ inl own ↦ rw (same e, own) refl | inr other ↦ rw (same e, other) refl ])
+  | inr no_it ↦ rw no_it (elim (cases_Bool (same_id id (id_of e))) [ inl own ↦ rw own refl | inr other ↦ rw other (still_there x f same es id) ])
+]
+
+-- an event that isn't there can't be changed
+pub changed_nowhere : (id : AnyId) (f : PlainEvent → PlainEvent) (es : List PlainEvent) → find_event id es ≡ None → changed id f es ≡ es
+changed_nowhere id f [] h = refl
+changed_nowhere id f (e ∷ es) h =
+    let rest = absent-cons id e es h in
+    rw rest.0 (ap (λ ys. e ∷ ys) (changed_nowhere id f es rest.1))
+
+-- ---- an event between others
+
+-- it is found after events that have another id
+find_after : (xs ys : List PlainEvent) (e : PlainEvent) → find_event (id_of e) xs ≡ None → find_event (id_of e) (xs ++ e ∷ ys) ≡ Some e
+find_after [] ys e h = rw same_id-refl refl
+find_after (x ∷ xs) ys e h =
+    let rest = absent-cons (id_of e) x xs h in
+    rw rest.0 (find_after xs ys e rest.1)
+
+-- and changed there
+changed_after : (f : PlainEvent → PlainEvent) (xs ys : List PlainEvent) (e : PlainEvent) → find_event (id_of e) xs ≡ None →
+    changed (id_of e) f (xs ++ e ∷ ys) ≡ xs ++ f e ∷ ys
+changed_after f [] ys e h = rw same_id-refl refl
+changed_after f (x ∷ xs) ys e h =
+    let rest = absent-cons (id_of e) x xs h in
+    rw rest.0 (ap (λ zs. x ∷ zs) (changed_after f xs ys e rest.1))
+
+map_push : (g : PlainEvent → PlainEvent) (xs : List PlainEvent) (e : PlainEvent) → map g (xs ++ e ∷ []) ≡ map g xs ++ g e ∷ []
+map_push g [] e = refl
+map_push g (x ∷ xs) e = ap (λ zs. g x ∷ zs) (map_push g xs e)
+
+none_left : (k : ℕ) (xs : List PlainEvent) → length xs ≤ k → drop k xs ≡ []
+none_left zero [] h = refl
+none_left (suc k) [] h = refl
+none_left zero (x ∷ xs) h = absurd (omega arith)
+none_left (suc k) (x ∷ xs) h = none_left k xs (omega arith)
+
+-- what is at a place afterwards
+pub item_map : (g : PlainEvent → PlainEvent) (es : List PlainEvent) (k : ℕ) (e : PlainEvent) → slice_get es k ≡ Some e → slice_get (map g es) k ≡ Some (g e)
+item_map g [] k e at = absurd (none-some e at)
+item_map g (x ∷ es) zero e at = ap (λ y. Some (g y)) (same_Some x e at)
+item_map g (x ∷ es) (suc k) e at = item_map g es k e at
+
+-- ---- events of which the first have become what they become
+
+module _ (g : PlainEvent → PlainEvent) where
+  abbrev pub so_far : ℕ → List PlainEvent → List PlainEvent
+  so_far k events = map g (take k events) ++ drop k events
+
+  -- all of them
+  pub so_far_all : (k : ℕ) (events : List PlainEvent) → length events ≤ k → so_far k events ≡ map g events
+  so_far_all k events h =
+      ap (λ (xs : List PlainEvent). map g xs ++ drop k events) (take-all events k h)
+      ∙ ap (λ (ys : List PlainEvent). map g events ++ ys) (none_left k events h)
+      ∙ append-nil (map g events)
+
+  module _ (same : (e : PlainEvent) → id_of (g e) ≡ id_of e) where
+    -- what isn't there isn't there afterwards
+    pub absent_mapped : (id : AnyId) (es : List PlainEvent) → find_event id es ≡ None → find_event id (map g es) ≡ None
+    absent_mapped id [] h = refl
+    absent_mapped id (x ∷ es) h =
+        let rest = absent-cons id x es h in
+        cons-absent id (g x) (map g es) (ap (same_id id) (same x) ∙ rest.0) (absent_mapped id es rest.1)
+
+    -- and what is there is
+    pub found_mapped : (id : AnyId) (es : List PlainEvent) → is_some (find_event id (map g es)) ≡ is_some (find_event id es)
+    found_mapped id [] = refl
+    found_mapped id (x ∷ es) = elim (cases_Bool (same_id id (id_of x))) [
+      | inl it ↦ rw (same x, it) refl
+      | inr no_it ↦ rw (same x, no_it) (found_mapped id es)
+    ]
+
+    module _ (events : List PlainEvent) (once : AreDistinct events) (k : ℕ) (e : PlainEvent) (is : slice_get events k ≡ Some e) where
+      absent : find_event (id_of e) (map g (take k events)) ≡ None
+      absent =
+          let parts : events ≡ take k events ++ e ∷ drop (suc k) events =
+          sym (take-append-drop k events) ∙ ap (λ (ys : List PlainEvent). take k events ++ ys) (drop-item events k e is) in
+          absent_mapped (id_of e) (take k events) (distinct-absent (take k events) (drop (suc k) events) e (subst AreDistinct parts once))
+
+      -- the next one is found
+      pub step_found : find_event (id_of e) (so_far k events) ≡ Some e
+      step_found =
+          ap (λ (ys : List PlainEvent). find_event (id_of e) (map g (take k events) ++ ys)) (drop-item events k e is)
+          ∙ find_after (map g (take k events)) (drop (suc k) events) e absent
+
+      -- and changed
+      pub step_changed : changed (id_of e) g (so_far k events) ≡ so_far (suc k) events
+      step_changed =
+          ap (λ (ys : List PlainEvent). changed (id_of e) g (map g (take k events) ++ ys)) (drop-item events k e is)
+          ∙ changed_after g (map g (take k events)) (drop (suc k) events) e absent
+          ∙ sym (append_assoc (map g (take k events)) (g e ∷ []) (drop (suc k) events))
+          ∙ ap (λ (xs : List PlainEvent). xs ++ drop (suc k) events) (sym (map_push g (take k events) e) ∙ ap (map g) (sym (take-item events k e is)))
+
+-- ---- facts of calls
+
+pub on_ok : {T E : Type 0} (r : Result T E) (P Q : Type 0) → (P → Q) → OnOk r P → OnOk r Q
+on_ok (Ok x) P Q f h = f h
+on_ok (Err e) P Q f h = tt
+
+-- the event that is found is this one, which two changes make the same
+pub alike_of : (es : List PlainEvent) (event e : PlainEvent) (f g : PlainEvent → PlainEvent) → event ≡ e → find_event (id_of event) es ≡ Some event → f e ≡ g e →
+    changed (id_of e) f es ≡ changed (id_of event) g es
+alike_of es event e f g is there same =
+    let found = subst (λ x. find_event (id_of x) es ≡ Some x) is there in
+    changed_alike (id_of e) f g es (found_holds (find_event (id_of e) es) e (λ x. f x ≡ g x) found same) ∙ ap (λ x. changed (id_of x) g es) (sym is)
+
+-- or one leaves as it is
+pub kept_of : (plan : Change) (event e : PlainEvent) (g : PlainEvent → PlainEvent) → event ≡ e → find_event (id_of event) plan.after ≡ Some event → g e ≡ e →
+    plan ≡ record plan { after = changed (id_of event) g plan.after }
+kept_of plan event e g is there same =
+    kept plan (id_of event) g (found_holds (find_event (id_of event) plan.after) event (λ x. g x ≡ x) there (subst (λ x. g x ≡ x) (sym is) same))
