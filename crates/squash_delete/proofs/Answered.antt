@@ -1,6 +1,15 @@
 -- What the steps of a squash answer is what is specified.
-use Rattle.std.proofs.Common.{◌≡◌, ◌∙◌, ℕ, Bool, true, false, cond, not, List, [], ◌∷◌, Option, Some, None, Result, Ok, Err, refl, sym, ap, subst, suc, ◌≤◌, ◌<◌, filter, arith, length-append, map}
-use Rattle.std.specs.Prelude.{nat_lt, length}
+use Rattle.std.proofs.Common.{◌≡◌, ◌∙◌, ℕ, zero, Bool, true, false, cond, not, inl, inr, List, [], ◌∷◌, ◌++◌, flat_map, Option, Some, None, Result, Ok, Err, refl, sym, ap, subst, suc, ◌≤◌, ◌<◌, filter, arith, length-append, map, true≢false}
+use Rattle.std.specs.List.{list_any}
+use Rattle.std.specs.Prelude.{is_some, nat_lt, option_and_then, length, slice_get}
+use Rattle.std.proofs.lemmas.Bool.{cases_Bool, or_left, or_right}
+use Rattle.std.proofs.lemmas.Grind.{flat_map-append}
+use Rattle.std.proofs.lemmas.List.Folds.{list_any-append}
+use Rattle.std.proofs.lemmas.Option.{none-some, same_Some}
+use Rattle.plain_model.specs.Lookups.{is_listed, op_blobs, same_id}
+use Rattle.plain_model.specs.declared.operation.FileOp.{FileOp}
+use Rattle.edit_laws.specs.Removal.{expand_all}
+use Rattle.squash_delete.specs.Flags.{KeepNames, event_blobs}
 use Rattle.plain_model.specs.declared.id.AnyId.{AnyId}
 use Rattle.plain_model.specs.declared.fault.Fault.{Fault}
 use Rattle.plain_model.specs.declared.fault.Fault.TheVariants as fault
@@ -25,21 +34,24 @@ use Rattle.plain_model.specs.Faults.{Returns}
 use Rattle.graph_walk.specs.Outcome.{IsCauseOf}
 use Rattle.manifest_cache.specs.Checking.{unless}
 use Rattle.squash_laws.specs.Faults.{checked_after, fault_before, squash_of, trees_checked}
-use Rattle.squash_laws.specs.Removed.{Takings, without_set}
-use Rattle.squash_laws.specs.Squash.{squashed, takes}
+use Rattle.squash_laws.specs.Removed.{Takings, is_removed, without_set}
+use Rattle.squash_laws.specs.Squash.{anew, hanging, links, moved, ops_after, squashed, takes}
+use Rattle.squash_laws.specs.declared.policy.Lean.{Lean}
 use Rattle.squash_laws.specs.declared.policy.Push.{Push}
+use Rattle.squash_laws.specs.declared.policy.Push.TheVariants as push
 use Rattle.squash_laws.specs.declared.policy.Policy.{Policy}
 use Rattle.squash_laws.proofs.Squashed.{squash_ends, squash_settles}
 use Rattle.squash_delete.specs.Judged.{IsLeft, IsLeftOf, ParentsAre, judged, limit_passed}
 use Rattle.squash_delete.specs.Leaving.{event_after, goes, staying, with_takings}
 use Rattle.squash_delete.specs.Sources.{count_ops}
-use Rattle.squash_delete.specs.Targets.{AreTargets, target_for}
+use Rattle.squash_delete.specs.Targets.{AreMoves, AreTargets, discarded, lost_target, moving, target_for}
 use Rattle.squash_delete.specs.declared.counting.Left.{Left}
 use Rattle.squash_delete.specs.declared.counting.Left.TheVariants.{All, ManyOperations}
-use Rattle.plan_limits.proofs.Counting.{more_than}
+use Rattle.plan_limits.proofs.Counting.{any_item, more_than}
 use Rattle.edit_laws.proofs.Limits.{not_many}
 use Rattle.squash_delete.proofs.JudgedLemmas.{judged_alike}
 use Rattle.squash_delete.proofs.LeavingLemmas.{left_staying}
+use Rattle.squash_delete.proofs.NearLemmas.{lost_is}
 use Rattle.squash_delete.specs.Tables.{IsTableTo}
 use Rattle.squash_delete.proofs.Tables.{table_all}
 
@@ -159,6 +171,43 @@ targets_all goes_to events k table all t =
     let whole = table_all None (TargetIs goes_to) events k table all t in
     record { count = whole.count; target = whole.entry }
 
+-- the entry of a tag or a reset on a removed commit is where it moves
+abbrev pub MoveIs : List AnyId → (ℕ → Option ℕ) → PlainEvent → Option ℕ → Type 0
+MoveIs set goes_to e x = x ≡ option_and_then goes_to (lost_target set e)
+
+-- where all have theirs, and the others stay
+pub moves_all : (set : List AnyId) (events : List PlainEvent) (tags : Lean) (k : ℕ) (table : List (Option ℕ)) → k ≡ length events →
+    IsTableTo None (MoveIs set (moved set events tags)) events k table → AreMoves set (moving set events tags) events table
+moves_all set events tags k table all t = record {
+  target = λ j c e at on.
+      (table_all None (MoveIs set (moved set events tags)) events k table all t).entry j e at ∙ ap (option_and_then (moved set events tags)) on
+      ∙ sym (ap (λ b. cond b (moved set events tags c) (Some c)) (lost_is set c e on).1);
+  stays = λ c kept. ap (λ b. cond b (moved set events tags c) (Some c)) kept;
+}
+
+-- where none is on a removed commit
+pub moves_none : (set : List AnyId) (events : List PlainEvent) (tags : Lean) → list_any (λ e. is_some (lost_target set e)) events ≡ false →
+    AreMoves set (moving set events tags) events []
+moves_none set events tags none = record {
+  target = λ j c e at on. absurd (true≢false (sym (any_item (λ x. is_some (lost_target set x)) events j e at (ap is_some on)) ∙ none));
+  stays = λ c kept. ap (λ b. cond b (moved set events tags c) (Some c)) kept;
+}
+
+-- where they go with their commits
+pub moves_kept : (set : List AnyId) (events : List PlainEvent) → AreMoves set (discarded set) events []
+moves_kept set events = record {
+  target = λ j c e at on. sym (ap (λ b. cond b None (Some c)) (lost_is set c e on).1);
+  stays = λ c kept. ap (λ b. cond b None (Some c)) kept;
+}
+
+-- a table of moves is one of those that go to the same
+pub same_moves : (set : List AnyId) (f g : ℕ → Option ℕ) → ((c : ℕ) → f c ≡ g c) → (events : List PlainEvent) (table : List (Option ℕ)) →
+    AreMoves set f events table → AreMoves set g events table
+same_moves set f g same events table t = record {
+  target = λ k c e at on. t.target k c e at on ∙ same c;
+  stays = λ c kept. sym (same c) ∙ t.stays c kept;
+}
+
 targets_alike : (f g : ℕ → Option ℕ) → ((c : ℕ) → f c ≡ g c) → (e : PlainEvent) → target_for f e ≡ target_for g e
 targets_alike f g same (Tag id name target tagger comment mark) = same target
 targets_alike f g same (Reset id branch (Some target)) = same target
@@ -176,6 +225,45 @@ same_targets f g same events table t = record {
 }
 
 -- ---- what is left
+
+any_kept : (test keep : PlainEvent → Bool) (f : PlainEvent → PlainEvent) (es : List PlainEvent) (k : ℕ) (e : PlainEvent) → slice_get es k ≡ Some e → keep e ≡ true → test (f e) ≡ true →
+    list_any test (map f (filter keep es)) ≡ true
+any_kept test keep f [] k e at stays it = absurd (none-some e at)
+any_kept test keep f (x ∷ es) zero e at stays it =
+    let is : x ≡ e = same_Some x e at in
+    ap (λ b. list_any test (map f (cond b (x ∷ filter keep es) (filter keep es)))) (ap keep is ∙ stays)
+    ∙ or_left (test (f x)) (list_any test (map f (filter keep es))) (ap (λ y. test (f y)) is ∙ it)
+any_kept test keep f (x ∷ es) (suc k) e at stays it = elim (cases_Bool (keep x)) [
+  | inl yes_it ↦ ap (λ b. list_any test (map f (cond b (x ∷ filter keep es) (filter keep es)))) yes_it ∙ or_right (test (f x)) (list_any test (map f (filter keep es))) (any_kept test keep f es k e at stays it)
+  | inr no_it ↦ ap (λ b. list_any test (map f (cond b (x ∷ filter keep es) (filter keep es)))) no_it ∙ any_kept test keep f es k e at stays it
+]
+
+listed_front : (id : AnyId) (xs ys : List FileOp) → is_listed id (flat_map op_blobs xs) ≡ true → is_listed id (flat_map op_blobs (xs ++ ys)) ≡ true
+listed_front id xs ys h =
+    ap (is_listed id) (flat_map-append op_blobs xs ys) ∙ list_any-append (same_id id) (flat_map op_blobs xs) (flat_map op_blobs ys)
+    ∙ or_left (is_listed id (flat_map op_blobs xs)) (is_listed id (flat_map op_blobs ys)) h
+
+listed_back : (id : AnyId) (xs ys : List FileOp) → is_listed id (flat_map op_blobs ys) ≡ true → is_listed id (flat_map op_blobs (xs ++ ys)) ≡ true
+listed_back id xs ys h =
+    ap (is_listed id) (flat_map-append op_blobs xs ys) ∙ list_any-append (same_id id) (flat_map op_blobs xs) (flat_map op_blobs ys)
+    ∙ or_right (is_listed id (flat_map op_blobs xs)) (is_listed id (flat_map op_blobs ys)) h
+
+-- commits that stay keep their own operations, whatever they take over, and so what these name
+pub keep_names : (set : List AnyId) (events : List PlainEvent) (par : List ℕ → List ℕ) (how : Policy) →
+    KeepNames set events (map (event_after par (takes set events how)) (staying set (takes set events how) events))
+keep_names set events par how k (Commit c mark branch author committer encoding comment parents ops aliases) id at out listed =
+    any_kept (λ e. is_listed id (event_blobs e)) (λ e. not (goes set (takes set events how) e)) (event_after par (takes set events how)) events k
+    (Commit c mark branch author committer encoding comment parents ops aliases) at (ap not out) (by how.push)
+  where
+    by : (to : Push) → is_listed id (flat_map op_blobs (ops_after set events to c parents ops)) ≡ true
+    by push.Forward = listed_back id (anew (links set events parents) (expand_all (is_removed set) (past events) parents)) (ops_along (links set events parents) ++ ops)
+        (listed_back id (ops_along (links set events parents)) ops listed)
+    by push.Back = listed_front id ops (ops_along (hanging set events c)) listed
+    by push.Discard = listed
+keep_names set events par how k (Blob n mark bytes) id at out listed = absurd (true≢false (sym listed))
+keep_names set events par how k (Tag n name target tagger comment mark) id at out listed = absurd (true≢false (sym listed))
+keep_names set events par how k (Reset n branch target) id at out listed = absurd (true≢false (sym listed))
+keep_names set events par how k (Pass n line) id at out listed = absurd (true≢false (sym listed))
 
 -- sweeping takes no operation away, nor does a move
 ops_swept : (old whole es : List PlainEvent) → count_ops (filter (λ e. not (is_left_over old whole e)) es) ≡ count_ops es

@@ -1,9 +1,9 @@
 -- Chains of removed commits by what is noted of each, and what they carry along.
 use Rattle.std.proofs.Common.{◌≡◌, ◌∙◌, ℕ, zero, suc, ◌+◌, ◌≤◌, Bool, true, false, cond, ◌||◌, ◌&&◌, inl, inr, ◌⊎◌, List, [], ◌∷◌, ◌++◌, Option, Some, None, refl, sym, ap, subst, length, take, reverse, arith, append-nil, append_assoc, true≢false, flat_map, map}
-use Rattle.std.proofs.lemmas.Bool.{and_parts}
+use Rattle.std.proofs.lemmas.Bool.{and_parts, or_parts}
 use Rattle.std.proofs.lemmas.List.{map-append, reverse-append}
 use Rattle.std.proofs.lemmas.Option.{none-some, same_Some}
-use Rattle.std.specs.List.{AllByRecursion, list_all}
+use Rattle.std.specs.List.{AllByRecursion, list_all, list_any}
 use Rattle.std.specs.Option.{option_map_or}
 use Rattle.std.specs.Prelude.{◌==◌, IsSome, is_some, option_map, slice_get, unwrap_or}
 use Rattle.plain_model.proofs.Numbers.{eqb_turned}
@@ -176,6 +176,11 @@ module _ (set : List AnyId) (events : List PlainEvent) where
   pub root_some : (p : ℕ) (ps : List ℕ) → slice_get ps 0 ≡ Some p → is_from_root (links set events (p ∷ [])) ≡ is_from_root (links set events ps)
   root_some p [] first = absurd (none-some p first)
   root_some p (q ∷ ps) first = ap is_from_root (ap (λ x. links set events (x ∷ [])) (sym (same_Some q p first)) ∙ sym (links_first q ps))
+
+  -- no removed commit is before one none of whose parents is removed
+  pub no_links : (parents : List ℕ) → list_any (is_removed set) parents ≡ false → links set events parents ≡ []
+  no_links [] apart = links_nil
+  no_links (p ∷ ps) apart = chain_none (is_removed set) (past events) p ps (or_parts (is_removed set p) (list_any (is_removed set) ps) apart).0
 
   -- ---- what is noted of a commit that stays
 

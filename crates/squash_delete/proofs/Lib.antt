@@ -4,8 +4,10 @@ pub mod HangLemmas
 pub mod JudgedLemmas
 pub mod LeavingLemmas
 pub mod MovingLemmas
+pub mod NearLemmas
 pub mod NodeLemmas
 pub mod Passes
+pub mod SettlingLemmas
 pub mod SweepLemmas
 pub mod Tables
 pub mod TakingLemmas

@@ -1,11 +1,11 @@
 -- How a plan goes on while commits take over what they do, and tags and resets move.
-use Rattle.std.proofs.Common.{◌≡◌, ◌∙◌, ℕ, zero, suc, ◌+◌, ◌≤◌, ◌<◌, Bool, true, false, cond, not, ◌||◌, ◌&&◌, List, [], ◌∷◌, ◌++◌, Option, Some, None, refl, sym, ap, subst, length, drop, map, filter, flat_map, append-nil, arith, true≢false, length-append}
+use Rattle.std.proofs.Common.{◌≡◌, ◌∙◌, ℕ, zero, suc, ◌+◌, ◌≤◌, ◌<◌, Bool, true, false, cond, not, ◌||◌, ◌&&◌, List, [], ◌∷◌, ◌++◌, Option, Some, None, refl, sym, ap, subst, length, drop, take, map, filter, flat_map, append-nil, arith, true≢false, length-append}
 use Rattle.std.proofs.lemmas.Bool.{and_parts}
 use Rattle.std.proofs.lemmas.Bool.Decides.{nat_tests}
 use Rattle.std.proofs.lemmas.Option.{none-some, same_Some}
-use Rattle.std.specs.List.{AllByRecursion}
+use Rattle.std.specs.List.{AllByRecursion, list_any}
 use Rattle.std.specs.Option.{option_map_or}
-use Rattle.std.specs.Prelude.{is_some, nat_le, nat_lt, slice_get, unwrap_or}
+use Rattle.std.specs.Prelude.{IsTrue, is_some, nat_le, slice_get, unwrap_or}
 use Rattle.plain_model.specs.declared.id.AnyId.{AnyId}
 use Rattle.plain_model.specs.declared.id.AnyId.TheVariants as any
 use Rattle.plain_model.specs.declared.operation.FileOp.{FileOp}
@@ -18,7 +18,7 @@ use Rattle.plain_model.specs.Lookups.{event_parents, id_of, is_listed}
 use Rattle.plain_model.specs.Paths.{Bytes}
 use Rattle.plain_model.specs.Soundness.{IsSound}
 use Rattle.history_laws.specs.FirstParents.{ops_along}
-use Rattle.event_arena.specs.Changes.{changed, with_comment, with_ops, with_target}
+use Rattle.event_arena.specs.Changes.{changed, has_target, with_comment, with_ops, with_target}
 use Rattle.event_arena.specs.Once.{AreDistinct}
 use Rattle.event_arena.proofs.ListLemmas.{drop-item, take-all}
 use Rattle.event_arena.proofs.SoundLemmas.{sound-once}
@@ -28,7 +28,7 @@ use Rattle.graph_walk.proofs.PlaceLemmas.{item_at, place_found}
 use Rattle.manifest_cache.specs.Walks.{commit_id, event_ops, ops_at}
 use Rattle.squash_laws.specs.Comments.{comment_of, joined}
 use Rattle.squash_laws.specs.Removed.{Takings, is_removed}
-use Rattle.squash_laws.specs.Squash.{back_of, hanging, is_from_root, is_it, is_none, links, takes}
+use Rattle.squash_laws.specs.Squash.{anew, back_of, comment_after, comments_of, hanging, is_from_root, is_it, is_none, links, takes}
 use Rattle.squash_laws.specs.declared.policy.Lean.{Lean}
 use Rattle.squash_laws.specs.declared.policy.Push.TheVariants as push
 use Rattle.squash_delete.specs.Chains.{Carry}
@@ -37,9 +37,34 @@ use Rattle.squash_delete.specs.Leaving.{event_after, goes, with_own_parents, wit
 use Rattle.squash_delete.specs.Passes.{moved_to, taken_to}
 use Rattle.squash_delete.specs.Sources.{count_ops}
 use Rattle.squash_delete.specs.Taking.{IsTakenBy, Taking, comment_taken, is_nothing, ops_taken}
-use Rattle.squash_delete.specs.Targets.{target_for}
+use Rattle.squash_delete.specs.Targets.{lost_target, target_for}
+use Rattle.plan_limits.proofs.Counting.{tally_item, tally_less}
+use Rattle.squash_delete.proofs.ChainLemmas.{no_links}
+use Rattle.squash_delete.proofs.NearLemmas.{kept_on, lost_is}
 use Rattle.squash_delete.proofs.LeavingLemmas.{after_id, own_parents_id, takings_id}
 use Rattle.squash_delete.proofs.Passes.{none_left, step_changed, step_gone, step_same}
+
+pub le_is : (a b : ℕ) → a ≡ b → a ≤ b
+le_is a b is = omega arith
+
+-- counted so far, or fewer
+module _ (f : PlainEvent → ℕ) (count : List PlainEvent → ℕ) (counted : (es : List PlainEvent) → tally f es ≡ count es) where
+  pub counted_more : (es : List PlainEvent) (k total more : ℕ) (e : PlainEvent) → slice_get es k ≡ Some e → total ≤ count (take k es) → more ≤ f e →
+      total + more ≤ count (take (suc k) es)
+  counted_more es k total more e at so_far own =
+      let item = tally_item f es k e at in
+      let old = counted (take k es) in
+      let new = counted (take (suc k) es) in
+      omega arith
+
+  pub counted_passed : (most : ℕ) (es : List PlainEvent) (k total more : ℕ) (e : PlainEvent) → slice_get es k ≡ Some e → total ≤ count (take k es) → more ≤ f e →
+      most < total + more → most < count es
+  counted_passed most es k total more e at so_far own passed =
+      let now = counted_more es k total more e at so_far own in
+      let new = counted (take (suc k) es) in
+      let less = tally_less f es (suc k) in
+      let whole = counted es in
+      omega arith
 
 -- ---- what a commit takes over
 
@@ -190,6 +215,21 @@ module _ (set : List AnyId) (events : List PlainEvent) (h : IsSound events) (par
 
   -- ---- tags and resets
 
+  -- those on a commit that stays
+  pub apart_moved : ((c : ℕ) → is_removed set c ≡ false → taking.target c ≡ Some c) → (k : ℕ) (e : PlainEvent) → slice_get events k ≡ Some e → lost_target set e ≡ None →
+      moved_to set par taking k events ≡ moved_to set par taking (suc k) events
+  apart_moved stays k (Tag id name target tagger comment mark) at none =
+      step_same keep has gets events k (Tag id name target tagger comment mark) at
+      (ap (λ x. Tag id name x tagger comment mark) (ap (λ o. unwrap_or o target) (stays target (kept_on set target (Tag id name target tagger comment mark) none refl))))
+  apart_moved stays k (Reset id branch (Some target)) at none =
+      step_same keep has gets events k (Reset id branch (Some target)) at
+      (ap (λ x. Reset id branch (Some x)) (ap (λ o. unwrap_or o target) (stays target (kept_on set target (Reset id branch (Some target)) none refl))))
+  apart_moved stays k (Reset id branch None) at none = step_same keep has gets events k (Reset id branch None) at refl
+  apart_moved stays k (Commit id mark branch author committer encoding comment parents ops aliases) at none =
+      step_same keep has gets events k (Commit id mark branch author committer encoding comment parents ops aliases) at refl
+  apart_moved stays k (Blob id mark bytes) at none = step_same keep has gets events k (Blob id mark bytes) at refl
+  apart_moved stays k (Pass id line) at none = step_same keep has gets events k (Pass id line) at refl
+
   -- those of the set, and what has no target
   pub gone_moved : (k : ℕ) (e : PlainEvent) → slice_get events k ≡ Some e → is_listed (id_of e) set ≡ true →
       moved_to set par taking k events ≡ moved_to set par taking (suc k) events
@@ -235,20 +275,6 @@ module _ (set : List AnyId) (events : List PlainEvent) (h : IsSound events) (par
   nowhere_moved k (Reset id branch None) at none = unmoved k (Reset id branch None) at refl
   nowhere_moved k (Pass id line) at none = unmoved k (Pass id line) at refl
 
-  -- those that go to where they are
-  pub still_there : (k t : ℕ) (e : PlainEvent) → slice_get events k ≡ Some e → target_for Some e ≡ Some t → target_for taking.target e ≡ Some t →
-      moved_to set par taking k events ≡ moved_to set par taking (suc k) events
-  still_there k t (Tag id name target tagger comment mark) at is to =
-      step_same keep has gets events k (Tag id name target tagger comment mark) at
-      (ap (λ x. Tag id name x tagger comment mark) (ap (λ o. unwrap_or o target) to ∙ sym (same_Some target t is)))
-  still_there k t (Reset id branch (Some target)) at is to =
-      step_same keep has gets events k (Reset id branch (Some target)) at
-      (ap (λ x. Reset id branch (Some x)) (ap (λ o. unwrap_or o target) to ∙ sym (same_Some target t is)))
-  still_there k t (Commit id mark branch author committer encoding comment parents ops aliases) at is to = absurd (none-some t is)
-  still_there k t (Blob id mark bytes) at is to = absurd (none-some t is)
-  still_there k t (Reset id branch None) at is to = absurd (none-some t is)
-  still_there k t (Pass id line) at is to = absurd (none-some t is)
-
   -- and those that move
   pub moved_there : (k old t : ℕ) (e : PlainEvent) → slice_get events k ≡ Some e → is_listed (id_of e) set ≡ false →
       target_for Some e ≡ Some old → target_for taking.target e ≡ Some t →
@@ -266,7 +292,55 @@ module _ (set : List AnyId) (events : List PlainEvent) (h : IsSound events) (par
   moved_there k old t (Reset id branch None) at listed is to = absurd (none-some old is)
   moved_there k old t (Pass id line) at listed is to = absurd (none-some old is)
 
+  -- where one of a removed commit goes
+  goes_to : (c : ℕ) (e : PlainEvent) → lost_target set e ≡ Some c → target_for taking.target e ≡ taking.target c
+  goes_to c e on = by e (lost_is set c e on).0
+    where
+      by : (e : PlainEvent) → target_for Some e ≡ Some c → target_for taking.target e ≡ taking.target c
+      by (Tag id name target tagger comment mark) is = ap taking.target (same_Some target c is)
+      by (Reset id branch (Some target)) is = ap taking.target (same_Some target c is)
+      by (Reset id branch None) is = absurd (none-some c is)
+      by (Commit id mark branch author committer encoding comment parents ops aliases) is = absurd (none-some c is)
+      by (Blob id mark bytes) is = absurd (none-some c is)
+      by (Pass id line) is = absurd (none-some c is)
+
+  pub nowhere_lost : (k c : ℕ) (e : PlainEvent) → slice_get events k ≡ Some e → lost_target set e ≡ Some c → taking.target c ≡ None →
+      moved_to set par taking k events ≡ moved_to set par taking (suc k) events
+  nowhere_lost k c e at on none = nowhere_moved k e at (goes_to c e on ∙ none)
+
+  pub lost_moved : (k c t : ℕ) (e : PlainEvent) → slice_get events k ≡ Some e → is_listed (id_of e) set ≡ false → lost_target set e ≡ Some c → taking.target c ≡ Some t →
+      changed (id_of e) (with_target t) (moved_to set par taking k events) ≡ moved_to set par taking (suc k) events
+  lost_moved k c t e at listed on to = moved_there k c t e at listed (lost_is set c e on).0 (goes_to c e on ∙ to)
+
+-- what has a target may have another
+pub target_id : (c : ℕ) (e : PlainEvent) → target_for Some e ≡ Some c → IsTrue (has_target (id_of e))
+target_id c (Tag id name target tagger comment mark) is = refl
+target_id c (Reset id branch target) is = refl
+target_id c (Commit id mark branch author committer encoding comment parents ops aliases) is = absurd (none-some c is)
+target_id c (Blob id mark bytes) is = absurd (none-some c is)
+target_id c (Pass id line) is = absurd (none-some c is)
+
 -- ---- what the sources have
+
+-- a commit none of whose parents is removed takes over nothing that is pushed forward
+pub apart_taken : (set : List AnyId) (events : List PlainEvent) (h : IsSound events) (par : List ℕ → List ℕ) (tags : Lean) (k : ℕ) (e : PlainEvent) →
+    slice_get events k ≡ Some e → list_any (is_removed set) (event_parents e) ≡ false →
+    taken_to set par (takes set events (record { push = push.Forward; tags = tags })) k events ≡ taken_to set par (takes set events (record { push = push.Forward; tags = tags })) (suc k) events
+apart_taken set events h par tags k (Commit id mark branch author committer encoding comment parents ops aliases) at apart =
+    let none = no_links set events parents apart in
+    step_same (λ e. not (goes set (takes set events (record { push = push.Forward; tags = tags })) e)) (with_own_parents par) (with_takings par (takes set events (record { push = push.Forward; tags = tags }))) events k
+    (Commit id mark branch author committer encoding comment parents ops aliases) at
+    (ap (λ (os : List FileOp). Commit id mark branch author committer encoding (comment_after set events push.Forward id parents comment) (par parents) os aliases)
+    (ap (λ ls. anew ls (expand_all (is_removed set) (past events) parents) ++ (ops_along ls ++ ops)) none)
+    ∙ ap (λ (x : Bytes). Commit id mark branch author committer encoding x (par parents) ops aliases) (ap (λ ls. joined (comments_of set events ls ++ comment ∷ [])) none ∙ alone comment))
+  where
+    alone : (own : Bytes) → joined (own ∷ []) ≡ own
+    alone [] = refl
+    alone (x ∷ own) = refl
+apart_taken set events h par tags k (Blob id mark bytes) at apart = (none_taken set events h par (takes set events (record { push = push.Forward; tags = tags })) k (Blob id mark bytes) at refl).0
+apart_taken set events h par tags k (Tag id name target tagger comment mark) at apart = (none_taken set events h par (takes set events (record { push = push.Forward; tags = tags })) k (Tag id name target tagger comment mark) at refl).0
+apart_taken set events h par tags k (Reset id branch target) at apart = (none_taken set events h par (takes set events (record { push = push.Forward; tags = tags })) k (Reset id branch target) at refl).0
+apart_taken set events h par tags k (Pass id line) at apart = (none_taken set events h par (takes set events (record { push = push.Forward; tags = tags })) k (Pass id line) at refl).0
 
 module _ (set : List AnyId) (events : List PlainEvent) (tags : Lean) where
   -- forward
@@ -359,9 +433,6 @@ module _ (set : List AnyId) (events : List PlainEvent) (tags : Lean) where
   back_taken once t (Tag id name target tagger comment mark) after is a b c = tt
   back_taken once t (Reset id branch target) after is a b c = tt
   back_taken once t (Pass id line) after is a b c = tt
-
-pub lt_of : (a b : ℕ) → true ≡ nat_lt a b → a < b
-lt_of a b h = grind (arith, nat_tests)
 
 pub le_of : (a b : ℕ) → nat_le a b ≡ true → a ≤ b
 le_of a b h = grind (arith, nat_tests)

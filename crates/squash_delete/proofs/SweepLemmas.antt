@@ -1,8 +1,8 @@
 -- Flags of what is named, and the blobs that are left over.
-use Rattle.std.proofs.Common.{◌≡◌, ◌∙◌, ℕ, suc, ◌<◌, ◌≤◌, Bool, true, false, cond, not, ◌&&◌, ◌||◌, inl, inr, List, [], ◌∷◌, ◌++◌, Some, None, refl, sym, ap, subst, length, get_or, take, arith, append-nil, append_assoc, filter, flat_map}
+use Rattle.std.proofs.Common.{◌≡◌, ◌∙◌, ℕ, suc, ◌<◌, ◌≤◌, Bool, true, false, cond, not, ◌||◌, inl, inr, ◌⊎◌, List, [], ◌∷◌, ◌++◌, Some, None, refl, sym, ap, subst, length, get_or, take, arith, append-nil, append_assoc, filter, flat_map, true≢false}
 use Rattle.std.proofs.Math.Bool.{or-false, or-true}
 use Rattle.std.proofs.Math.ListN.{set}
-use Rattle.std.proofs.lemmas.Bool.{cases_Bool, cases_eq, false_from_ne_true}
+use Rattle.std.proofs.lemmas.Bool.{and_from, and_parts, and_right, cases_Bool, cases_eq, false_from_ne_true, or_cases, or_left, or_right}
 use Rattle.std.proofs.lemmas.List.{length-replicate, get_or-set_other, get_or-set_same, length-set}
 use Rattle.std.proofs.lemmas.List.Folds.{list_any-append}
 use Rattle.std.proofs.lemmas.Option.{none-some, same_Some}
@@ -18,10 +18,11 @@ use Rattle.event_arena.specs.Changes.{without_all}
 use Rattle.event_arena.specs.Once.{AreDistinct}
 use Rattle.event_arena.proofs.ListLemmas.{take-all, take-item}
 use Rattle.event_arena.proofs.SpentLemmas.{absent-cons}
-use Rattle.edit_laws.specs.Sweeping.{is_left_over, is_named}
+use Rattle.edit_laws.specs.Sweeping.{is_left_over, is_named, swept}
 use Rattle.graph_walk.proofs.FlagLemmas.{no_flag}
 use Rattle.graph_walk.proofs.PlaceLemmas.{one_place, place_found, place_within}
-use Rattle.squash_delete.specs.Flags.{FlagsAdd, FlagsNamed, event_blobs}
+use Rattle.squash_delete.specs.Flags.{AreCandidates, FlagsAdd, FlagsNamed, FlagsSome, KeepNames, event_blobs}
+use Rattle.squash_delete.proofs.Passes.{filter_append}
 
 -- ---- flags that are added
 
@@ -115,26 +116,155 @@ filter_item test es k e at = ap (λ xs. map id_of (filter test xs)) (take-item e
       | inr no_it ↦ rw no_it (push xs)
     ]
 
-module _ (old new : List PlainEvent) (before after : List Bool) (b : FlagsNamed new old before) (a : FlagsNamed new new after) where
-  -- a blob at a place
-  pub over_blob : (k id : ℕ) (e : PlainEvent) → slice_get new k ≡ Some e → any.Blob id ≡ id_of e →
-      is_left_over old new e ≡ get_or before k false && not (get_or after k false)
-  over_blob k id (Blob n mark bytes) at own =
-      ap (λ x. x && not (is_named new n)) (named_by_ops n old ∙ sym (b.flag k (Blob n mark bytes) at))
-      ∙ ap (λ x. get_or before k false && not x) (named_by_ops n new ∙ sym (a.flag k (Blob n mark bytes) at))
-  over_blob k id (Commit n mark branch author committer encoding comment parents ops aliases) at own = absurd cc
-  over_blob k id (Tag n name target tagger comment mark) at own = absurd cc
-  over_blob k id (Reset n branch target) at own = absurd cc
-  over_blob k id (Pass n line) at own = absurd cc
+-- what has no flag before, or one after, isn't left over
+module _ (old new : List PlainEvent) (before after : List Bool) (b : AreCandidates old new before) (a : FlagsNamed new new after) where
+  pub over_unnamed : (k : ℕ) (e : PlainEvent) → slice_get new k ≡ Some e → get_or before k false ≡ false → is_left_over old new e ≡ false
+  over_unnamed k e at off = false_from_ne_true (is_left_over old new e) (λ t. true≢false (sym (b.over k e at t) ∙ off))
 
-  -- what has not both flags so isn't left over
-  pub over_none : (k : ℕ) (e : PlainEvent) → slice_get new k ≡ Some e →
-      get_or before k false && not (get_or after k false) ≡ false → is_left_over old new e ≡ false
-  over_none k (Blob n mark bytes) at h = over_blob k n (Blob n mark bytes) at refl ∙ h
-  over_none k (Commit n mark branch author committer encoding comment parents ops aliases) at h = refl
-  over_none k (Tag n name target tagger comment mark) at h = refl
-  over_none k (Reset n branch target) at h = refl
-  over_none k (Pass n line) at h = refl
+  pub over_named : (k : ℕ) (e : PlainEvent) → slice_get new k ≡ Some e → get_or after k false ≡ true → is_left_over old new e ≡ false
+  over_named k (Blob n mark bytes) at on = and_right (is_named old n) (not (is_named new n)) (ap not (named_by_ops n new ∙ sym (a.flag k (Blob n mark bytes) at) ∙ on))
+  over_named k (Commit n mark branch author committer encoding comment parents ops aliases) at on = refl
+  over_named k (Tag n name target tagger comment mark) at on = refl
+  over_named k (Reset n branch target) at on = refl
+  over_named k (Pass n line) at on = refl
+
+  -- a blob that has the first flag alone is
+  pub over_blob : (k id : ℕ) (e : PlainEvent) → slice_get new k ≡ Some e → any.Blob id ≡ id_of e → get_or before k false ≡ true → get_or after k false ≡ false →
+      is_left_over old new e ≡ true
+  over_blob k id (Blob n mark bytes) at own on off =
+      and_from (is_named old n) (not (is_named new n)) (named_by_ops n old ∙ b.named k (Blob n mark bytes) at on)
+      (ap not (named_by_ops n new ∙ sym (a.flag k (Blob n mark bytes) at) ∙ off))
+  over_blob k id (Commit n mark branch author committer encoding comment parents ops aliases) at own on off = absurd cc
+  over_blob k id (Tag n name target tagger comment mark) at own on off = absurd cc
+  over_blob k id (Reset n branch target) at own on off = absurd cc
+  over_blob k id (Pass n line) at own on off = absurd cc
+
+-- ---- which blobs can be left over
+
+-- what is left over was named before, and isn't named after
+over_parts : (old new : List PlainEvent) (e : PlainEvent) → is_left_over old new e ≡ true →
+    (list_any (λ d. is_listed (id_of e) (event_blobs d)) old ≡ true) × (list_any (λ d. is_listed (id_of e) (event_blobs d)) new ≡ false)
+over_parts old new (Blob n mark bytes) t =
+    let parts = and_parts (is_named old n) (not (is_named new n)) t in
+    (sym (named_by_ops n old) ∙ parts.0, sym (named_by_ops n new) ∙ not_so (is_named new n) parts.1)
+  where
+    not_so : (b : Bool) → not b ≡ true → b ≡ false
+    not_so true h = absurd (true≢false (sym h))
+    not_so false h = refl
+over_parts old new (Commit n mark branch author committer encoding comment parents ops aliases) t = absurd (true≢false (sym t))
+over_parts old new (Tag n name target tagger comment mark) t = absurd (true≢false (sym t))
+over_parts old new (Reset n branch target) t = absurd (true≢false (sym t))
+over_parts old new (Pass n line) t = absurd (true≢false (sym t))
+
+-- all that was named
+pub all_candidates : (old new : List PlainEvent) (flags : List Bool) → FlagsNamed new old flags → AreCandidates old new flags
+all_candidates old new flags f = record {
+  count = f.count;
+  named = λ k e at on. sym (f.flag k e at) ∙ on;
+  over = λ k e at t. f.flag k e at ∙ (over_parts old new e t).0;
+}
+
+any_filtered : (test p : PlainEvent → Bool) (es : List PlainEvent) → list_any test (filter p es) ≡ true → list_any test es ≡ true
+any_filtered test p [] h = h
+any_filtered test p (e ∷ es) h = elim (cases_Bool (p e)) [
+  | inl it ↦ elim (or_cases (test e) (list_any test (filter p es)) (sym (ap (λ b. list_any test (cond b (e ∷ filter p es) (filter p es))) it) ∙ h)) [
+    | inl own ↦ or_left (test e) (list_any test es) own
+    | inr later ↦ or_right (test e) (list_any test es) (any_filtered test p es later)
+  ]
+  | inr no_it ↦ or_right (test e) (list_any test es) (any_filtered test p es (sym (ap (λ b. list_any test (cond b (e ∷ filter p es) (filter p es))) no_it) ∙ h))
+]
+
+-- where one passes, it is one of those that are kept, or there is another
+pub record IsOther (test p : PlainEvent → Bool) (es : List PlainEvent) : Type 0 where
+  pub place : ℕ
+  pub event : PlainEvent
+  pub at : slice_get es place ≡ Some event
+  pub out : p event ≡ false
+  pub passes : test event ≡ true
+
+any_either : (test p : PlainEvent → Bool) (es : List PlainEvent) → list_any test es ≡ true → (list_any test (filter p es) ≡ true) ⊎ IsOther test p es
+any_either test p [] h = absurd (true≢false (sym h))
+any_either test p (e ∷ es) h = elim (or_cases (test e) (list_any test es) h) [
+  | inl own ↦ elim (cases_Bool (p e)) [
+    | inl it ↦ inl (ap (λ b. list_any test (cond b (e ∷ filter p es) (filter p es))) it ∙ or_left (test e) (list_any test (filter p es)) own)
+    | inr no_it ↦ inr (record { place = 0; event = e; at = refl; out = no_it; passes = own })
+  ]
+  | inr later ↦ elim (any_either test p es later) [
+    | inl some ↦ inl (elim (cases_Bool (p e)) [
+      | inl it ↦ ap (λ b. list_any test (cond b (e ∷ filter p es) (filter p es))) it ∙ or_right (test e) (list_any test (filter p es)) some
+      | inr no_it ↦ ap (λ b. list_any test (cond b (e ∷ filter p es) (filter p es))) no_it ∙ some
+    ])
+    | inr o ↦ inr (record { place = suc o.place; event = o.event; at = o.at; out = o.out; passes = o.passes })
+  ]
+]
+
+-- all that removed commits named, where the others keep what they name
+pub removed_candidates : (ids : List AnyId) (old new : List PlainEvent) (flags : List Bool) → KeepNames ids old new →
+    FlagsNamed new (filter (λ e. is_listed (id_of e) ids) old) flags → AreCandidates old new flags
+removed_candidates ids old new flags keep f = record {
+  count = f.count;
+  named = λ k e at on. any_filtered (λ d. is_listed (id_of e) (event_blobs d)) (λ d. is_listed (id_of d) ids) old (sym (f.flag k e at) ∙ on);
+  over = λ k e at t.
+      let parts = over_parts old new e t in
+      f.flag k e at ∙ elim (any_either (λ d. is_listed (id_of e) (event_blobs d)) (λ d. is_listed (id_of d) ids) old parts.0) [
+        | inl some ↦ some
+        | inr o ↦ absurd (true≢false (sym (keep o.place o.event (id_of e) o.at o.out o.passes) ∙ parts.1))
+      ];
+}
+
+-- where each of them is named after, none is left over
+pub none_over : (old new : List PlainEvent) (before near : List Bool) → AreCandidates old new before → FlagsSome new near →
+    ((k : ℕ) → get_or before k false ≡ true → get_or near k false ≡ true) → swept old new ≡ new
+none_over old new before near b s all = kept new (λ k e at. false_from_ne_true (is_left_over old new e) (λ t.
+    true≢false (sym (s.flag k e at (all k (b.over k e at t))) ∙ (over_parts old new e t).1)))
+  where
+    kept : (es : List PlainEvent) → ((k : ℕ) (e : PlainEvent) → slice_get es k ≡ Some e → is_left_over old new e ≡ false) → filter (λ e. not (is_left_over old new e)) es ≡ es
+    kept [] h = refl
+    kept (e ∷ es) h =
+        ap (λ b. cond (not b) (e ∷ filter (λ x. not (is_left_over old new x)) es) (filter (λ x. not (is_left_over old new x)) es)) (h 0 e refl)
+        ∙ ap (λ xs. e ∷ xs) (kept es (λ k d at. h (suc k) d at))
+
+-- ---- flags of some of what is named
+
+pub some_first : (events : List PlainEvent) → FlagsSome events (replicate (length events) false)
+some_first events = record { count = length-replicate (length events) false; flag = λ k e at on. absurd (true≢false (sym on ∙ no_flag (length events) k)) }
+
+any_found : (test : PlainEvent → Bool) (id : AnyId) (d : PlainEvent) (es : List PlainEvent) → find_event id es ≡ Some d → test d ≡ true → list_any test es ≡ true
+any_found test id d [] found it = absurd (none-some d found)
+any_found test id d (x ∷ es) found it = elim (cases_Bool (same_id id (id_of x))) [
+  | inl same ↦
+      let is : x ≡ d = same_Some x d (sym (ap (λ b. cond b (Some x) (find_event id es)) same) ∙ found) in
+      or_left (test x) (list_any test es) (ap test is ∙ it)
+  | inr other ↦ or_right (test x) (list_any test es) (any_found test id d es (sym (ap (λ b. cond b (Some x) (find_event id es)) other) ∙ found) it)
+]
+
+pub some_more : (events : List PlainEvent) (id : AnyId) (d : PlainEvent) (old new : List Bool) → find_event id events ≡ Some d → FlagsSome events old →
+    FlagsAdd events (event_blobs d) old new → FlagsSome events new
+some_more events id d old new found s a = record {
+  count = a.count ∙ s.count;
+  flag = λ k e at on. elim (or_cases (get_or old k false) (is_listed (id_of e) (event_blobs d)) (sym (a.more k e at) ∙ on)) [
+    | inl before ↦ s.flag k e at before
+    | inr now ↦ any_found (λ x. is_listed (id_of e) (event_blobs x)) id d events found now
+  ];
+}
+
+-- flags of what some events of a list name, one event more
+pub filtered_more : (p : PlainEvent → Bool) (events named : List PlainEvent) (j : ℕ) (d : PlainEvent) (old new : List Bool) → slice_get named j ≡ Some d → p d ≡ true →
+    FlagsNamed events (filter p (take j named)) old → FlagsAdd events (event_blobs d) old new → FlagsNamed events (filter p (take (suc j) named)) new
+filtered_more p events named j d old new at it f a = record {
+  count = a.count ∙ f.count;
+  flag = λ k e here.
+      a.more k e here ∙ ap (λ b. b || is_listed (id_of e) (event_blobs d)) (f.flag k e here)
+      ∙ sym (ap (list_any (λ x. is_listed (id_of e) (event_blobs x))) (ap (filter p) (take-item named j d at) ∙ filter_append p (take j named) (d ∷ []) ∙ ap (λ b. filter p (take j named) ++ cond b (d ∷ []) []) it)
+      ∙ list_any-append (λ x. is_listed (id_of e) (event_blobs x)) (filter p (take j named)) (d ∷ [])
+      ∙ ap (λ b. list_any (λ x. is_listed (id_of e) (event_blobs x)) (filter p (take j named)) || b) (or-false (is_listed (id_of e) (event_blobs d))));
+}
+
+pub filtered_same : (p : PlainEvent → Bool) (events named : List PlainEvent) (j : ℕ) (d : PlainEvent) (flags : List Bool) → slice_get named j ≡ Some d → p d ≡ false →
+    FlagsNamed events (filter p (take j named)) flags → FlagsNamed events (filter p (take (suc j) named)) flags
+filtered_same p events named j d flags at out f =
+    subst (λ es. FlagsNamed events es flags)
+    (sym (ap (filter p) (take-item named j d at) ∙ filter_append p (take j named) (d ∷ []) ∙ ap (λ b. filter p (take j named) ++ cond b (d ∷ []) []) out ∙ append-nil (filter p (take j named)))) f
 
 -- ---- without them
 

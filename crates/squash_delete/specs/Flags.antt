@@ -1,9 +1,10 @@
 -- Flags of a list of events, one for each place: of events with some ids, and of the blobs that operations name.
-use Rattle.std.specs.Prelude.{ℕ, ◌≡◌, Bool, false, ◌||◌, List, length, Some, flat_map, slice_get, slice_index_or}
+use Rattle.std.specs.Prelude.{ℕ, ◌≡◌, Bool, true, false, ◌||◌, List, length, Some, flat_map, slice_get, slice_index_or}
 use Rattle.std.specs.List.{list_any}
 use Rattle.plain_model.specs.declared.id.AnyId.{AnyId}
 use Rattle.plain_model.specs.declared.event.PlainEvent.{PlainEvent}
 use Rattle.plain_model.specs.Lookups.{id_of, is_listed, op_blobs}
+use Rattle.edit_laws.specs.Sweeping.{is_left_over}
 use Rattle.manifest_cache.specs.Walks.{event_ops}
 
 -- the events with these ids get flags, and the others keep theirs
@@ -21,3 +22,21 @@ pub record FlagsNamed (events named : List PlainEvent) (flags : List Bool) : Typ
   pub count : length flags ≡ length events
   pub flag : (k : ℕ) (e : PlainEvent) → slice_get events k ≡ Some e →
       slice_index_or flags k false ≡ list_any (λ d. is_listed (id_of e) (event_blobs d)) named
+
+-- each event with a flag is named by some event of the list
+pub record FlagsSome (events : List PlainEvent) (flags : List Bool) : Type 0 where
+  pub count : length flags ≡ length events
+  pub flag : (k : ℕ) (e : PlainEvent) → slice_get events k ≡ Some e → slice_index_or flags k false ≡ true →
+      list_any (λ d. is_listed (id_of e) (event_blobs d)) events ≡ true
+
+-- what has a flag was named before, and each blob that is left over has one
+pub record AreCandidates (old new : List PlainEvent) (flags : List Bool) : Type 0 where
+  pub count : length flags ≡ length new
+  pub named : (k : ℕ) (e : PlainEvent) → slice_get new k ≡ Some e → slice_index_or flags k false ≡ true →
+      list_any (λ d. is_listed (id_of e) (event_blobs d)) old ≡ true
+  pub over : (k : ℕ) (e : PlainEvent) → slice_get new k ≡ Some e → is_left_over old new e ≡ true → slice_index_or flags k false ≡ true
+
+-- what an event names that isn't one of the set is named after too
+abbrev pub KeepNames : List AnyId → List PlainEvent → List PlainEvent → Type 0
+KeepNames set old new = (k : ℕ) (d : PlainEvent) (id : AnyId) → slice_get old k ≡ Some d → is_listed (id_of d) set ≡ false →
+    is_listed id (event_blobs d) ≡ true → list_any (λ e. is_listed id (event_blobs e)) new ≡ true

@@ -4,6 +4,7 @@ pub mod Flags
 pub mod Hangings
 pub mod Judged
 pub mod Leaving
+pub mod Near
 pub mod Passes
 pub mod Removing
 pub mod Sources

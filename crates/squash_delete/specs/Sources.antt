@@ -1,5 +1,5 @@
 -- How a plan goes on where one event after another takes over what it does, or moves.
-use Rattle.std.specs.Prelude.{ℕ, suc, ◌≡◌, ◌<◌, Bool, true, false, not, List, [], ◌∷◌, filter, length, map, Option, Some, slice_get}
+use Rattle.std.specs.Prelude.{ℕ, suc, ◌≡◌, ◌≤◌, ◌<◌, Bool, true, false, not, List, [], ◌∷◌, filter, length, map, Option, Some, slice_get}
 use Rattle.plain_model.specs.declared.id.AnyId.{AnyId}
 use Rattle.plain_model.specs.declared.limit.TheConstants.{MAX_OPERATIONS}
 use Rattle.plain_model.specs.declared.event.PlainEvent.{PlainEvent}
@@ -17,7 +17,7 @@ use Rattle.squash_delete.specs.Hangings.{AreHung}
 use Rattle.squash_delete.specs.Leaving.{goes, staying, with_own_parents, with_takings}
 use Rattle.squash_delete.specs.Passes.{moved_to, taken_to}
 use Rattle.squash_delete.specs.Taking.{IsTakenBy, Taking}
-use Rattle.squash_delete.specs.Targets.{AreTargets}
+use Rattle.squash_delete.specs.Targets.{AreMoves}
 use Rattle.squash_delete.specs.declared.moving.Sources.{Sources}
 use Rattle.squash_delete.specs.declared.moving.Sources.TheVariants.{Before, After}
 
@@ -35,12 +35,12 @@ module _ (set : List AnyId) (events : List PlainEvent) where
   abbrev pub IsNoRemoved : PlainEvent → Type 0
   IsNoRemoved event = (c : ℕ) → commit_id event ≡ Some c → is_removed set c ≡ false
 
-  -- one event more has what it takes over, and has so many operations then
+  -- one event more has what it takes over, and has so many operations then, or more
   abbrev pub GoesOn : (List ℕ → List ℕ) → Takings → ℕ → PlainEvent → Change → Change → ℕ → Type 0
   GoesOn par takes place event old new count =
       (start : Change) → old ≡ record start { after = taken_to set par takes place events } →
       (new ≡ record start { after = taken_to set par takes (suc place) events })
-      × (count ≡ count_ops (map (with_takings par takes) (filter (λ e. not (goes set takes e)) (event ∷ []))))
+      × (count ≤ count_ops (map (with_takings par takes) (filter (λ e. not (goes set takes e)) (event ∷ []))))
 
   -- it has what is given
   abbrev pub TakesOver : Taking → ℕ → Change → Change → ℕ → Type 0
@@ -69,7 +69,7 @@ module _ (set : List AnyId) (events : List PlainEvent) where
   -- one tag or reset more is where it goes
   abbrev pub MovesOn : List (Option ℕ) → ℕ → Change → Change → Type 0
   MovesOn targets place old new =
-      (par : List ℕ → List ℕ) (takes : Takings) (start : Change) → AreTargets takes.target events targets →
+      (par : List ℕ → List ℕ) (takes : Takings) (start : Change) → AreMoves set takes.target events targets →
       old ≡ record start { after = moved_to set par takes place events } →
       new ≡ record start { after = moved_to set par takes (suc place) events }
 

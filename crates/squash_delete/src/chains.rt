@@ -30,8 +30,9 @@ ghost use Rattle.squash_delete.specs.Chains.{
 ghost use Rattle.squash_laws.specs.Removed.{is_removed};
 ghost use Rattle.squash_laws.specs.Squash.{is_from_root, is_none, links};
 
-use crate::removal::{Removal, parents_of};
+use crate::removal::Removal;
 use plain_model::{AnyId, CommitId, FileOp, NoMemory, PlainEvent};
+use plan_steps::event_parents;
 use std::alloc::Global;
 
 /// What is noted of a removed commit: the nearest one that has operations or a comment, itself or on the way down by first
@@ -149,7 +150,7 @@ fn link_at(removal: &Removal, table: &[Link], place: usize) -> Link
     else {
         return no_link();
     };
-    let parents = parents_of(event);
+    let parents = event_parents(event);
     let nearest = if is_idle(ops.as_slice(), comment.as_slice()) {
         nearest(removal, table, parents)
     } else {
@@ -186,7 +187,7 @@ fn nearest_before(removal: &Removal, table: &[Link], commit: CommitId) -> Option
 {
     let _count = removal.count();
     match removal.events().event(AnyId::Commit(commit)) {
-        Some(event) => nearest(removal, table, parents_of(event)),
+        Some(event) => nearest(removal, table, event_parents(event)),
         None => None,
     }
 }

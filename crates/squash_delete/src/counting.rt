@@ -6,7 +6,7 @@ ghost use Rattle.squash_delete.specs.Judged.{judged, limit_passed};
 
 use event_arena::Plan;
 use plain_model::{Fault, MAX_ALIASES, MAX_EVENTS, MAX_OPERATIONS, MAX_PARENTS, Which};
-use plan_limits::{has_many_aliases, has_many_events, has_many_operations};
+use plan_limits::{has_many, has_many_events};
 
 fn limit(which: Which, number: u64) -> Result<(), Fault>
     ensures { result ≡ Err (Limit which number) }
@@ -26,16 +26,17 @@ pub enum Left {
 fn judge_all(plan: &Plan, few: bool) -> Result<(), Fault>
     ensures { result ≡ unless (limit_passed few plan.now.after) }
 {
+    let many = has_many(plan);
     if has_many_events(plan) {
         return limit(Which::Events, MAX_EVENTS);
     }
-    if has_many_operations(plan) {
+    if many.operations {
         return limit(Which::Operations, MAX_OPERATIONS);
     }
     if !few {
         return limit(Which::Parents, MAX_PARENTS);
     }
-    if has_many_aliases(plan) {
+    if many.aliases {
         return limit(Which::Aliases, MAX_ALIASES);
     }
     Ok(())

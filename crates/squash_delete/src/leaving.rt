@@ -1,29 +1,50 @@
 //! Which events go.
-ghost use Rattle.std.specs.Prelude.{◌≡◌, ◌<◌, Some, filter, length, map, slice_get, IfOk};
+ghost use Rattle.std.specs.Prelude.{
+  ◌≡◌,
+  ◌<◌,
+  ◌&&◌,
+  None,
+  Some,
+  filter,
+  is_some,
+  length,
+  map,
+  not,
+  slice_get,
+  slice_index_or,
+  IfOk,
+};
 ghost use Rattle.plain_model.specs.Lookups.{id_of};
 ghost use Rattle.squash_delete.specs.Leaving.{goes};
-ghost use Rattle.squash_delete.specs.Targets.{AreTargets};
+ghost use Rattle.squash_delete.specs.Targets.{AreMoves, lost_target};
 ghost use Rattle.squash_laws.specs.Removed.{Takings};
 
 use crate::removal::Removal;
+use crate::targets::{lost_at, target_at};
 use plain_model::{CommitId, IdList, NoMemory, PlainEvent};
 use std::alloc::Global;
 
+// Whether the tag or the reset at a place is on a removed commit, and no other is left for it.
+fn is_lost(removal: &Removal, targets: &[Option<CommitId>], place: usize) -> bool
+    requires { place < length removal.now.events }
+    ensures { (event : _) → slice_get removal.now.events place ≡ Some event → result
+        ≡ (is_some (lost_target removal.now.set event) && not (is_some (slice_index_or targets.now place None))) }
+{
+    lost_at(removal, place).is_some() && target_at(targets, place).is_none()
+}
+
 // Whether the event at a place goes: it is one of the set and no blob, or no commit is left for it.
 fn goes(removal: &Removal, targets: &[Option<CommitId>], place: usize) -> bool
-    requires place { place < length removal.now.events }
-    requires count { length targets.now ≡ length removal.now.events }
-    ensures { (takes : Takings) (event : _) → AreTargets takes.target removal.now.events targets.now →
+    requires { place < length removal.now.events }
+    ensures { (takes : Takings) (event : _) → AreMoves removal.now.set takes.target removal.now.events targets.now →
         slice_get removal.now.events place ≡ Some event → result ≡ goes removal.now.set takes event }
 {
+    if !removal.is_near(place) {
+        return false;
+    }
     match removal.nth(place) {
         PlainEvent::Blob { .. } => false,
-        PlainEvent::Tag { .. } => removal.has_at(place) || targets[place].is_none(),
-        PlainEvent::Reset {
-            target: Some(_),
-            ..
-        } => removal.has_at(place) || targets[place].is_none(),
-        _ => removal.has_at(place),
+        _ => removal.has_at(place) || is_lost(removal, targets, place),
     }
 }
 
@@ -33,9 +54,8 @@ pub fn leaving(
     removal: &Removal,
     targets: &[Option<CommitId>],
 ) -> Result<IdList, NoMemory>
-    requires { length targets.now ≡ length removal.now.events }
     ensures { IfOk result (λ ids. (takes : Takings) →
-        AreTargets takes.target removal.now.events targets.now →
+        AreMoves removal.now.set takes.target removal.now.events targets.now →
         ids ≡ map id_of (filter (goes removal.now.set takes) removal.now.events)) }
 {
     let mut ids = IdList::new(alloc)?;

@@ -5,18 +5,18 @@ ghost use Rattle.plain_model.specs.Lookups.{find_event, id_of};
 ghost use Rattle.plain_model.specs.declared.id.AnyId.TheVariants.{Commit};
 ghost use Rattle.squash_delete.specs.Leaving.{event_after, staying, with_takings};
 ghost use Rattle.squash_delete.specs.Sources.{AreSources, HasTakenOver, MovesOn, TakesFrom, TakesOver, push_of};
-ghost use Rattle.squash_delete.specs.Targets.{AreTargets};
+ghost use Rattle.squash_delete.specs.Targets.{AreMoves};
 ghost use Rattle.squash_laws.specs.Removed.{Takings};
 ghost use Rattle.squash_laws.specs.declared.policy.Push.TheVariants.{Discard};
 
 use crate::chains::{Link, begins_anew, carried, links};
 use crate::hangings::{Hangings, hangings};
-use crate::removal::{Removal, parents_of};
+use crate::removal::Removal;
 use crate::taking::{Taking, comment_taken, ops_taken};
-use crate::targets::target_of;
-use crate::ways::way_at;
+use crate::targets::{lost_at, target_at};
 use event_arena::Plan;
 use plain_model::{AnyId, CommitId, MAX_OPERATIONS, NoMemory, OpList, PlainEvent, Text};
+use plan_steps::event_parents;
 use squash_laws::Push;
 use std::alloc::Global;
 
@@ -43,7 +43,8 @@ fn give(plan: &mut Plan, commit: CommitId, ops: OpList, comment: Text) -> Result
     }
 }
 
-// Lets the event at a place, which isn't a removed commit, take over what it does; answers how many operations it has then.
+// Lets the event at a place, which isn't a removed commit, take over what it does; answers how many operations it has then,
+// or fewer.
 fn take(
     alloc: Global,
     removal: &Removal,
@@ -94,7 +95,8 @@ fn find_sources(alloc: Global, removal: &Removal, push: Push) -> Result<Option<S
     }
 }
 
-// Lets the event at a place take over what its sources have for it; answers how many operations it has then.
+// Lets the event at a place take over what its sources have for it; answers how many operations it has then, or fewer: one
+// that takes over nothing isn't looked at.
 fn take_from(
     alloc: Global,
     removal: &Removal,
@@ -113,7 +115,10 @@ fn take_from(
     }
     match sources {
         Sources::Before(table) => {
-            let parents = parents_of(removal.nth(place));
+            if !removal.is_near(place) {
+                return Ok(0);
+            }
+            let parents = event_parents(removal.nth(place));
             let before = carried(alloc, removal, table, parents)?;
             let anew = begins_anew(removal, table, parents);
             take(
@@ -195,8 +200,7 @@ fn move_at(
     targets: &[Option<CommitId>],
     place: usize,
 ) -> Result<(), NoMemory>
-    requires place { place < length removal.now.events }
-    requires count { length targets.now ≡ length removal.now.events }
+    requires { place < length removal.now.events }
     ensures { OnOk result
         (MovesOn removal.now.set removal.now.events targets.now place plan.old plan.new) }
 {
@@ -204,17 +208,13 @@ fn move_at(
     if removal.has_at(place) {
         return Ok(());
     }
-    let Some(target) = way_at(targets, place) else {
+    let Some(_lost) = lost_at(removal, place) else {
         return Ok(());
     };
-    let event = removal.nth(place);
-    let Some(old) = target_of(event) else {
+    let Some(target) = target_at(targets, place) else {
         return Ok(());
     };
-    if old == target {
-        return Ok(());
-    }
-    retarget(plan, event, target)
+    retarget(plan, removal.nth(place), target)
 }
 
 /// Puts tags and resets on the commits to which they go.
@@ -223,8 +223,7 @@ pub fn move_all(
     plan: &mut Plan,
     targets: &[Option<CommitId>],
 ) -> Result<(), NoMemory>
-    requires { length targets.now ≡ length removal.now.events }
-    ensures { OnOk result ((par : _) (takes : Takings) → AreTargets takes.target removal.now.events targets.now →
+    ensures { OnOk result ((par : _) (takes : Takings) → AreMoves removal.now.set takes.target removal.now.events targets.now →
         plan.old.after ≡ map (with_takings par takes) (staying removal.now.set takes removal.now.events) →
         plan.new ≡ record plan.old {
           after = map (event_after par takes) (staying removal.now.set takes removal.now.events);

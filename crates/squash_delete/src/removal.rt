@@ -1,72 +1,129 @@
 //! What a squash removes from a history.
-ghost use Rattle.std.specs.Prelude.{◌≡◌, ◌<◌, Some, false, length, replicate, slice_get, IfOk, IsSome};
-ghost use Rattle.graph_walk.specs.Flags.{FlagsOf};
-ghost use Rattle.plain_model.specs.Lookups.{event_parents, find_event, id_of, is_listed, place_of};
+ghost use Rattle.std.specs.Prelude.{
+  ◌≡◌,
+  ◌<◌,
+  ◌++◌,
+  Some,
+  false,
+  length,
+  slice_get,
+  IfOk,
+  IsSome,
+  OnOk,
+};
+ghost use Rattle.graph_walk.specs.Flags.{FlagsOf, is_flagged_commit};
+ghost use Rattle.plain_model.specs.Lookups.{find_event, id_of, is_listed, place_of};
 ghost use Rattle.plain_model.specs.Soundness.{IsSound};
 ghost use Rattle.plain_model.specs.declared.id.AnyId.TheVariants.{Commit};
+ghost use Rattle.squash_delete.specs.Near.{AreNear, HasAll, HasAllOn, is_near, is_on, on_flagged};
 ghost use Rattle.squash_laws.specs.Removed.{is_removed};
 
+use crate::targets::target_of;
 use event_arena::Events;
-use plain_model::{AnyId, CommitId, IdList, NoMemory, PlainEvent};
+use graph_walk::{children_of_all, flags_of};
+use plain_model::{AnyId, CommitId, IdList, NoMemory, PlainEvent, ResetId, TagId};
 use std::alloc::Global;
 use std::marker::Model;
 
-/// The parents of an event; none where it is no commit.
-pub fn parents_of(event: &PlainEvent) -> &[CommitId]
-    ensures { result.now ≡ event_parents event.now }
+// Whether a commit has a flag.
+fn is_flagged(events: &Events, flags: &[bool], commit: CommitId) -> bool
+    requires { length flags.now ≡ length events.now.list }
+    ensures { result ≡ is_flagged_commit flags.now events.now.list commit }
 {
-    match event {
-        PlainEvent::Commit { parents, .. } => parents.as_slice(),
-        _ => &[],
+    match events.place(AnyId::Commit(commit)) {
+        Some(place) => flags[place],
+        None => false,
     }
 }
 
-// No flag at any place.
-fn no_flags(alloc: Global, events: &Events) -> Result<Vec<bool>, NoMemory>
-    ensures { IfOk result (λ flags. flags.items ≡ replicate (length events.now.list) false) }
+// Whether an event is a tag or a reset on a commit with a flag.
+fn is_on(events: &Events, flags: &[bool], event: &PlainEvent) -> bool
+    requires { length flags.now ≡ length events.now.list }
+    ensures { result ≡ is_on (is_flagged_commit flags.now events.now.list) event.now }
 {
-    Ok(vec![in alloc; false; events.count()]?)
+    match target_of(event) {
+        Some(target) => is_flagged(events, flags, target),
+        None => false,
+    }
 }
 
-// Flags the events with these ids, where there is no flag yet.
-fn flag_ids(events: &Events, ids: &[AnyId], flags: &mut [bool])
-    requires { flags.old ≡ replicate (length events.now.list) false }
-    ensures { FlagsOf events.now.list ids.now flags.new }
+// Puts the id of a tag or a reset at the end, if it is on a commit with a flag.
+fn push_on(events: &Events, flags: &[bool], id: &AnyId, list: &mut IdList) -> Result<(), NoMemory>
+    requires { length flags.now ≡ length events.now.list }
+    ensures { OnOk result
+        (list.new ≡ list.old ++ on_flagged flags.now events.now.list id.now) }
+{
+    let is_one = match events.event(*id) {
+        Some(event) => is_on(events, flags, event),
+        None => false,
+    };
+    if is_one {
+        list.push(*id)?;
+    }
+    Ok(())
+}
+
+// Puts the ids of the tags and resets on commits with a flag at the end. They are found by their numbers: most events are
+// neither, and to look at each of them would cost more.
+fn push_all_on(events: &Events, flags: &[bool], list: &mut IdList) -> Result<(), NoMemory>
+    requires { length flags.now ≡ length events.now.list }
+    ensures { OnOk result (HasAll list.old list.new × HasAllOn flags.now events.now.list events.now.next_id list.new) }
+{
+    for number in 0..events.next_id() {
+        push_on(events, flags, &AnyId::Tag(TagId::new(number)), list)?;
+        push_on(events, flags, &AnyId::Reset(ResetId::new(number)), list)?;
+    }
+    Ok(())
+}
+
+// Puts ids at the end of others.
+fn push_ids(ids: &[AnyId], list: &mut IdList) -> Result<(), NoMemory>
+    ensures { OnOk result (list.new ≡ list.old ++ ids.now) }
+{
+    for id in ids {
+        list.push(*id)?;
+    }
+    Ok(())
+}
+
+// Flags for the events with these ids, and for those that refer to one of them.
+fn flags_near(
+    alloc: Global,
+    events: &Events,
+    set: &[AnyId],
+    flags: &[bool],
+) -> Result<Vec<bool>, NoMemory>
+    requires { FlagsOf events.now.list set.now flags.now }
+    ensures { IfOk result (λ near. AreNear set.now events.now.list near.items) }
 {
     let _count = events.count();
-    for id in ids {
-        if let Some(place) = events.place(*id) {
-            flags[place] = true;
-        }
-    }
+    let _next = events.next_id();
+    let mut ids = children_of_all(alloc, events, set)?;
+    push_ids(set, &mut ids)?;
+    push_all_on(events, flags, &mut ids)?;
+    flags_of(alloc, events, ids.as_slice())
 }
 
-// Flags for the events with these ids.
-fn flags_of(alloc: Global, events: &Events, ids: &[AnyId]) -> Result<Vec<bool>, NoMemory>
-    ensures { IfOk result (λ flags. FlagsOf events.now.list ids.now flags.items) }
-{
-    let mut flags = no_flags(alloc, events)?;
-    flag_ids(events, ids, &mut flags);
-    Ok(flags)
-}
-
-/// A history and a set of its events, with a flag at the place of each event that is one of the set.
+/// A history and a set of its events, with a flag at the place of each event that is one of the set, and a flag at the
+/// places near it: of the set, of children of its commits, and of tags and resets on them. All others stay as they are, and
+/// aren't looked at.
 #[derive(Drop)]
 pub struct Removal<'a> {
     events: &'a Events,
     set: IdList,
     flags: Vec<bool>,
+    near: Vec<bool>,
 }
 
 impl<'a> Model for Removal<'a> {
-    ghost use Rattle.graph_walk.specs.Flags.{FlagsOf};
+    ghost use Rattle.squash_delete.specs.Near.{AreFlagged};
     ghost use Rattle.squash_delete.specs.Removing.{Removing};
 
     ghost Value = { Removing };
 
     ghost view = { λ r. record { events = r.events.now.list; set = r.set } };
 
-    ghost invariant = { λ r. FlagsOf r.events.now.list r.set r.flags.items };
+    ghost invariant = { λ r. AreFlagged r.set r.events.now.list r.flags.items r.near.items };
 }
 
 impl<'a> Removal<'a> {
@@ -75,8 +132,14 @@ impl<'a> Removal<'a> {
         ensures set { IfOk result (λ made. made.set ≡ set.now) }
     {
         let flags = flags_of(alloc, events, set)?;
+        let near = flags_near(alloc, events, set, &flags)?;
         let set = IdList::of(alloc, set)?;
-        Ok(Removal { events, set, flags })
+        Ok(Removal {
+            events,
+            set,
+            flags,
+            near,
+        })
     }
 
     /// The history.
@@ -117,6 +180,15 @@ impl<'a> Removal<'a> {
             result ≡ is_listed (id_of event) self.now.set }
     {
         self.flags[place]
+    }
+
+    /// Whether the event at a place may be one of the set or refer to one. Where the answer is no, it stays as it is.
+    pub fn is_near(&self, place: usize) -> bool
+        requires { place < length self.now.events }
+        ensures { (event : _) → slice_get self.now.events place ≡ Some event →
+            result ≡ false → is_near self.now.set event ≡ false }
+    {
+        self.near[place]
     }
 
     /// The place of a commit.

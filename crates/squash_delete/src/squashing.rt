@@ -1,5 +1,5 @@
 //! The plan of a squash.
-ghost use Rattle.std.specs.Prelude.{◌≡◌, length, map, IfOk, MatchOption, OnOk};
+ghost use Rattle.std.specs.Prelude.{◌≡◌, map, IfOk, MatchOption, OnOk};
 ghost use Rattle.graph_walk.specs.Expansions.{AreFew, parent_changes};
 ghost use Rattle.manifest_cache.specs.Kept.{AgreesWith};
 ghost use Rattle.plain_model.specs.Faults.{Returns};
@@ -7,7 +7,7 @@ ghost use Rattle.plain_model.specs.Histories.{IsLinkedPast, past};
 ghost use Rattle.plain_model.specs.Soundness.{IsSound};
 ghost use Rattle.squash_delete.specs.Judged.{AreMany, IsLeftOf, ParentsAre};
 ghost use Rattle.squash_delete.specs.Leaving.{staying, with_own_parents};
-ghost use Rattle.squash_delete.specs.Targets.{AreTargets};
+ghost use Rattle.squash_delete.specs.Targets.{AreMoves};
 ghost use Rattle.squash_laws.specs.Faults.{squash_of, trees_checked};
 ghost use Rattle.squash_laws.specs.Removed.{Takings};
 ghost use Rattle.squash_laws.specs.Squash.{takes};
@@ -18,10 +18,11 @@ use crate::leaving::leaving;
 use crate::moving::{move_all, take_over};
 use crate::parents::give_parents;
 use crate::removal::Removal;
-use crate::sweeping::sweep;
+use crate::settling::settle_left;
+use crate::sweeping::sweep_removed;
 use crate::targets::{Targets, targets};
 use event_arena::{Events, Plan};
-use graph_walk::{ParentChanges, parent_changes, settle};
+use graph_walk::{ParentChanges, parent_changes};
 use manifest_cache::Manifests;
 use plain_model::{AnyId, Halt, MAX_EVENTS, NoMemory};
 use squash_laws::{Policy, Push, a_squash_keeps_soundness};
@@ -61,10 +62,9 @@ fn take_away(
     removal: &Removal,
     targets: &Targets,
 ) -> Result<(), NoMemory>
-    requires whole { plan.old.after ≡ removal.now.events }
-    requires count { length targets.now.items ≡ length removal.now.events }
+    requires { plan.old.after ≡ removal.now.events }
     ensures { OnOk result ((takes : Takings) →
-        AreTargets takes.target removal.now.events targets.now.items →
+        AreMoves removal.now.set takes.target removal.now.events targets.now.items →
         plan.new ≡ record plan.old { after = staying removal.now.set takes removal.now.events }) }
 {
     let _count = plan.count();
@@ -108,7 +108,7 @@ fn leave(alloc: Global, removal: &Removal, plan: &mut Plan, how: Policy) -> Resu
         return Ok(Left::ManyOperations);
     }
     move_all(removal, plan, &targets)?;
-    sweep(alloc, plan)?;
+    sweep_removed(alloc, removal, plan)?;
     Ok(Left::All { few })
 }
 
@@ -142,7 +142,7 @@ pub fn squash(
     if let Err(fault) = judge(&plan, left) {
         return Err(Halt::Refused(fault));
     }
-    if let Err(halt) = settle(alloc, &mut plan) {
+    if let Err(halt) = settle_left(alloc, &removal, &mut plan, how) {
         return Err(halt);
     }
     if let Err(halt) = check_trees(manifests, &plan, how.push) {

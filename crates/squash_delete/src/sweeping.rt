@@ -5,6 +5,7 @@ ghost use Rattle.std.specs.Prelude.{
   ◌∷◌,
   [],
   Some,
+  false,
   filter,
   flat_map,
   if◌then◌else◌,
@@ -12,17 +13,20 @@ ghost use Rattle.std.specs.Prelude.{
   map,
   option_to_list,
   slice_get,
+  slice_index_or,
+  true,
   IfOk,
   OnErr,
   OnOk,
 };
 ghost use Rattle.edit_laws.specs.Sweeping.{is_left_over, swept};
-ghost use Rattle.manifest_cache.specs.Walks.{event_ops};
-ghost use Rattle.plain_model.specs.Lookups.{id_of, op_blobs};
-ghost use Rattle.squash_delete.specs.Flags.{FlagsAdd, FlagsNamed, event_blobs};
+ghost use Rattle.plain_model.specs.Lookups.{id_of, is_listed, op_blobs};
+ghost use Rattle.squash_delete.specs.Flags.{AreCandidates, FlagsAdd, FlagsNamed, FlagsSome, KeepNames, event_blobs};
 
+use crate::removal::Removal;
 use event_arena::Plan;
 use plain_model::{AnyId, Content, FileOp, IdList, NoMemory, PlainEvent};
+use plan_steps::event_ops;
 use std::alloc::Global;
 
 // The blob that an operation names.
@@ -35,16 +39,6 @@ fn blob_of(op: &FileOp) -> Option<AnyId>
             ..
         } => Some(AnyId::Blob(*blob)),
         _ => None,
-    }
-}
-
-/// The operations of an event; none where it is no commit.
-pub fn ops_of(event: &PlainEvent) -> &[FileOp]
-    ensures { result.now ≡ event_ops event.now }
-{
-    match event {
-        PlainEvent::Commit { ops, .. } => ops.as_slice(),
-        _ => &[],
     }
 }
 
@@ -69,9 +63,61 @@ fn named_before(alloc: Global, plan: &Plan) -> Result<Vec<bool>, NoMemory>
 {
     let mut flags = vec![in alloc; false; plan.count()]?;
     for place in 0..plan.old_count() {
-        flag_blobs(plan, ops_of(plan.old_nth(place)), &mut flags);
+        flag_blobs(plan, event_ops(plan.old_nth(place)), &mut flags);
     }
     Ok(flags)
+}
+
+// Flags for the blobs that operations of removed commits named before.
+fn named_by_removed(alloc: Global, removal: &Removal, plan: &Plan) -> Result<Vec<bool>, NoMemory>
+    ensures { IfOk result (λ flags. FlagsNamed plan.now.after
+        (filter (λ event. is_listed (id_of event) removal.now.set) removal.now.events) flags.items) }
+{
+    let mut flags = vec![in alloc; false; plan.count()]?;
+    for place in 0..removal.count() {
+        if removal.has_at(place) {
+            flag_blobs(plan, event_ops(removal.nth(place)), &mut flags);
+        }
+    }
+    Ok(flags)
+}
+
+// Flags the blobs that operations of an event name after, if it is there.
+fn flag_event(plan: &Plan, id: AnyId, flags: &mut [bool])
+    requires { FlagsSome plan.now.after flags.old }
+    ensures { FlagsSome plan.now.after flags.new }
+{
+    let _count = plan.count();
+    if let Some(event) = plan.event(id) {
+        flag_blobs(plan, event_ops(event), flags);
+    }
+}
+
+// Flags for blobs that operations of near events name after. Others name some as well.
+fn named_near(alloc: Global, removal: &Removal, plan: &Plan) -> Result<Vec<bool>, NoMemory>
+    ensures { IfOk result (λ flags. FlagsSome plan.now.after flags.items) }
+{
+    let _count = removal.count();
+    let mut flags = vec![in alloc; false; plan.count()]?;
+    for place in 0..removal.count() {
+        if removal.is_near(place) {
+            flag_event(plan, removal.nth(place).id(), &mut flags);
+        }
+    }
+    Ok(flags)
+}
+
+// Whether each place that has one flag has the other.
+fn are_all_among(few: &[bool], many: &[bool]) -> bool
+    requires { length few.now ≡ length many.now }
+    ensures { result ≡ true → (k : _) → slice_index_or few.now k false ≡ true → slice_index_or many.now k false ≡ true }
+{
+    for place in 0..few.len() {
+        if few[place] && !many[place] {
+            return false;
+        }
+    }
+    true
 }
 
 // Flags for the blobs that are named after.
@@ -80,7 +126,7 @@ fn named_after(alloc: Global, plan: &Plan) -> Result<Vec<bool>, NoMemory>
 {
     let mut flags = vec![in alloc; false; plan.count()]?;
     for place in 0..plan.count() {
-        flag_blobs(plan, ops_of(plan.nth(place)), &mut flags);
+        flag_blobs(plan, event_ops(plan.nth(place)), &mut flags);
     }
     Ok(flags)
 }
@@ -88,7 +134,7 @@ fn named_after(alloc: Global, plan: &Plan) -> Result<Vec<bool>, NoMemory>
 // The id of the event at a place, if it is a blob that was named before, and isn't any more.
 fn over_at(plan: &Plan, before: &[bool], after: &[bool], place: usize) -> Option<AnyId>
     requires within { place < length plan.now.after }
-    requires before { FlagsNamed plan.now.after plan.now.before before.now }
+    requires before { AreCandidates plan.now.before plan.now.after before.now }
     requires after { FlagsNamed plan.now.after plan.now.after after.now }
     ensures { (event : _) → slice_get plan.now.after place ≡ Some event → option_to_list result
         ≡ (if is_left_over plan.now.before plan.now.after event then id_of event ∷ [] else []) }
@@ -102,20 +148,36 @@ fn over_at(plan: &Plan, before: &[bool], after: &[bool], place: usize) -> Option
     }
 }
 
-// The ids of the blobs that were named before, and aren't any more.
-fn left_over(alloc: Global, plan: &Plan) -> Result<IdList, NoMemory>
+// The ids of the blobs that were named before, and aren't any more; they are some of those with a flag.
+fn left_over(alloc: Global, plan: &Plan, before: &[bool]) -> Result<IdList, NoMemory>
+    requires { AreCandidates plan.now.before plan.now.after before.now }
     ensures { IfOk result (λ ids. ids
         ≡ map id_of (filter (is_left_over plan.now.before plan.now.after) plan.now.after)) }
 {
-    let before = named_before(alloc, plan)?;
     let after = named_after(alloc, plan)?;
     let mut ids = IdList::new(alloc)?;
     for place in 0..plan.count() {
-        if let Some(id) = over_at(plan, &before, &after, place) {
+        if let Some(id) = over_at(plan, before, &after, place) {
             ids.push(id)?;
         }
     }
     Ok(ids)
+}
+
+// Takes away those of the blobs with a flag that were named before, and aren't any more.
+fn sweep_some(alloc: Global, plan: &mut Plan, before: &[bool]) -> Result<(), NoMemory>
+    requires { AreCandidates plan.old.before plan.old.after before.now }
+    ensures swept { OnOk result (plan.new ≡ record plan.old {
+      after = swept plan.old.before plan.old.after;
+    }) }
+    ensures err { OnErr result (plan.new ≡ plan.old) }
+{
+    let _count = plan.count();
+    let ids = left_over(alloc, plan, before)?;
+    if ids.as_slice().is_empty() {
+        return Ok(());
+    }
+    plan.remove_all(&ids)
 }
 
 /// Takes away each blob that some operation named before and none names after, in one pass over each list.
@@ -125,10 +187,24 @@ pub fn sweep(alloc: Global, plan: &mut Plan) -> Result<(), NoMemory>
     }) }
     ensures err { OnErr result (plan.new ≡ plan.old) }
 {
-    let _count = plan.count();
-    let ids = left_over(alloc, plan)?;
-    if ids.as_slice().is_empty() {
+    let before = named_before(alloc, plan)?;
+    sweep_some(alloc, plan, &before)
+}
+
+/// The same, where events that aren't removed keep what they name. Only blobs that removed commits named can be left over,
+/// and mostly the events near them name those still; else all are looked at.
+pub fn sweep_removed(alloc: Global, removal: &Removal, plan: &mut Plan) -> Result<(), NoMemory>
+    requires before { plan.old.before ≡ removal.now.events }
+    requires kept { KeepNames removal.now.set removal.now.events plan.old.after }
+    ensures swept { OnOk result (plan.new ≡ record plan.old {
+      after = swept plan.old.before plan.old.after;
+    }) }
+    ensures err { OnErr result (plan.new ≡ plan.old) }
+{
+    let before = named_by_removed(alloc, removal, plan)?;
+    let near = named_near(alloc, removal, plan)?;
+    if are_all_among(&before, &near) {
         return Ok(());
     }
-    plan.remove_all(&ids)
+    sweep_some(alloc, plan, &before)
 }

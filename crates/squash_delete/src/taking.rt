@@ -4,21 +4,11 @@ ghost use Rattle.manifest_cache.specs.Walks.{ops_at};
 ghost use Rattle.squash_delete.specs.Taking.{comment_taken, event_comment, is_nothing, ops_taken};
 ghost use Rattle.squash_laws.specs.Comments.{comment_of, joined, joined_two};
 
-use crate::sweeping::ops_of;
 use event_arena::Events;
-use plain_model::{AnyId, CommitId, Copied, FileOp, NoMemory, OpList, PlainEvent, Text};
+use plain_model::{AnyId, CommitId, FileOp, NoMemory, OpList, PlainEvent, Text};
+use plan_steps::{ops_of, push_ops};
 use std::alloc::Global;
 use std::marker::Model;
-
-// The operations of a commit.
-fn ops_at(events: &Events, commit: CommitId) -> &[FileOp]
-    ensures { result.now ≡ ops_at events.now.list commit }
-{
-    match events.event(AnyId::Commit(commit)) {
-        Some(event) => ops_of(event),
-        None => &[],
-    }
-}
 
 // The comment of an event; none where it is no commit.
 fn event_comment(event: &PlainEvent) -> &[u8]
@@ -40,22 +30,12 @@ fn comment_at(events: &Events, commit: CommitId) -> &[u8]
     }
 }
 
-// Puts copies of operations at the end.
-fn push_ops(ops: &mut OpList, more: &[FileOp]) -> Result<(), NoMemory>
-    ensures { OnOk result (ops.new ≡ ops.old ++ more.now) }
-{
-    for op in more {
-        ops.push(op.copied(ops.alloc())?)?;
-    }
-    Ok(())
-}
-
 // Puts copies of the operations of commits at the end.
 fn push_ops_of(events: &Events, commits: &[CommitId], ops: &mut OpList) -> Result<(), NoMemory>
     ensures { OnOk result (ops.new ≡ ops.old ++ flat_map (ops_at events.now.list) commits.now) }
 {
     for commit in commits {
-        push_ops(ops, ops_at(events, *commit))?;
+        push_ops(ops, ops_of(events, *commit))?;
     }
     Ok(())
 }

@@ -1,8 +1,21 @@
 //! To which commits tags and resets go.
-ghost use Rattle.std.specs.Prelude.{◌≡◌, ◌<◌, Some, length, slice_get, IfOk, IsSome};
+ghost use Rattle.std.specs.Prelude.{
+  ◌≡◌,
+  ◌<◌,
+  None,
+  Some,
+  is_some,
+  length,
+  option_and_then,
+  slice_get,
+  slice_index_or,
+  IfOk,
+  IsSome,
+};
+ghost use Rattle.std.specs.List.{list_any};
 ghost use Rattle.plain_model.specs.Lookups.{find_event};
 ghost use Rattle.plain_model.specs.declared.id.AnyId.TheVariants.{Commit};
-ghost use Rattle.squash_delete.specs.Targets.{AreTargets, discarded, moving, target_for};
+ghost use Rattle.squash_delete.specs.Targets.{AreMoves, lost_target, moving, target_for};
 ghost use Rattle.squash_delete.specs.Ways.{AreBack, AreForward};
 ghost use Rattle.squash_laws.specs.Squash.{moved, takes};
 
@@ -12,7 +25,8 @@ use plain_model::{CommitId, NoMemory, PlainEvent};
 use squash_laws::{Lean, Policy, Push};
 use std::alloc::Global;
 
-/// For the place of each tag and reset the commit to which it goes, if there is one.
+/// For the place of each tag and reset of a removed commit the commit to which it goes, if there is one. Where it ends,
+/// there is none for any later place.
 pub type Targets = Vec<Option<CommitId>>;
 
 /// The commit that a tag or a reset is on.
@@ -26,31 +40,45 @@ pub fn target_of(event: &PlainEvent) -> Option<CommitId>
     }
 }
 
-// Where the tag or the reset at a place goes, if it goes with a removed commit.
-fn kept_target(removal: &Removal, place: usize) -> Option<CommitId>
-    requires { place < length removal.now.events }
-    ensures { (event : _) → slice_get removal.now.events place ≡ Some event →
-        result ≡ target_for (discarded removal.now.set) event }
+/// What a table has for a place.
+pub fn target_at(targets: &[Option<CommitId>], place: usize) -> Option<CommitId>
+    ensures { result ≡ slice_index_or targets.now place None }
 {
-    let _count = removal.count();
-    let target = target_of(removal.nth(place))?;
-    if removal.has(target) {
-        None
+    if place < targets.len() {
+        targets[place]
     } else {
-        Some(target)
+        None
     }
 }
 
-// Tags and resets go with their commits.
-fn kept_targets(alloc: Global, removal: &Removal) -> Result<Targets, NoMemory>
-    ensures { IfOk result
-        (λ table. AreTargets (discarded removal.now.set) removal.now.events table.items) }
+/// The removed commit that the tag or the reset at a place is on, if it is on one.
+pub fn lost_at(removal: &Removal, place: usize) -> Option<CommitId>
+    requires { place < length removal.now.events }
+    ensures { (event : _) → slice_get removal.now.events place ≡ Some event →
+        result ≡ lost_target removal.now.set event }
 {
-    let mut table = Vec::with_capacity(alloc, removal.count())?;
-    for place in 0..removal.count() {
-        table.push(kept_target(removal, place))?;
+    if !removal.is_near(place) {
+        return None;
     }
-    Ok(table)
+    let _count = removal.count();
+    let target = target_of(removal.nth(place))?;
+    if removal.has(target) {
+        Some(target)
+    } else {
+        None
+    }
+}
+
+// Whether some tag or reset is on a removed commit.
+fn is_any_lost(removal: &Removal) -> bool
+    ensures { result ≡ list_any (λ e. is_some (lost_target removal.now.set e)) removal.now.events }
+{
+    for place in 0..removal.count() {
+        if lost_at(removal, place).is_some() {
+            return true;
+        }
+    }
+    false
 }
 
 // Where a tag or a reset of a removed commit goes: the way to which it leans, else the other, if there is one.
@@ -68,28 +96,27 @@ fn moved(removal: &Removal, leads: &Leads, tags: Lean, commit: CommitId) -> Opti
     }
 }
 
-// Where the tag or the reset at a place goes, if it moves with a removed commit.
+// Where the tag or the reset at a place goes, if it is on a removed commit.
 fn moved_target(removal: &Removal, leads: &Leads, tags: Lean, place: usize) -> Option<CommitId>
     requires place { place < length removal.now.events }
     requires back { AreBack removal.now.set removal.now.events leads.now.back.items }
     requires forward { AreForward removal.now.set removal.now.events leads.now.forward.items }
     ensures { (event : _) → slice_get removal.now.events place ≡ Some event →
-        result ≡ target_for (moving removal.now.set removal.now.events tags) event }
+        result ≡ option_and_then (moved removal.now.set removal.now.events tags) (lost_target removal.now.set event) }
 {
     let _count = removal.count();
-    let target = target_of(removal.nth(place))?;
-    if removal.has(target) {
-        moved(removal, leads, tags, target)
-    } else {
-        Some(target)
-    }
+    let commit = lost_at(removal, place)?;
+    moved(removal, leads, tags, commit)
 }
 
-// Tags and resets move to commits that stay.
+// Tags and resets of removed commits move to commits that stay.
 fn moved_targets(alloc: Global, removal: &Removal, tags: Lean) -> Result<Targets, NoMemory>
-    ensures { IfOk result (λ table. AreTargets
+    ensures { IfOk result (λ table. AreMoves removal.now.set
         (moving removal.now.set removal.now.events tags) removal.now.events table.items) }
 {
+    if !is_any_lost(removal) {
+        return Ok(Vec::new(alloc));
+    }
     let leads = Leads::of(alloc, removal)?;
     let mut table = Vec::with_capacity(alloc, removal.count())?;
     for place in 0..removal.count() {
@@ -98,13 +125,13 @@ fn moved_targets(alloc: Global, removal: &Removal, tags: Lean) -> Result<Targets
     Ok(table)
 }
 
-/// Where all tags and resets go.
+/// Where all tags and resets of removed commits go; nowhere, where commits are discarded.
 pub fn targets(alloc: Global, removal: &Removal, how: Policy) -> Result<Targets, NoMemory>
-    ensures { IfOk result (λ table. AreTargets
+    ensures { IfOk result (λ table. AreMoves removal.now.set
         (takes removal.now.set removal.now.events how).target removal.now.events table.items) }
 {
     match how.push {
         Push::Forward | Push::Back => moved_targets(alloc, removal, how.tags),
-        Push::Discard => kept_targets(alloc, removal),
+        Push::Discard => Ok(Vec::new(alloc)),
     }
 }

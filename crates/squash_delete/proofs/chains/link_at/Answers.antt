@@ -27,15 +27,15 @@ returns-then-not-has_at c event at own is =
 
 pub nearest-nearest-requires-clause-before : goal.nearest-nearest-requires-clause-before
 nearest-nearest-requires-clause-before c =
-    own_before c.args.removal.now.events c.count-count.ensures.sound c.args.place _ c.nth-event.result.now _ c.nth-event.ensures.event c.requires.next c.parents_of-parents.ensures
+    own_before c.args.removal.now.events c.count-count.ensures.sound c.args.place _ c.nth-event.result.now _ c.nth-event.ensures.event c.requires.next c.event_parents-parents.ensures
 
 pub ends_at_root-requires-clause-before : goal.ends_at_root-requires-clause-before
 ends_at_root-requires-clause-before c =
-    own_before c.args.removal.now.events c.count-count.ensures.sound c.args.place _ c.nth-event.result.now _ c.nth-event.ensures.event c.requires.next c.parents_of-parents.ensures
+    own_before c.args.removal.now.events c.count-count.ensures.sound c.args.place _ c.nth-event.result.now _ c.nth-event.ensures.event c.requires.next c.event_parents-parents.ensures
 
 pub are_over-requires-clause-before : goal.are_over-requires-clause-before
 are_over-requires-clause-before c =
-    own_before c.args.removal.now.events c.count-count.ensures.sound c.args.place _ c.nth-event.result.now _ c.nth-event.ensures.event c.requires.next c.parents_of-parents.ensures
+    own_before c.args.removal.now.events c.count-count.ensures.sound c.args.place _ c.nth-event.result.now _ c.nth-event.ensures.event c.requires.next c.event_parents-parents.ensures
 
 pub returns : goal.returns
 returns c event at own is =
@@ -58,10 +58,10 @@ returns c event at own is =
       | then-is_idle w ↦ inl (
         sym idle ∙ w.if-is_idle.true,
         subst (IsNearest set events place (event_parents e)) (sym w.nearest-is)
-            (subst (λ ps. IsNearest set events place ps w.nearest-nearest.result) c.parents_of-parents.ensures (w.nearest-nearest.ensures place (own_before events sound place place e _ here refl c.parents_of-parents.ensures))),
+            (subst (λ ps. IsNearest set events place ps w.nearest-nearest.result) c.event_parents-parents.ensures (w.nearest-nearest.ensures place (own_before events sound place place e _ here refl c.event_parents-parents.ensures))),
       )
       | else-is_idle w ↦ inr (w.nearest-is ∙ sym (ap commit_id c.in-Commit.is) ∙ own_e)
     ] in
     notes_gone set events sound own place e c.if-is_idle.nearest c.ends_at_root.result c.are_over.result here found there gone how
-    (c.ends_at_root.ensures ∙ ap (λ ps. is_none ps || is_from_root (links set events ps)) c.parents_of-parents.ensures)
-    (c.are_over.ensures ∙ ap (λ ps. is_none (expand_all (is_removed set) (past events) ps)) c.parents_of-parents.ensures)
+    (c.ends_at_root.ensures ∙ ap (λ ps. is_none ps || is_from_root (links set events ps)) c.event_parents-parents.ensures)
+    (c.are_over.ensures ∙ ap (λ ps. is_none (expand_all (is_removed set) (past events) ps)) c.event_parents-parents.ensures)

@@ -1,10 +1,10 @@
 use Rattle.std.proofs.Common.{◌≡◌, filter, map, take}
 use Rattle.plain_model.specs.Lookups.{id_of}
 use Rattle.squash_delete.specs.Leaving.{goes}
-use Rattle.squash_delete.specs.Targets.{AreTargets}
+use Rattle.squash_delete.specs.Targets.{AreMoves}
 use Rattle.squash_laws.specs.Removed.{Takings}
 use Rattle.squash_delete.proofs.leaving.leaving.Given as goal
 
 abbrev pub invariant-loop-place : goal.invariant-loop-place
-invariant-loop-place l = (takes : Takings) → AreTargets takes.target l.removal.events l.targets →
+invariant-loop-place l = (takes : Takings) → AreMoves l.removal.set takes.target l.removal.events l.targets →
     l.ids ≡ map id_of (filter (goes l.removal.set takes) (take l.place l.removal.events))

@@ -7,7 +7,7 @@ use Rattle.event_arena.specs.Changes.{changed, with_comment, with_ops}
 use Rattle.event_arena.specs.Graphs.{Change}
 use Rattle.manifest_cache.specs.Walks.{commit_id}
 use Rattle.squash_delete.specs.Taking.{IsTakenBy, comment_taken, ops_taken}
-use Rattle.squash_delete.proofs.MovingLemmas.{commit_taken, none_taken, own_count, same_taken}
+use Rattle.squash_delete.proofs.MovingLemmas.{commit_taken, le_is, none_taken, own_count, same_taken}
 use Rattle.squash_delete.proofs.WayLemmas.{no_id}
 use Rattle.squash_delete.proofs.moving.take.Goals as goal
 
@@ -17,7 +17,7 @@ returns-in_default c par takes event at no_removed taken start was =
     let e = c.nth.result.now in
     let same : event ≡ e = same_Some event e (sym at ∙ c.nth.ensures.event) in
     let n = none_taken c.args.removal.now.set events c.count-count.ensures.sound par takes c.args.place event at (ap commit_id same ∙ no_id e c.in_default.not-Commit) in
-    (was ∙ ap (λ (es : List PlainEvent). record start { after = es }) n.0, n.1)
+    (was ∙ ap (λ (es : List PlainEvent). record start { after = es }) n.0, le_is _ _ n.1)
 
 pub returns-then-is_nothing : goal.returns-then-is_nothing
 returns-then-is_nothing c par takes event at no_removed taken start was =
@@ -29,7 +29,7 @@ returns-then-is_nothing c par takes event at no_removed taken start was =
     let is : event ≡ Commit v.id v.mark v.branch v.author v.committer v.encoding v.comment v.parents v.ops v.aliases = same_Some event e (sym at ∙ c.nth.ensures.event) ∙ v.is in
     let n = same_taken set events c.count-count.ensures.sound par takes c.args.place v.id v.mark v.branch v.author v.committer v.encoding v.comment v.parents v.ops v.aliases
     (at ∙ ap Some is) (no_removed v.id (ap commit_id is)) t (sym c.is_nothing.ensures ∙ c.if-is_nothing.true) (subst (IsTakenBy events t takes) is taken) in
-    (was ∙ ap (λ (es : List PlainEvent). record start { after = es }) n.0, ap length c.as_slice.ensures ∙ n.1 ∙ sym (ap (own_count set events c.count-count.ensures.sound par takes) is))
+    (was ∙ ap (λ (es : List PlainEvent). record start { after = es }) n.0, le_is _ _ (ap length c.as_slice.ensures ∙ n.1 ∙ sym (ap (own_count set events c.count-count.ensures.sound par takes) is)))
 
 pub returns : goal.returns
 returns c par takes event at no_removed taken start was =
@@ -48,5 +48,5 @@ returns c par takes event at no_removed taken start was =
       c.in_ok-give.ensures
           ∙ ap (λ (p : Change). record p { after = changed (any.Commit v.id) (λ x. with_comment comment (with_ops ops x)) p.after }) was
           ∙ ap (λ (es : List PlainEvent). record start { after = es }) n.0,
-      ap length c.as_slice-4.ensures ∙ n.1 ∙ sym (ap (own_count set events c.count-count.ensures.sound par takes) is),
+      le_is _ _ (ap length c.as_slice-4.ensures ∙ n.1 ∙ sym (ap (own_count set events c.count-count.ensures.sound par takes) is)),
     )

@@ -5,8 +5,7 @@ use Rattle.graph_walk.proofs.PlaceLemmas.{item_at}
 use Rattle.squash_laws.specs.Squash.{takes}
 use Rattle.squash_delete.specs.Leaving.{goes, with_own_parents, with_takings}
 use Rattle.squash_delete.specs.Sources.{count_ops, push_of}
-use Rattle.plan_limits.proofs.Counting.{count_more, count_passed}
-use Rattle.squash_delete.proofs.MovingLemmas.{counted_left, lt_of, own_count}
+use Rattle.squash_delete.proofs.MovingLemmas.{counted_left, counted_more, counted_passed, own_count}
 use Rattle.squash_delete.proofs.Passes.{so_far_all}
 use Rattle.squash_delete.proofs.moving.take_all.Goals as goal
 use Rattle.squash_delete.proofs.moving.take_all.Goals.{then-bounded+else-total-count, else-bounded}
@@ -24,9 +23,8 @@ returns-then-total-count c par tags start was =
     let step = c.in_ok-count.ensures par tags item.0 item.1 start inv.0 in
     let test = c.if-total-count.true in (
       c.if-bounded.true,
-      lt_of MAX_OPERATIONS (count_ops (map (with_takings par taking) (filter (λ e. not (goes set taking e)) events)))
-          (count_passed (own_count set events sound par taking) (λ es. count_ops (map (with_takings par taking) (filter (λ e. not (goes set taking e)) es))) (counted_left set events sound par taking) MAX_OPERATIONS
-          events place c.loop-place.total c.in_ok-count.count item.0 item.1 (inv.1 c.if-bounded.true) step.1 (omega arith)),
+      counted_passed (own_count set events sound par taking) (λ es. count_ops (map (with_takings par taking) (filter (λ e. not (goes set taking e)) es))) (counted_left set events sound par taking) MAX_OPERATIONS
+          events place c.loop-place.total c.in_ok-count.count item.0 item.1 (inv.1 c.if-bounded.true) step.1 (omega arith),
     )
 
 pub loop-place-preserved : goal.loop-place-preserved
@@ -49,8 +47,9 @@ loop-place-preserved c =
             step.0,
             λ so. elim c.if-bounded.branch [
               | then-bounded+else-total-count w ↦
-                  w.total-is ∙ count_more (own_count set events sound par taking) (λ es. count_ops (map (with_takings par taking) (filter (λ e. not (goes set taking e)) es))) (counted_left set events sound par taking) MAX_OPERATIONS
-                  events place c.loop-place.total c.in_ok-count.count item.0 item.1 (inv.1 so) step.1
+                  let is = w.total-is in
+                  let more = counted_more (own_count set events sound par taking) (λ es. count_ops (map (with_takings par taking) (filter (λ e. not (goes set taking e)) es))) (counted_left set events sound par taking)
+                  events place c.loop-place.total c.in_ok-count.count item.0 item.1 (inv.1 so) step.1 in omega arith
               | else-bounded w ↦ absurd (true≢false (sym so ∙ w.if-bounded.false))
             ],
           );

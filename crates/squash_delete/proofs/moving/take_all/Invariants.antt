@@ -14,6 +14,6 @@ invariant-loop-place l = record {
   taken : (par : List ℕ → List ℕ) (tags : Lean) (start : Change) →
       l.initial.plan ≡ record start { after = map (with_own_parents par) (staying l.removal.set (takes l.removal.set l.removal.events (record { push = push_of l.sources; tags = tags })) l.removal.events) } →
       (l.plan ≡ record start { after = taken_to l.removal.set par (takes l.removal.set l.removal.events (record { push = push_of l.sources; tags = tags })) l.place l.removal.events })
-      × (l.bounded ≡ true → l.total ≡ count_ops (map (with_takings par (takes l.removal.set l.removal.events (record { push = push_of l.sources; tags = tags })))
+      × (l.bounded ≡ true → l.total ≤ count_ops (map (with_takings par (takes l.removal.set l.removal.events (record { push = push_of l.sources; tags = tags })))
       (filter (λ e. not (goes l.removal.set (takes l.removal.set l.removal.events (record { push = push_of l.sources; tags = tags })) e)) (take l.place l.removal.events))));
 }

@@ -13,7 +13,8 @@ use Rattle.squash_laws.specs.declared.policy.Push.TheVariants as push
 use Rattle.squash_delete.specs.Sources.{AreSources, TakesFrom, push_of}
 use Rattle.squash_delete.specs.declared.moving.Sources.{Sources}
 use Rattle.squash_delete.proofs.ChainLemmas.{all_before}
-use Rattle.squash_delete.proofs.MovingLemmas.{back_taken, forward_taken, gone_taken}
+use Rattle.squash_delete.proofs.MovingLemmas.{apart_taken, back_taken, forward_taken, gone_taken, le_is}
+use Rattle.squash_delete.proofs.NearLemmas.{is_apart}
 use Rattle.squash_delete.proofs.NodeLemmas.{parents_there}
 use Rattle.squash_delete.proofs.WayLemmas.{removed_at}
 use Rattle.squash_delete.proofs.moving.take_from.Goals as goal
@@ -23,23 +24,34 @@ returns-then-has_at c par tags event at start was =
     let events = c.args.removal.now.events in
     let set = c.args.removal.now.set in
     let n = gone_taken set events c.count-count.ensures.sound par (takes set events (record { push = push_of c.args.sources.now; tags = tags })) c.args.place event at (sym (c.has_at.ensures event at) ∙ c.if-has_at.true) in
-    (was ∙ ap (λ (es : List PlainEvent). record start { after = es }) n.0, n.1)
+    (was ∙ ap (λ (es : List PlainEvent). record start { after = es }) n.0, le_is _ _ n.1)
+
+pub returns-then-not-is_near : goal.returns-then-not-is_near
+returns-then-not-is_near c =
+    let events = c.args.removal.now.events in
+    let set = c.args.removal.now.set in
+    subst (λ (s : Sources). TakesFrom set events (push_of s) c.args.place c.args.plan.now c.args.plan.now 0) (sym c.in-Before.is)
+    (λ par tags event at start was. (
+      was ∙ ap (λ (es : List PlainEvent). record start { after = es })
+          (apart_taken set events c.count-count.ensures.sound par tags c.args.place event at (is_apart set event (c.is_near.ensures event at c.if-not-is_near.true)).parents),
+      omega arith,
+    ))
 
 pub carried-requires-clause-before : goal.carried-requires-clause-before
 carried-requires-clause-before c =
     let events = c.args.removal.now.events in
     let src = subst (AreSources c.args.removal.now.set events) c.in-Before.is c.requires.sources in
     let whole = ap length c.deref.ensures.value ∙ src.0 in
-    all_before events (length c.deref.result.now) (omega arith) c.parents_of-parents.result.now
-    (subst (AllByRecursion (λ p. IsSome (find_event (any.Commit p) events))) (sym c.parents_of-parents.ensures) (parents_there events c.count-count.ensures.sound c.args.place c.nth.result.now c.nth.ensures.event))
+    all_before events (length c.deref.result.now) (omega arith) c.event_parents-parents.result.now
+    (subst (AllByRecursion (λ p. IsSome (find_event (any.Commit p) events))) (sym c.event_parents-parents.ensures) (parents_there events c.count-count.ensures.sound c.args.place c.nth.result.now c.nth.ensures.event))
 
 pub begins_anew-anew-requires-clause-before : goal.begins_anew-anew-requires-clause-before
 begins_anew-anew-requires-clause-before c =
     let events = c.args.removal.now.events in
     let src = subst (AreSources c.args.removal.now.set events) c.in-Before.is c.requires.sources in
     let whole = ap length c.deref-in-Before.ensures.value ∙ src.0 in
-    all_before events (length c.deref-in-Before.result.now) (omega arith) c.parents_of-parents.result.now
-    (subst (AllByRecursion (λ p. IsSome (find_event (any.Commit p) events))) (sym c.parents_of-parents.ensures) (parents_there events c.count-count.ensures.sound c.args.place c.nth.result.now c.nth.ensures.event))
+    all_before events (length c.deref-in-Before.result.now) (omega arith) c.event_parents-parents.result.now
+    (subst (AllByRecursion (λ p. IsSome (find_event (any.Commit p) events))) (sym c.event_parents-parents.ensures) (parents_there events c.count-count.ensures.sound c.args.place c.nth.result.now c.nth.ensures.event))
 
 pub returns-in_ok-before-in-Before : goal.returns-in_ok-before-in-Before
 returns-in_ok-before-in-Before c =
@@ -51,8 +63,8 @@ returns-in_ok-before-in-Before c =
     let same : event ≡ c.nth.result.now = same_Some event c.nth.result.now (sym at ∙ c.nth.ensures.event) in
     over par (takes set events (record { push = push.Forward; tags = tags })) event at
     (λ own is. sym (removed_at set own event c.has_at.result is (c.has_at.ensures event at)) ∙ c.if-has_at.false)
-    (forward_taken set events tags c.new.result event c.in_ok-before-in-Before.before.items c.parents_of-parents.result.now c.begins_anew-anew.result
-    c.in_ok-before-in-Before.ensures c.begins_anew-anew.ensures (c.parents_of-parents.ensures ∙ ap event_parents (sym same))
+    (forward_taken set events tags c.new.result event c.in_ok-before-in-Before.before.items c.event_parents-parents.result.now c.begins_anew-anew.result
+    c.in_ok-before-in-Before.ensures c.begins_anew-anew.ensures (c.event_parents-parents.ensures ∙ ap event_parents (sym same))
     c.new.ensures.anew (c.new.ensures.before ∙ c.deref-in-Before-2.ensures.value) c.new.ensures.after)
     start was)) c.take.ensures
 

@@ -5,7 +5,7 @@ use Rattle.event_arena.specs.Changes.{without_all}
 use Rattle.event_arena.specs.Once.{AreDistinct}
 use Rattle.graph_walk.proofs.TurnLemmas.{on_ok}
 use Rattle.squash_delete.specs.Leaving.{goes}
-use Rattle.squash_delete.specs.Targets.{AreTargets}
+use Rattle.squash_delete.specs.Targets.{AreMoves}
 use Rattle.squash_delete.proofs.SweepLemmas.{without_passing}
 use Rattle.squash_delete.proofs.squashing.take_away.Goals as goal
 
@@ -14,9 +14,9 @@ returns c =
     let events = c.args.removal.now.events in
     let set = c.args.removal.now.set in
     let p = c.args.plan.now in
-    let once = subst AreDistinct c.requires.whole c.count-count.ensures.once in
+    let once = subst AreDistinct c.requires c.count-count.ensures.once in
     on_ok c.remove_all.result _ _ (λ is takes t.
     is ∙ ap (λ (es : List PlainEvent). record p { after = es })
-    (ap (without_all c.in_ok-ids.ids) c.requires.whole
-    ∙ ap (λ (ids : List AnyId). without_all ids events) (c.in_ok-ids.ensures takes (subst (AreTargets takes.target events) (sym c.deref.ensures.value) t))
+    (ap (without_all c.in_ok-ids.ids) c.requires
+    ∙ ap (λ (ids : List AnyId). without_all ids events) (c.in_ok-ids.ensures takes (subst (AreMoves set takes.target events) (sym c.deref.ensures.value) t))
     ∙ without_passing (goes set takes) events once)) c.remove_all.ensures.ok

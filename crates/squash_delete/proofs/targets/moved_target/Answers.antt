@@ -1,13 +1,11 @@
 use Rattle.std.proofs.Common.{◌∙◌, sym}
+use Rattle.graph_walk.proofs.PlaceLemmas.{item_at}
+use Rattle.squash_delete.proofs.NearLemmas.{lost_is}
 use Rattle.squash_delete.proofs.NodeLemmas.{target_there}
 use Rattle.squash_delete.proofs.targets.moved_target.Goals as goal
 
-pub has-requires : goal.has-requires
-has-requires c =
-    target_there c.args.removal.now.events c.count-count.ensures.sound c.args.place c.in_ok-target.target c.nth.result.now c.nth.ensures.event
-    (sym c.target_of.ensures ∙ c.in_ok-target.was)
-
 pub moved-requires-clause-there : goal.moved-requires-clause-there
 moved-requires-clause-there c =
-    target_there c.args.removal.now.events c.count-count.ensures.sound c.args.place c.in_ok-target.target c.nth.result.now c.nth.ensures.event
-    (sym c.target_of.ensures ∙ c.in_ok-target.was)
+    let item = item_at c.args.removal.now.events c.args.place c.requires.place in
+    target_there c.args.removal.now.events c.count-count.ensures.sound c.args.place c.in_ok-commit.commit item.0 item.1
+    (lost_is c.args.removal.now.set c.in_ok-commit.commit item.0 (sym (c.lost_at.ensures item.0 item.1) ∙ c.in_ok-commit.was)).0

@@ -23,7 +23,7 @@ returns c =
     let k = c.unwrap-place.result in
     let there : place_of (any.Commit c.args.commit) events ≡ Some k = sym c.place.ensures.place ∙ c.unwrap-place.ensures in
     let p = event_placed events (any.Commit c.args.commit) k there in
-    let low : k < length flags = let within = place_within events (any.Commit c.args.commit) k there in let count = c.self.invariant.count in omega arith in
-    get_or_read flags k c.index.result.now low c.index.ensures false ∙ c.self.invariant.flag k p.event p.at
+    let low : k < length flags = let within = place_within events (any.Commit c.args.commit) k there in let count = c.self.invariant.own.count in omega arith in
+    get_or_read flags k c.index.result.now low c.index.ensures false ∙ c.self.invariant.own.flag k p.event p.at
     ∙ ap (λ id. is_listed id c.self.inside.set) (sym p.own)
     ∙ ap (λ (r : Removing). is_listed (any.Commit c.args.commit) r.set) c.self.view_is

@@ -1,6 +1,6 @@
 use Rattle.std.proofs.Common.{◌∙◌, sym}
 use Rattle.squash_delete.proofs.NodeLemmas.{target_there}
-use Rattle.squash_delete.proofs.targets.kept_target.Goals as goal
+use Rattle.squash_delete.proofs.targets.lost_at.Goals as goal
 
 pub has-requires : goal.has-requires
 has-requires c =

@@ -1,0 +1,7 @@
+use Rattle.std.proofs.Common.{filter, take}
+use Rattle.plain_model.specs.Lookups.{id_of, is_listed}
+use Rattle.squash_delete.specs.Flags.{FlagsNamed}
+use Rattle.squash_delete.proofs.sweeping.named_by_removed.Given as goal
+
+abbrev pub invariant-loop-place : goal.invariant-loop-place
+invariant-loop-place l = FlagsNamed l.plan.after (filter (λ e. is_listed (id_of e) l.removal.set) (take l.place l.removal.events)) l.flags.items

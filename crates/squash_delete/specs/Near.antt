@@ -1,0 +1,50 @@
+-- The events near a set: those of it, and those that refer to one of its commits. The others stay as they are.
+use Rattle.std.specs.Prelude.{ℕ, ◌≡◌, ◌<◌, Bool, true, false, ◌||◌, List, [], ◌∷◌, length, take, Some, slice_get, slice_index_or, if◌then◌else◌}
+use Rattle.std.specs.List.{list_any}
+use Rattle.std.specs.Option.{option_map_or}
+use Rattle.plain_model.specs.declared.id.AnyId.{AnyId}
+use Rattle.plain_model.specs.declared.id.AnyId.TheVariants as any
+use Rattle.plain_model.specs.declared.event.PlainEvent.{PlainEvent}
+use Rattle.plain_model.specs.Lookups.{event_parents, find_event, id_of, is_listed, place_of}
+use Rattle.edit_laws.specs.Settling.{is_ready}
+use Rattle.graph_walk.specs.Flags.{FlagsOf, is_flagged_commit}
+use Rattle.squash_laws.specs.Removed.{is_removed}
+use Rattle.squash_delete.specs.Targets.{target_for}
+
+-- the event is a tag or a reset on such a commit
+abbrev pub is_on : (ℕ → Bool) → PlainEvent → Bool
+is_on of e = option_map_or of (target_for Some e) false
+
+-- it is one of the set, or a child of a removed commit, or a tag or a reset on one
+abbrev pub is_near : List AnyId → PlainEvent → Bool
+is_near set e = is_listed (id_of e) set || (list_any (is_removed set) (event_parents e) || is_on (is_removed set) e)
+
+-- where an event has no flag, it isn't near
+pub record AreNear (set : List AnyId) (events : List PlainEvent) (near : List Bool) : Type 0 where
+  pub count : length near ≡ length events
+  pub apart : (k : ℕ) (e : PlainEvent) → slice_get events k ≡ Some e → slice_index_or near k false ≡ false → is_near set e ≡ false
+
+-- flags of the set, and of what is near
+pub record AreFlagged (set : List AnyId) (events : List PlainEvent) (flags near : List Bool) : Type 0 where
+  pub own : FlagsOf events set flags
+  pub around : AreNear set events near
+
+-- the id, if it is that of a tag or a reset on a commit with a flag
+abbrev pub on_flagged : List Bool → List PlainEvent → AnyId → List AnyId
+on_flagged flags events id =
+    if option_map_or (is_on (is_flagged_commit flags events)) (find_event id events) false then id ∷ [] else []
+
+-- the ids of one list are among those of another
+abbrev pub HasAll : List AnyId → List AnyId → Type 0
+HasAll few many = (id : AnyId) → is_listed id few ≡ true → is_listed id many ≡ true
+
+-- the ids of all tags and resets on commits with a flag are among these, where their numbers are below
+pub record HasAllOn (flags : List Bool) (events : List PlainEvent) (below : ℕ) (ids : List AnyId) : Type 0 where
+  pub tag : (n : ℕ) → n < below → HasAll (on_flagged flags events (any.Tag n)) ids
+  pub reset : (n : ℕ) → n < below → HasAll (on_flagged flags events (any.Reset n)) ids
+
+-- what is left of each event near the set is after all that it refers to
+abbrev pub AreReadyNear : List AnyId → List PlainEvent → List PlainEvent → Type 0
+AreReadyNear set events left =
+    (k p : ℕ) (e d : PlainEvent) → slice_get events k ≡ Some e → is_near set e ≡ true → place_of (id_of e) left ≡ Some p →
+    slice_get left p ≡ Some d → is_ready (take p left) d ≡ true
