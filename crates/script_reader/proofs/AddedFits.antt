@@ -8,7 +8,7 @@ use Rattle.plain_model.specs.Paths.{Bytes}
 use Rattle.sample_history.specs.declared.limit.TheConstants.{MAX_COMMITS}
 use Rattle.squash_laws.specs.Faults.{delete_how}
 use Rattle.script_reader.specs.Answering.{◌>>=◌}
-use Rattle.script_reader.specs.Commands.{add_words, added, alone, asked_by, assign_form, choose_form, choose_of, coalesce_words, cut_form, do_form, drop_form, drop_of, edit_form, form_of, free_form, if_given, is_long, name_within, names_form, op_by, or_at_fault, order_after, order_in, order_of, output_in, read_form, read_of, remove_words, removal_of, renumber_form, reparent_words, reparenting_by, sample_form, sample_start, show_form, split_words, squash_words, steps, summary_form, text_before, too_long, whole_in, write_form}
+use Rattle.script_reader.specs.Commands.{add_words, added, alone, asked_by, assign_form, choose_form, choose_of, coalesce_words, cut_form, do_form, drop_form, drop_of, edit_form, expunge_form, form_of, free_form, if_given, is_long, name_within, names_form, op_by, or_at_fault, order_after, order_in, order_of, output_in, read_form, read_of, remove_words, removal_of, renumber_form, reparent_words, reparenting_by, sample_form, sample_start, show_form, split_words, squash_words, steps, summary_form, text_before, texts_in, too_long, whole_in, write_form}
 use Rattle.script_reader.specs.Cuts.{cut_of}
 use Rattle.script_reader.specs.Keywords.{keyword_of}
 use Rattle.script_reader.specs.Names.{is_repo_name, repo_name}
@@ -185,6 +185,11 @@ sample_fits [] = tt
 sample_fits (word ∷ words) =
     bound IsSpelledCommand (or_at_fault word (said_between 1 MAX_COMMITS (whole_in word))) (λ count. sample_start count words) (λ count is. start_fits count words)
 
+expunge_fits : (words : List Word) → IfAnswered IsSpelledCommand (expunge_form words)
+unfolding expunge_form
+expunge_fits [] = tt
+expunge_fits (word ∷ words) = bound IsSpelledCommand (texts_in (word ∷ words)) (λ texts. Ok (command.Expunge texts)) (λ texts is. tt)
+
 -- ---- lines
 
 stepped : (r : Result Command Fault) → IfAnswered IsSpelledCommand r → IfAnswered OrderFits (steps r)
@@ -225,6 +230,7 @@ form_fits selection keyword.Remove words =
 form_fits selection keyword.Coalesce words = stepped (free_form selection (coalesce_words words)) (free_fits selection (coalesce_words words) (coalesce_fits words))
 form_fits selection keyword.Simplify words =
     stepped (free_form selection (alone edit.Simplify words)) (free_fits selection (alone edit.Simplify words) (lone IsSpelledEdit edit.Simplify words tt))
+form_fits selection keyword.Expunge words = stepped (expunge_form words) (expunge_fits words)
 form_fits selection keyword.Names words = stepped (names_form words) (names_fits words)
 form_fits selection keyword.Summary words = stepped (summary_form words) (summary_fits words)
 form_fits selection keyword.Sample words = stepped (sample_form words) (sample_fits words)

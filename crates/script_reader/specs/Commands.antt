@@ -238,6 +238,11 @@ unfoldable pub sample_form : List Word → Result Command Fault
 sample_form [] = Err (fault.BadWords (codes "sample"))
 sample_form (word ∷ words) = or_at_fault word (said_between 1 MAX_COMMITS (whole_in word)) >>= λ count. sample_start count words
 
+-- `expunge WORD [WORD ..]`
+unfoldable pub expunge_form : List Word → Result Command Fault
+expunge_form [] = Err (fault.BadWords (codes "expunge"))
+expunge_form (word ∷ words) = texts_in (word ∷ words) >>= λ texts. Ok (command.Expunge texts)
+
 -- `[sel] do NAME [WORD ..]`
 unfoldable pub do_form : Option Bytes → List Word → Result Call Fault
 do_form selection [] = Err (fault.BadWords (codes "do"))
@@ -272,6 +277,7 @@ form_of selection keyword.Add words = steps (edit_form (codes "add") selection (
 form_of selection keyword.Remove words = steps (edit_form (codes "remove") selection (remove_words words))
 form_of selection keyword.Coalesce words = steps (free_form selection (coalesce_words words))
 form_of selection keyword.Simplify words = steps (free_form selection (alone edit.Simplify words))
+form_of selection keyword.Expunge words = steps (expunge_form words)
 form_of selection keyword.Names words = steps (names_form words)
 form_of selection keyword.Summary words = steps (summary_form words)
 form_of selection keyword.Sample words = steps (sample_form words)

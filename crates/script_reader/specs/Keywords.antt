@@ -29,6 +29,7 @@ keyword_of word =
     if bytes_eq word (codes "remove") then Some keyword.Remove else
     if bytes_eq word (codes "coalesce") then Some keyword.Coalesce else
     if bytes_eq word (codes "simplify") then Some keyword.Simplify else
+    if bytes_eq word (codes "expunge") then Some keyword.Expunge else
     if bytes_eq word (codes "names") then Some keyword.Names else
     if bytes_eq word (codes "summary") then Some keyword.Summary else
     if bytes_eq word (codes "sample") then Some keyword.Sample else

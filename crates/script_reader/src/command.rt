@@ -58,6 +58,10 @@ pub enum Command {
         selection: Option<WrittenSelection>,
         what: Edit,
     },
+    /// Removes the paths that a word matches from the whole past of the chosen history.
+    Expunge {
+        words: LineList,
+    },
     /// Prints a line for each branch and tag.
     Names {
         to: Option<ScriptText>,

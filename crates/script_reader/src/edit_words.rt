@@ -27,11 +27,12 @@ ghost use Rattle.squash_laws.specs.Faults.{delete_how};
 
 use crate::cut::Cut;
 use crate::edit::Edit;
-use crate::form::{at_fault, bad_words, text_before};
+use crate::form::{at_fault, bad_words};
 use crate::number::{USUAL_SECONDS, index_in, seconds_in};
 use crate::options::{Asked, Reparenting, SquashOption};
 use crate::script_text::ScriptText;
 use crate::spelled::{SaidOp, SpelledOp};
+use crate::texts::text_before;
 use crate::word::Word;
 use plain_model::Halt;
 use squash_laws::{Lean, Policy, Push};

@@ -9,6 +9,7 @@ ghost use Rattle.script_reader.specs.Commands.{
   do_form,
   drop_form,
   edit_form,
+  expunge_form,
   form_of,
   free_form,
   if_given,
@@ -25,8 +26,6 @@ ghost use Rattle.script_reader.specs.Commands.{
   show_form,
   steps,
   summary_form,
-  text_before,
-  texts_in,
   whole_in,
   write_form,
 };
@@ -45,6 +44,7 @@ use crate::repo_name::{is_repo_name, repo_name};
 use crate::script::LineList;
 use crate::script_text::ScriptText;
 use crate::selecting::WrittenSelection;
+use crate::texts::{text_before, texts_in};
 use crate::word::Word;
 use plain_model::{Fault, Halt, Items, NoMemory, Text};
 use sample_history::MAX_COMMITS;
@@ -307,29 +307,16 @@ fn sample(alloc: Global, words: &[Word]) -> Result<Command, Halt>
     }
 }
 
-/// A word as a text, before such others. Only the last word can be a redirection.
-pub fn text_before(alloc: Global, others: &[Word], word: &Word) -> Result<ScriptText, Halt>
-    ensures { Returns (λ text. text) result
-        (or_at_fault word.now (text_before others.now word.now)) }
+// `expunge WORD [WORD ..]`
+#[tactic(auto, unfolding(crate::specs::Commands::expunge_form))]
+fn expunge(alloc: Global, words: &[Word]) -> Result<Command, Halt>
+    ensures { Returns (λ command. command) result (expunge_form words.now) }
 {
-    match word {
-        Word::Plain(text) if !others.is_empty() || !begins_with_sign(text.as_bytes()) => {
-            Ok(ScriptText::of(alloc, text.as_str())?)
-        }
-        Word::Quoted(text) => Ok(ScriptText::of(alloc, text.as_str())?),
-        _ => Err(at_fault(alloc, word)),
+    if words.is_empty() {
+        return Err(bad_words(alloc, b"expunge"));
     }
-}
-
-// All words as texts.
-fn texts_in(alloc: Global, words: &[Word]) -> Result<LineList, Halt>
-    ensures { Returns (λ texts. texts) result (texts_in words.now) }
-{
-    let mut texts = Items::new(alloc)?;
-    for (i, word) in words.iter().enumerate() {
-        texts.push(text_before(alloc, &words[i + 1..], word)?)?;
-    }
-    Ok(texts)
+    let words = texts_in(alloc, words)?;
+    Ok(Command::Expunge { words })
 }
 
 // `[sel] do NAME [WORD ..]`
@@ -430,6 +417,7 @@ pub fn form(
         Keyword::Remove => steps(edit(alloc, b"remove", selection, remove(alloc, words))),
         Keyword::Coalesce => steps(free(selection, coalesce(alloc, words))),
         Keyword::Simplify => steps(free(selection, only(alloc, Edit::Simplify, words))),
+        Keyword::Expunge => steps(expunge(alloc, words)),
         Keyword::Names => steps(names(alloc, words)),
         Keyword::Summary => steps(summary(alloc, words)),
         Keyword::Sample => steps(sample(alloc, words)),

@@ -28,6 +28,7 @@ pub enum Keyword {
     Remove,
     Coalesce,
     Simplify,
+    Expunge,
     Names,
     Summary,
     Sample,
@@ -85,6 +86,8 @@ impl Keyword {
             Some(Keyword::Coalesce)
         } else if word == b"simplify".as_slice() {
             Some(Keyword::Simplify)
+        } else if word == b"expunge".as_slice() {
+            Some(Keyword::Expunge)
         } else if word == b"names".as_slice() {
             Some(Keyword::Names)
         } else if word == b"summary".as_slice() {
