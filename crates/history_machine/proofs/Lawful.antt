@@ -1,6 +1,6 @@
 -- Each command leaves lawful repositories.
 use Rattle.std.proofs.Common.{◌≡◌, ℕ, suc, ◌+◌, ◌≤◌, ◌<◌, Bool, true, false, List, [], ◌∷◌, ◌++◌, length, map, take, max, Option, Some, None, Result, Ok, Err, refl, sym, ap, subst, ◌∙◌, nat_lt, arith}
-use Rattle.std.specs.Prelude.{IsFalse, if◌then◌else◌, bytes_eq, slice_get}
+use Rattle.std.specs.Prelude.{IsFalse, IsOk, if◌then◌else◌, bytes_eq, slice_get}
 use Rattle.std.specs.List.{fold}
 use Rattle.std.specs.FinMap.{get}
 use Rattle.std.proofs.lemmas.List.{length-append, length-map}
@@ -25,6 +25,9 @@ use Rattle.split_laws.specs.Split.{first_touch, split_at_of, split_by_of, split_
 use Rattle.reorder_laws.specs.Reorder.{reorder_of}
 use Rattle.coalesce_laws.specs.Coalesce.{coalesce_of}
 use Rattle.simplify_laws.specs.Simplify.{simplify_of}
+use Rattle.expunge_laws.specs.Expunged
+use Rattle.expunge_laws.specs.Expunged.{expunge_of}
+use Rattle.path_expunge.specs.Matching.{Matches, matched_by}
 use Rattle.reparent_laws.specs.Merge.{merge_of, unmerge_of}
 use Rattle.reparent_laws.specs.Operations.{add_of, remove_of}
 use Rattle.reparent_laws.specs.Remaining.{AddsNothing}
@@ -64,9 +67,10 @@ use Rattle.history_machine.specs.Lawful.{IsLawful, IsLawfulHistory, IsLawfulRepo
 use Rattle.script_reader.specs.Answering.{◌>>=◌}
 use Rattle.history_machine.specs.Loading.{loaded, over, read_of}
 use Rattle.history_machine.specs.Machine.{Turn}
-use Rattle.history_machine.specs.Sessions.{Repo, Session, after_assign, after_choose, after_drop, after_drop_chosen, after_edit, after_read, after_renumber, after_sample, calling, carried, changes, chosen, edited, find_repo, line_step, ordered, read_repo, ready, remade, reports, room, sample_name, step, there, unassigned, unless, unused, with_history, with_live_names, with_one_more, with_repo, without_repo}
+use Rattle.history_machine.specs.Sessions.{Repo, Session, Subject, after_assign, after_choose, after_drop, after_drop_chosen, after_edit, after_expunge, after_read, after_renumber, after_sample, calling, carried, changes, chosen, edited, expunged, find_repo, line_step, ordered, read_repo, ready, remade, reports, room, sample_name, step, there, unassigned, unless, unused, with_history, with_live_names, with_one_more, with_repo, without_repo}
 use Rattle.history_machine.proofs.Selections.{listed_here, live_once, names_more, selection_of}
 use Rattle.history_machine.proofs.Ready.{AreLawful, LiveIn, chosen_lawful, ready_live, ready_once}
+use Rattle.history_machine.proofs.Steps.{expunge_came}
 
 -- a command that is done leaves such histories
 abbrev GoesWell : Result (Turn Session) Fault → Type 0
@@ -268,6 +272,10 @@ module _
     (simplified_sound : (set : List AnyId) (events new : List PlainEvent) → IsSound events → simplify_of set events ≡ Ok new → IsSound new)
     (simplified_within : (set : List AnyId) (events new : List PlainEvent) → IsWithinLimits events → simplify_of set events ≡ Ok new → IsWithinLimits new)
     (simplified_below : (set : List AnyId) (events new : List PlainEvent) (next : ℕ) → simplify_of set events ≡ Ok new → AreIdsBelow next events → AreIdsBelow next new)
+    (expunged_sound : (matched : Bytes → Bool) (events new : List PlainEvent) → IsSound events → expunge_of matched events ≡ Ok new → IsSound new)
+    (expunged_within : (matched : Bytes → Bool) (events new : List PlainEvent) → IsSound events → expunge_of matched events ≡ Ok new → IsWithinLimits new)
+    (expunged_below : (matched : Bytes → Bool) (events new : List PlainEvent) (next : ℕ) → Expunged.expunged matched events ≡ Ok new → AreIdsBelow next events → AreIdsBelow next new)
+    (expunge_ends : (matched : Bytes → Bool) (events : List PlainEvent) → IsSound events → IsOk (Expunged.expunged matched events))
     (spelled : (line : Bytes) (what : Command) → order_of line ≡ Ok (order.Step what) → IsSpelledCommand what)
   where
     read_lawful : (name : Bytes) (file : Option Bytes) (events : List PlainEvent) → read_of name file ≡ Ok events → IsLawfulHistory events
@@ -555,28 +563,52 @@ module _
         let was = chosen_lawful s repo is h in
         with_new (with_name repo free ids) s.repos h (record { history = was.history; names = names_more repo.names free ids was.names k; spent = was.spent })))
 
-    carried_well : (s : Session) (files : Files) (ids : Ids) (what : Command) → IsLawful s → IsSpelledCommand what → IsOnce ids → LiveIn s ids → GoesWell (carried s files ids what)
+    expunged_well : (matchers : List Matches) (repo : Repo) → IsLawfulRepo repo → EditsWell (with_history repo (expunge_of (matched_by matchers) repo.history))
+    expunged_well matchers repo h = go (expunge_of matched events) refl
+      where
+        matched : Bytes → Bool
+        matched = matched_by matchers
+
+        events : List PlainEvent
+        events = repo.history
+
+        go : (r : Result (List PlainEvent) Fault) → expunge_of matched events ≡ r → EditsWell (with_history repo r)
+        go (Err why) e = tt
+        go (Ok after) e =
+            let sound = h.history.sound in
+            history_well repo after repo.next h (expunged_sound matched events after sound e) (expunged_within matched events after sound e)
+            (expunged_below matched events after repo.next (expunge_came matched events after (expunge_ends matched events sound) e) (below_spent events repo.next h.spent)) (omega arith)
+
+    expunge_well : (s : Session) (matchers : List Matches) → IsLawful s → ChangesWell (after_expunge s matchers)
+    unfolding after_expunge
+    expunge_well s matchers h =
+        well_after (chosen s) (λ repo. expunged matchers repo >>= λ new. Ok (record s { repos = with_repo new s.repos })) (λ repo is.
+        well_after (expunged matchers repo) (λ new. Ok (record s { repos = with_repo new s.repos })) (λ new made.
+        with_new new s.repos h (live_well (with_history repo (expunge_of (matched_by matchers) repo.history)) (expunged_well matchers repo (chosen_lawful s repo is h)) new made)))
+
+    carried_well : (s : Session) (files : Files) (subject : Subject) (what : Command) → IsLawful s → IsSpelledCommand what → IsOnce subject.ids → LiveIn s subject.ids → GoesWell (carried s files subject what)
     unfolding carried
-    carried_well s files ids (command.Read file name) h fits k lives = changes_well (after_read s files file name) (read_well s files file name h)
-    carried_well s files ids (command.Write to) h fits k lives = reports_well s to _ h
-    carried_well s files ids (command.Choose name) h fits k lives = changes_well (after_choose s name) (choose_well s name h)
-    carried_well s files ids command.ShowRepos h fits k lives = h
-    carried_well s files ids (command.Drop name) h fits k lives = changes_well (after_drop s name) (drop_well s name h)
-    carried_well s files ids command.DropChosen h fits k lives = changes_well (after_drop_chosen s) (drop_chosen_well s h)
-    carried_well s files ids command.Renumber h fits k lives = changes_well (after_renumber s) (renumber_well s h)
-    carried_well s files ids (command.Show selection what to) h fits k lives = reports_well s to _ h
-    carried_well s files ids (command.Assign selection name) h fits k lives = changes_well (after_assign s ids name) (assign_well s ids name h k)
-    carried_well s files ids (command.Edit selection what) h fits k lives = changes_well (after_edit s ids what) (edit_well s ids what h fits k lives)
-    carried_well s files ids (command.Sample count start) h fits k lives = changes_well (after_sample s count start) (sample_well s count start h)
-    carried_well s files ids (command.Names to) h fits k lives = reports_well s to _ h
-    carried_well s files ids (command.Summary to) h fits k lives = reports_well s to _ h
+    carried_well s files subject (command.Read file name) h fits k lives = changes_well (after_read s files file name) (read_well s files file name h)
+    carried_well s files subject (command.Write to) h fits k lives = reports_well s to _ h
+    carried_well s files subject (command.Choose name) h fits k lives = changes_well (after_choose s name) (choose_well s name h)
+    carried_well s files subject command.ShowRepos h fits k lives = h
+    carried_well s files subject (command.Drop name) h fits k lives = changes_well (after_drop s name) (drop_well s name h)
+    carried_well s files subject command.DropChosen h fits k lives = changes_well (after_drop_chosen s) (drop_chosen_well s h)
+    carried_well s files subject command.Renumber h fits k lives = changes_well (after_renumber s) (renumber_well s h)
+    carried_well s files subject (command.Show selection what to) h fits k lives = reports_well s to _ h
+    carried_well s files subject (command.Assign selection name) h fits k lives = changes_well (after_assign s subject.ids name) (assign_well s subject.ids name h k)
+    carried_well s files subject (command.Edit selection what) h fits k lives = changes_well (after_edit s subject.ids what) (edit_well s subject.ids what h fits k lives)
+    carried_well s files subject (command.Expunge words) h fits k lives = changes_well (after_expunge s subject.matchers) (expunge_well s subject.matchers h)
+    carried_well s files subject (command.Sample count start) h fits k lives = changes_well (after_sample s count start) (sample_well s count start h)
+    carried_well s files subject (command.Names to) h fits k lives = reports_well s to _ h
+    carried_well s files subject (command.Summary to) h fits k lives = reports_well s to _ h
 
     step_well : (denial : Option Denial) (s : Session) (files : Files) (what : Command) → IsLawful s → IsSpelledCommand what → GoesWell (step denial s files what)
     unfolding step
     step_well denial s files what h fits = go (under denial (ready s what)) refl
       where
-        go : (r : Result Ids Fault) → under denial (ready s what) ≡ r → GoesWell (r >>= λ ids. carried s files ids what)
-        go (Ok ids) is = carried_well s files ids what h fits (ready_once own_ids once denial s what ids h is) (ready_live live tips denial s what ids h is)
+        go : (r : Result Subject Fault) → under denial (ready s what) ≡ r → GoesWell (r >>= λ subject. carried s files subject what)
+        go (Ok subject) is = carried_well s files subject what h fits (ready_once own_ids once denial s what subject h is) (ready_live live tips denial s what subject h is)
         go (Err why) is = tt
 
     ordered_well : (denial : Option Denial) (s : Session) (files : Files) (depth : ℕ) (what : Order) → IsLawful s

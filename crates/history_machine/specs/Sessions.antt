@@ -3,7 +3,7 @@
 use Rattle.std.specs.Prelude.{ℕ, ◌+◌, List, [], ◌∷◌, ◌++◌, length, map, flat_map, codes, bytes_eq, nat_lt, Option, Some, None, Result, Ok, Err, if◌then◌else◌}
 use Rattle.plain_model.specs.Files.{Files}
 use Rattle.plain_model.specs.Lookups.{id_of, next_number}
-use Rattle.plain_model.specs.Paths.{Bytes, path_fault}
+use Rattle.plain_model.specs.Paths.{Bytes}
 use Rattle.plain_model.specs.Text.{line, text}
 use Rattle.plain_model.specs.declared.event.PlainEvent.{PlainEvent}
 use Rattle.plain_model.specs.declared.limit.TheConstants.{MAX_REPOSITORIES}
@@ -11,10 +11,12 @@ use Rattle.plain_model.specs.declared.fault.Fault.{Fault}
 use Rattle.plain_model.specs.declared.fault.Fault.TheVariants as fault
 use Rattle.byte_patterns.specs.Judging.{Denial, Judged, ◌>>>◌, plainly, under}
 use Rattle.event_sets.specs.Sets.{Ids}
+use Rattle.expunge_laws.specs.Expunged.{expunge_of}
 use Rattle.listing.specs.Listings.{list_text, index_text, names_text}
 use Rattle.listing.specs.Stamps.{stamp_text}
 use Rattle.listing.specs.Summaries.{resolve_text, summary_text}
 use Rattle.listing.specs.TreeListings.{manifest_text}
+use Rattle.path_expunge.specs.Matching.{Matches, matched_by}
 use Rattle.renumbering.specs.Renumbered.{renumbered}
 use Rattle.sample_history.specs.Sample.{sample}
 use Rattle.script_reader.specs.Answering.{◌>>=◌}
@@ -45,6 +47,7 @@ use Rattle.reparent_laws.specs.Reparent.{reparent_of}
 use Rattle.reparent_laws.specs.declared.removal.Removal.TheVariants.{Index, At}
 use Rattle.history_machine.specs.Loading.{loaded}
 use Rattle.history_machine.specs.Machine.{Turn}
+use Rattle.history_machine.specs.PathWords.{matches_of, said_path}
 
 -- ---- what a session holds
 
@@ -120,13 +123,14 @@ abbrev pub unassigned : Bytes → Option Ids → Result Bytes Fault
 unassigned name None = Ok name
 unassigned name (Some ids) = Err (fault.NameAssigned name)
 
--- ---- the events of which a command speaks
+-- ---- what a command speaks of
 
--- of none, of all, or of those that a selection of this text stands for
+-- of nothing, of all events, of those that a selection of this text stands for, or of the paths that words say
 pub data Scope : Type 0 where
-  no_events : Scope
+  nothing : Scope
   all_events : Scope
   selected : Bytes → Scope
+  said_paths : List Bytes → Scope
 
 -- without a selection that may be written, all
 abbrev pub or_all : Option Bytes → Scope
@@ -137,20 +141,38 @@ abbrev pub scope_of : Command → Scope
 scope_of (command.Show selection what to) = or_all selection
 scope_of (command.Assign selection name) = selected selection
 scope_of (command.Edit selection what) = or_all selection
-scope_of other = no_events
+scope_of (command.Expunge words) = said_paths words
+scope_of other = nothing
+
+-- the events of which a command speaks, and what matches the paths of which it speaks
+pub record Subject : Type 0 where
+  pub ids : Ids
+  pub matchers : List Matches
+
+-- of events alone
+abbrev pub of_events : Ids → Subject
+of_events ids = record { ids = ids; matchers = [] }
+
+-- of paths alone
+abbrev pub of_paths : List Matches → Subject
+of_paths matchers = record { ids = []; matchers = matchers }
 
 -- the events in a repository for which the whole of a text stands, by what is read in it
 abbrev pub stands_for : Repo → Result (PlainSelection × ℕ) ℕ → Judged Ids
 stands_for repo (Ok read) = denote read.0 repo.history repo.names
 stands_for repo (Err column) = plainly (Err (fault.BadSelection column))
 
-abbrev pub in_scope : Session → Scope → Judged Ids
-in_scope s no_events = plainly (Ok [])
-in_scope s all_events = plainly (chosen s >>= λ repo. Ok (map id_of repo.history))
-in_scope s (selected text) = plainly (chosen s) >>> λ repo. stands_for repo (selection_at text)
+abbrev pub in_scope : Session → Scope → Judged Subject
+in_scope s nothing = plainly (Ok (of_events []))
+in_scope s all_events = plainly (chosen s >>= λ repo. Ok (of_events (map id_of repo.history)))
+in_scope s (selected text) =
+    plainly (chosen s) >>> λ repo. stands_for repo (selection_at text) >>> λ ids. plainly (Ok (of_events ids))
+in_scope s (said_paths words) =
+    plainly (chosen s) >>> λ repo. matches_of words >>> λ matchers. plainly (Ok (of_paths matchers))
 
--- What comes before a command's own faults, for all commands: if it speaks of events, that a repository is chosen, and then the events.
-unfoldable pub ready : Session → Command → Judged Ids
+-- What comes before a command's own faults, for all commands: if it speaks of events or paths, that a repository is chosen,
+-- and then the events, or what matches the paths.
+unfoldable pub ready : Session → Command → Judged Subject
 ready s what = in_scope s (scope_of what)
 
 -- ---- what each command does
@@ -200,10 +222,6 @@ after_assign s ids name =
     chosen s >>= λ repo. unassigned name (assigned name repo.names) >>= λ free.
     Ok (record s { repos = with_repo (record repo { names = repo.names ++ (free, ids) ∷ [] }) s.repos })
 
--- a path that a word says, if it is one
-abbrev pub said_path : Bytes → Result Bytes Fault
-said_path text = elim (path_fault text) [ None ↦ Ok text | Some why ↦ Err (fault.NoSuchPath text) ]
-
 -- with another history
 abbrev pub with_history : Repo → Result (List PlainEvent) Fault → Result Repo Fault
 with_history repo made = made >>= λ after. Ok (record repo { history = after })
@@ -238,6 +256,16 @@ edited what ids repo = remade what ids repo >>= λ after. Ok (with_live_names af
 -- an edit of the chosen history
 unfoldable pub after_edit : Session → Ids → Edit → Result Session Fault
 after_edit s ids what = chosen s >>= λ repo. edited what ids repo >>= λ new. Ok (record s { repos = with_repo new s.repos })
+
+-- a repository without the matched paths
+abbrev pub expunged : List Matches → Repo → Result Repo Fault
+expunged matchers repo =
+    with_history repo (expunge_of (matched_by matchers) repo.history) >>= λ after. Ok (with_live_names after)
+
+-- `expunge WORD [WORD ..]`: the matched paths are in no tree of the chosen history
+unfoldable pub after_expunge : Session → List Matches → Result Session Fault
+after_expunge s matchers =
+    chosen s >>= λ repo. expunged matchers repo >>= λ new. Ok (record s { repos = with_repo new s.repos })
 
 -- the line of a repository, by the name that is chosen
 abbrev pub repo_line : Option Bytes → Bytes → Bytes
@@ -278,25 +306,26 @@ changes expected = expected >>= λ after. Ok (quiet after)
 abbrev pub reports : Session → Option Bytes → Result Bytes Fault → Result (Turn Session) Fault
 reports s to expected = expected >>= λ bytes. Ok (sends s to bytes)
 
--- what a command does with the events of which it speaks
-unfoldable pub carried : Session → Files → Ids → Command → Result (Turn Session) Fault
-carried s files ids (command.Read file name) = changes (after_read s files file name)
-carried s files ids (command.Write to) = reports s to (of_chosen s (λ repo. text repo.history))
-carried s files ids (command.Choose name) = changes (after_choose s name)
-carried s files ids command.ShowRepos = reports s None (Ok (repos_text s))
-carried s files ids (command.Drop name) = changes (after_drop s name)
-carried s files ids command.DropChosen = changes (after_drop_chosen s)
-carried s files ids command.Renumber = changes (after_renumber s)
-carried s files ids (command.Show selection what to) = reports s to (of_chosen s (shown what ids))
-carried s files ids (command.Assign selection name) = changes (after_assign s ids name)
-carried s files ids (command.Edit selection what) = changes (after_edit s ids what)
-carried s files ids (command.Sample count start) = changes (after_sample s count start)
-carried s files ids (command.Names to) = reports s to (of_chosen s (λ repo. names_text repo.history))
-carried s files ids (command.Summary to) = reports s to (of_chosen s (λ repo. summary_text repo.name repo.history))
+-- what a command does with what it speaks of
+unfoldable pub carried : Session → Files → Subject → Command → Result (Turn Session) Fault
+carried s files subject (command.Read file name) = changes (after_read s files file name)
+carried s files subject (command.Write to) = reports s to (of_chosen s (λ repo. text repo.history))
+carried s files subject (command.Choose name) = changes (after_choose s name)
+carried s files subject command.ShowRepos = reports s None (Ok (repos_text s))
+carried s files subject (command.Drop name) = changes (after_drop s name)
+carried s files subject command.DropChosen = changes (after_drop_chosen s)
+carried s files subject command.Renumber = changes (after_renumber s)
+carried s files subject (command.Show selection what to) = reports s to (of_chosen s (shown what subject.ids))
+carried s files subject (command.Assign selection name) = changes (after_assign s subject.ids name)
+carried s files subject (command.Edit selection what) = changes (after_edit s subject.ids what)
+carried s files subject (command.Expunge words) = changes (after_expunge s subject.matchers)
+carried s files subject (command.Sample count start) = changes (after_sample s count start)
+carried s files subject (command.Names to) = reports s to (of_chosen s (λ repo. names_text repo.history))
+carried s files subject (command.Summary to) = reports s to (of_chosen s (λ repo. summary_text repo.name repo.history))
 
 -- a command, of whose patterns one may be refused that the grammar reads
 unfoldable pub step : Option Denial → Session → Files → Command → Result (Turn Session) Fault
-step denial s files what = under denial (ready s what) >>= λ ids. carried s files ids what
+step denial s files what = under denial (ready s what) >>= λ subject. carried s files subject what
 
 -- ---- one line
 

@@ -13,13 +13,25 @@ ghost use Rattle.script_reader.specs.declared.edit.Edit.TheVariants as Edit;
 ghost use Rattle.script_reader.specs.declared.script.ScriptLine.{ScriptLine};
 ghost use Rattle.squash_laws.specs.declared.policy.Lean.{Lean};
 ghost use Rattle.squash_laws.specs.declared.policy.Push.TheVariants as push;
-ghost use Rattle.history_machine.specs.Kept.{Each, KeepsTrees, KeepsTreesOfRest};
+ghost use Rattle.path_expunge.specs.Matching.{Matches, matched_by};
+ghost use Rattle.history_machine.specs.Kept.{
+  Each,
+  KeepsEveryTree,
+  KeepsTrees,
+  KeepsTreesOfRest,
+  LosesPaths,
+};
 ghost use Rattle.history_machine.specs.Lawful.{IsLawful, IsLawfulHistory};
 ghost use Rattle.history_machine.specs.Machine.{Turn, turn_of};
+ghost use Rattle.history_machine.specs.PathWords.{matches_of};
 ghost use Rattle.history_machine.specs.Sessions.{Repo, Session, chosen, line_step, sends, step};
 
 use coalesce_laws::{
     a_coalescing_keeps_soundness, a_coalescing_keeps_the_limits, a_coalescing_keeps_trees,
+};
+use expunge_laws::{
+    an_expunge_adds_nothing, an_expunge_comes_to_its_end, an_expunge_keeps_soundness,
+    an_expunge_keeps_the_limits, an_expunge_restricts_trees,
 };
 use renumbering::{
     ids_stay, nothing_else_changes, renumbering_keeps_soundness, renumbering_keeps_trees,
@@ -28,7 +40,8 @@ use reorder_laws::{
     a_reorder_keeps_soundness, a_reorder_keeps_the_ids, a_reorder_keeps_the_limits,
 };
 use reparent_laws::{
-    a_change_keeps_soundness, a_change_keeps_the_limits, other_parents_keep_trees,
+    a_change_keeps_soundness, a_change_keeps_the_ids, a_change_keeps_the_limits,
+    other_parents_keep_trees,
 };
 use sample_history::samples_are_lawful;
 use script_reader::an_added_operation_is_spelled;
@@ -36,7 +49,8 @@ use selection_eval::{
     selections_are_live, selections_are_without_repeats, sound_histories_are_such,
 };
 use simplify_laws::{
-    simplifying_keeps_soundness, simplifying_keeps_the_limits, simplifying_keeps_trees,
+    simplifying_keeps_soundness, simplifying_keeps_the_ids, simplifying_keeps_the_limits,
+    simplifying_keeps_trees,
 };
 use soundness_laws::{what_is_read_is_sound, what_is_read_passes_no_limit};
 use split_laws::{a_split_adds_one_id, a_split_keeps_soundness, a_split_keeps_the_limits};
@@ -90,45 +104,65 @@ pub fn a_squash_forward_keeps_trees()
     nothing_is_added();
 }
 
-/// A reparent without `--rebase`, a merge and an unmerge leave every loaded repository its name, and each commit its tree.
+/// A reparent without `--rebase`, a merge and an unmerge leave every loaded repository its name, and all its commits, each
+/// with its tree.
 pub fn new_parents_keep_trees()
     ensures reparent { (denial : Option Denial) (s : Session) (files : Files)
         (selection : Option (List ℕ)) (use_order : Bool) (t : Turn Session) →
         step denial s files (command.Edit selection (Edit.Reparent (record {
           use_order = use_order;
           rebase = false;
-        }))) ≡ Ok t → IsLawful s → Each KeepsTreesOfRest s.repos t.session.repos }
+        }))) ≡ Ok t → IsLawful s → Each KeepsEveryTree s.repos t.session.repos }
     ensures merge { (denial : Option Denial) (s : Session) (files : Files)
         (selection : Option (List ℕ)) (t : Turn Session) →
         step denial s files (command.Edit selection Edit.Merge) ≡ Ok t → IsLawful s →
-        Each KeepsTreesOfRest s.repos t.session.repos }
+        Each KeepsEveryTree s.repos t.session.repos }
     ensures unmerge { (denial : Option Denial) (s : Session) (files : Files)
         (selection : Option (List ℕ)) (t : Turn Session) →
         step denial s files (command.Edit selection Edit.Unmerge) ≡ Ok t → IsLawful s →
-        Each KeepsTreesOfRest s.repos t.session.repos }
+        Each KeepsEveryTree s.repos t.session.repos }
 {
     other_parents_keep_trees();
-    reparent_laws::nothing_is_added();
+    a_change_keeps_the_ids();
     selections_are_without_repeats();
     selections_are_live();
     sound_histories_are_such();
 }
 
-/// A coalesce and a simplify leave every loaded repository its name, and each commit that is still there its tree.
-pub fn joined_and_simpler_commits_keep_trees()
-    ensures coalesce { (denial : Option Denial) (s : Session) (files : Files)
+/// A coalesce leaves every loaded repository its name, and each commit that is still there its tree.
+pub fn a_coalesce_keeps_trees()
+    ensures { (denial : Option Denial) (s : Session) (files : Files)
         (selection : Option (List ℕ)) (seconds : ℕ) (t : Turn Session) →
         step denial s files (command.Edit selection (Edit.Coalesce seconds)) ≡ Ok t →
         IsLawful s → Each KeepsTreesOfRest s.repos t.session.repos }
-    ensures simplify { (denial : Option Denial) (s : Session) (files : Files)
-        (selection : Option (List ℕ)) (t : Turn Session) →
-        step denial s files (command.Edit selection Edit.Simplify) ≡ Ok t → IsLawful s →
-        Each KeepsTreesOfRest s.repos t.session.repos }
 {
     a_coalescing_keeps_trees();
     coalesce_laws::nothing_is_added();
+}
+
+/// A simplify leaves every loaded repository its name, and all its commits, each with its tree.
+pub fn a_simplify_keeps_trees()
+    ensures { (denial : Option Denial) (s : Session) (files : Files)
+        (selection : Option (List ℕ)) (t : Turn Session) →
+        step denial s files (command.Edit selection Edit.Simplify) ≡ Ok t → IsLawful s →
+        Each KeepsEveryTree s.repos t.session.repos }
+{
     simplifying_keeps_trees();
+    simplifying_keeps_the_ids();
     simplify_laws::nothing_is_added();
+}
+
+/// An expunge that is done takes the paths that its words match out of the chosen repository: each commit that is still
+/// there has the tree that it had, without them. All else stays.
+pub fn an_expunge_takes_paths_out_of_trees()
+    ensures { (denial : Option Denial) (s : Session) (files : Files) (words : List (List ℕ))
+        (t : Turn Session) → step denial s files (command.Expunge words) ≡ Ok t → IsLawful s →
+        (matchers : List Matches) × ((matches_of words).value ≡ Ok matchers)
+        × LosesPaths (matched_by matchers) s t.session }
+{
+    an_expunge_restricts_trees();
+    an_expunge_adds_nothing();
+    an_expunge_comes_to_its_end();
 }
 
 /// A lawful session, whose histories are sound and within the limits, stays one by every command that is done, if the operation
@@ -169,6 +203,10 @@ pub fn a_step_keeps_it()
     simplifying_keeps_soundness();
     simplifying_keeps_the_limits();
     simplify_laws::nothing_is_added();
+    an_expunge_keeps_soundness();
+    an_expunge_keeps_the_limits();
+    an_expunge_adds_nothing();
+    an_expunge_comes_to_its_end();
 }
 
 /// The chosen history of such a session is sound and within the limits.

@@ -33,6 +33,7 @@ returns-clause-command c =
     })
     c.a_coalescing_keeps_soundness.ensures c.a_coalescing_keeps_the_limits.ensures c.nothing_is_added-3.ensures.below
     c.simplifying_keeps_soundness.ensures c.simplifying_keeps_the_limits.ensures c.nothing_is_added-4.ensures.below
+    c.an_expunge_keeps_soundness.ensures c.an_expunge_keeps_the_limits.ensures c.an_expunge_adds_nothing.ensures.below c.an_expunge_comes_to_its_end.ensures
     c.an_added_operation_is_spelled.ensures
 
 pub returns-clause-line : goal.returns-clause-line
@@ -67,4 +68,5 @@ returns-clause-line c =
     })
     c.a_coalescing_keeps_soundness.ensures c.a_coalescing_keeps_the_limits.ensures c.nothing_is_added-3.ensures.below
     c.simplifying_keeps_soundness.ensures c.simplifying_keeps_the_limits.ensures c.nothing_is_added-4.ensures.below
+    c.an_expunge_keeps_soundness.ensures c.an_expunge_keeps_the_limits.ensures c.an_expunge_adds_nothing.ensures.below c.an_expunge_comes_to_its_end.ensures
     c.an_added_operation_is_spelled.ensures
