@@ -1,5 +1,5 @@
 -- Runs that only print, and runs that haven't begun.
-use Rattle.std.proofs.Common.{◌≡◌, ℕ, zero, List, [], ◌∷◌, Option, Some, None, Result, Ok, Err, refl, sym, subst}
+use Rattle.std.proofs.Common.{◌≡◌, ℕ, zero, List, [], Option, Some, None, Result, Ok, Err, sym, subst}
 use Rattle.std.specs.Prelude.{IfSome}
 use Rattle.plain_model.specs.Files.{Files}
 use Rattle.history_machine.specs.Machine.{World, Run, EndsAs, SessionEndsAs}
@@ -8,7 +8,6 @@ use Rattle.script_reader.specs.declared.script.ScriptItem.{ScriptItem}
 use Rattle.history_machine.specs.Words.{Asked}
 use Rattle.history_machine.specs.Whole.{Denials, run_from, run_read, unread}
 use Rattle.plain_model.specs.declared.fault.Fault.{Fault}
-use Rattle.plain_model.specs.declared.fault.Fault.TheVariants as fault
 use Rattle.plain_model.specs.declared.status.Status.{Status}
 use Rattle.plain_model.specs.declared.status.Status.TheVariants as status
 use Rattle.history_machine.proofs.Runs.{IsBreak, ends_broken}

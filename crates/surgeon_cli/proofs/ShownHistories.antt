@@ -113,6 +113,7 @@ module _
         order_shown denial s files w h (Ok (order.Step (command.Show selection what to))) = tt
         order_shown denial s files w h (Ok (order.Step (command.Assign selection name))) = tt
         order_shown denial s files w h (Ok (order.Step (command.Edit selection what))) = tt
+        order_shown denial s files w h (Ok (order.Step (command.Expunge words))) = tt
         order_shown denial s files w h (Ok (order.Step (command.Summary to))) = tt
         order_shown denial s files w h (Ok (order.Step (command.Sample count start))) = tt
         order_shown denial s files w h (Ok (order.Step (command.Names to))) = tt

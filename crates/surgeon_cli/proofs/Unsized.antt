@@ -1,14 +1,13 @@
 -- Runs that come to their end where no size was refused.
-use Rattle.std.proofs.Common.{◌≡◌, ◌≢◌, ℕ, Bool, true, false, List, [], ◌∷◌, Option, refl}
+use Rattle.std.proofs.Common.{◌≡◌, ℕ, Bool, true, false, List, [], ◌∷◌, Option, refl}
 use Rattle.std.specs.List.{AllByRecursion}
 use Rattle.plain_model.specs.Counts.{Rose}
 use Rattle.plain_model.specs.Paths.{Bytes}
 use Rattle.plain_model.specs.declared.status.Status.{Status}
-use Rattle.plain_model.specs.declared.status.Status.TheVariants as status
 use Rattle.byte_patterns.specs.Judging.{Counted, Denial, is_sized}
 use Rattle.surgeon_store.specs.Outside.{StoreState, SinkState}
 use Rattle.history_machine.specs.Whole.{run}
-use Rattle.surgeon_session.specs.Calls.{Caused, NoFaults}
+use Rattle.surgeon_session.specs.Calls.{Caused}
 use Rattle.surgeon_session.proofs.Rounds.{all_completes}
 use Rattle.surgeon_cli.specs.Headline.{AreUnsized, AsPrescribed, Succeeds}
 

@@ -1,5 +1,5 @@
 -- What the top call promises, over a store that tells its files and a sink that tells what was written.
-use Rattle.std.specs.Prelude.{◌≡◌, ◌≢◌, ℕ, false, List, ◌∷◌, Some, None, Result, Ok, IfSome}
+use Rattle.std.specs.Prelude.{◌≡◌, ◌≢◌, ℕ, false, List, ◌∷◌, None, Result, Ok, IfSome}
 use Rattle.std.specs.List.{AllByRecursion}
 use Rattle.plain_model.specs.declared.status.Status.{Status}
 use Rattle.plain_model.specs.declared.status.Status.TheVariants as status
@@ -42,8 +42,8 @@ Succeeds words s k sizes answer s' k' sizes' =
     → (denials : Denials) × AreUnsized denials
     × IfSome (world s k) (λ w. IfSome (world s' k') (λ now. Completes (run denials words w.files) answer w now))
 
--- each history that a session holds: what is written of it is a stream, what is read of that is written as the same bytes,
--- and a replay of it by plain maps shows what the history shows
+-- each history that a session holds: what is written of it is a stream by the productions, whose history is written as the
+-- same bytes, and a replay of it by plain maps shows what the history shows
 abbrev pub AreShown : List Repo → Type 0
 AreShown repos = AllByRecursion (λ r. IsShownBy (text r.history) r.history) repos
 

@@ -18,6 +18,7 @@ ghost use Rattle.std.specs.Prelude.{
 ghost use Rattle.plain_model.specs.Counts.{Rose};
 ghost use Rattle.surgeon_store.specs.Outside.{Puts, PutsSome, Reads, StoreState};
 ghost use Rattle.history_machine.specs.Machine.{EndsAs, World};
+ghost use Rattle.history_machine.specs.Reads.{ReadsStreams};
 ghost use Rattle.history_machine.specs.Sessions.{empty_session};
 ghost use Rattle.history_machine.specs.Whole.{
   only_prints,
@@ -45,7 +46,10 @@ ghost use Rattle.plain_model.specs.Files.{Files};
 
 use byte_patterns::Patterns;
 use command_line::asked_in;
-use history_machine::{a_step_keeps_it, a_write_sends_the_stream, the_chosen_history_is_lawful};
+use history_machine::{
+    a_step_keeps_it, a_write_sends_the_stream, the_chosen_history_is_lawful,
+    the_reads_of_a_run_are_spelled,
+};
 use plain_model::{Fault, Items, MAX_SCRIPT_BYTES, NoMemory, Status, Text};
 use script_reader::{Script, a_script_is_never_absent};
 use shown_laws::what_is_written_shows_the_history;
@@ -264,16 +268,21 @@ pub fn surgeon<S: Store, T: Sink, P: Patterns>(
     // out of memory may come in its place.
     ensures words { AnswersWords (map string_bytes words.now) result }
 
-    // Each history that the run holds, and so each that it writes, is shown by its text: that is a stream, what is read of
-    // it is written as the same bytes, and a replay by plain maps shows what that history shows.
+    // Each history that the run holds, and so each that it writes, is shown by its text: that is a stream by the productions,
+    // whose history is written as the same bytes, and a replay by plain maps shows what that history shows.
     ensures replayed { (files : Files) → ShowsHistories (map string_bytes words.now) files }
 
     // What a `write` line has sent, to its file or as output, is the text of the history that was chosen, and shows it.
     ensures written { (files : Files) → ShowsWrites (map string_bytes words.now) files }
+
+    // What a `read` line gives is the history of the events that its file spells by the productions, and a file is refused as a
+    // bad stream only where it spells none that have one.
+    ensures read { (files : Files) → ReadsStreams (map string_bytes words.now) files }
 {
     what_is_written_shows_the_history();
     a_step_keeps_it();
     a_write_sends_the_stream();
+    the_reads_of_a_run_are_spelled();
     the_chosen_history_is_lawful();
     run_words(alloc, words, store, out, patterns)
 }

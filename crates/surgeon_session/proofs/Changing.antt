@@ -7,15 +7,18 @@ use Rattle.std.specs.Map.{keys_of, lookup}
 use Rattle.indexmap.specs.IndexMap.{set_value_at}
 use Rattle.plain_model.specs.Faults.{Returns}
 use Rattle.plain_model.specs.Paths.{Bytes}
+use Rattle.plain_model.specs.declared.event.PlainEvent.{PlainEvent}
 use Rattle.plain_model.specs.declared.fault.Fault.{Fault}
 use Rattle.plain_model.specs.declared.fault.Halt.{Halt}
 use Rattle.plain_model.specs.declared.fault.Halt.TheVariants as halt
 use Rattle.event_sets.specs.Sets.{Ids}
+use Rattle.expunge_laws.specs.Expunged.{expunge_of}
+use Rattle.path_expunge.specs.Matching.{Matches, matched_by}
 use Rattle.selection_eval.specs.Names.{assigned}
 use Rattle.script_reader.specs.Answering.{◌>>=◌}
 use Rattle.script_reader.specs.declared.edit.Edit.{Edit}
-use Rattle.history_machine.specs.Sessions.{Repo, Session, after_edit, chosen, chosen_by, edited, find_repo, unassigned, with_repo}
-use Rattle.surgeon_session.specs.Entries.{Loaded, assigned_in, edited_in, found_repo, repo_under, repos_of, with_given}
+use Rattle.history_machine.specs.Sessions.{Repo, Session, after_edit, after_expunge, chosen, chosen_by, edited, expunged, find_repo, unassigned, with_history, with_live_names, with_repo}
+use Rattle.surgeon_session.specs.Entries.{Loaded, assigned_in, edited_in, expunged_in, found_repo, repo_under, repos_of, with_given}
 use Rattle.surgeon_session.proofs.Entries.{found_under, same_repos, set_repos}
 
 none_is : {X : Type 0} (o : Option X) → false ≡ is_some o → o ≡ None
@@ -67,23 +70,65 @@ pub edited_at : {X : Type 0} (r : Result X Halt) (name : Bytes) (what : Edit) (i
 edited_at r name what ids old new repos all found is h =
     rw (found, is) (lifted r (edited what ids (repo_under name old)) (λ x. with_repo x repos) (repo_under name new) h)
 
--- an edit of the chosen repository is one of that which has its name
-in_place : (s : Session) (what : Edit) (ids : Ids) (found : Result Repo Fault)
-    → ((found >>= λ repo. edited what ids repo >>= λ new. Ok (with_repo new s.repos)) >>= λ repos. Ok (record s { repos = repos }))
-    ≡ (found >>= λ repo. edited what ids repo >>= λ new. Ok (record s { repos = with_repo new s.repos }))
-in_place s what ids (Err why) = refl
-in_place s what ids (Ok repo) = go (edited what ids repo)
+pub expunged_at : {X : Type 0} (r : Result X Halt) (name : Bytes) (matchers : List Matches) (old new : Loaded) (repos all : List Repo) → find_repo name repos ≡ Some (repo_under name old)
+    → all ≡ with_repo (repo_under name new) repos → Returns (λ _. repo_under name new) r (expunged matchers (repo_under name old)) → Returns (λ _. all) r (expunged_in name matchers repos)
+expunged_at r name matchers old new repos all found is h =
+    rw (found, is) (lifted r (expunged matchers (repo_under name old)) (λ x. with_repo x repos) (repo_under name new) h)
+
+-- ---- a plan that is carried out
+
+-- what is made of a repository, with lists under names of what is still there
+pub live_after : (r : Result Repo Fault) (made new : Repo) → r ≡ Ok made → new ≡ with_live_names made → (r >>= λ after. Ok (with_live_names after)) ≡ Ok new
+live_after r made new is live = ap (λ (x : Result Repo Fault). x >>= λ after. Ok (with_live_names after)) is ∙ ap ok (sym live)
+  where
+    ok : Repo → Result Repo Fault
+    ok repo = Ok repo
+
+-- a repository that was looked at alone is the same
+pub with_same : (name : Bytes) (old looked new : Loaded) (after : List PlainEvent) (next : ℕ) → looked ≡ old
+    → repo_under name new ≡ with_live_names (record (repo_under name looked) { history = after; next = next })
+    → repo_under name new ≡ with_live_names (record (repo_under name old) { history = after; next = next })
+with_same name old looked new after next same h =
+    h ∙ ap (λ (l : Loaded). with_live_names (record (repo_under name l) { history = after; next = next })) same
+
+pub without_paths : (name : Bytes) (old : Loaded) (matchers : List Matches) (after : List PlainEvent) (next : ℕ) → expunge_of (matched_by matchers) old.history ≡ Ok after → next ≡ old.next
+    → with_history (repo_under name old) (expunge_of (matched_by matchers) old.history) ≡ Ok (record (repo_under name old) { history = after; next = next })
+without_paths name old matchers after next made same =
+    ap (with_history (repo_under name old)) made ∙ ap (λ (n : ℕ). ok (record (repo_under name old) { history = after; next = n })) (sym same)
+  where
+    ok : Repo → Result Repo Fault
+    ok repo = Ok repo
+
+-- ---- the chosen repository
+
+-- a change of the chosen repository is one of that which has its name
+in_place : (s : Session) (change : Repo → Result Repo Fault) (found : Result Repo Fault)
+    → ((found >>= λ repo. change repo >>= λ new. Ok (with_repo new s.repos)) >>= λ repos. Ok (record s { repos = repos }))
+    ≡ (found >>= λ repo. change repo >>= λ new. Ok (record s { repos = with_repo new s.repos }))
+in_place s change (Err why) = refl
+in_place s change (Ok repo) = go (change repo)
   where
     go : (made : Result Repo Fault) → ((made >>= λ new. Ok (with_repo new s.repos)) >>= λ repos. Ok (record s { repos = repos }))
         ≡ (made >>= λ new. Ok (record s { repos = with_repo new s.repos }))
     go (Ok new) = refl
     go (Err why) = refl
 
+changed_of_chosen : {X : Type 0} (r : Result X Halt) (s : Session) (change : Repo → Result Repo Fault) (name given : Bytes) (new : List Repo) → s.choice ≡ Some name → given ≡ name
+    → Returns (λ _. new) r (found_repo given s.repos >>= λ repo. change repo >>= λ new. Ok (with_repo new s.repos))
+    → Returns (λ _. record s { repos = new }) r (chosen s >>= λ repo. change repo >>= λ new. Ok (record s { repos = with_repo new s.repos }))
+unfolding chosen
+changed_of_chosen r s change name given new is same h =
+    let own = subst (λ (n : Bytes). Returns (λ _. new) r (found_repo n s.repos >>= λ repo. change repo >>= λ new. Ok (with_repo new s.repos))) same h in
+    let all = lifted r (found_repo name s.repos >>= λ repo. change repo >>= λ new. Ok (with_repo new s.repos)) (λ repos. record s { repos = repos }) new own in
+    subst (λ (found : Result Repo Fault). Returns (λ _. record s { repos = new }) r (found >>= λ repo. change repo >>= λ new. Ok (record s { repos = with_repo new s.repos })))
+    (sym (ap (chosen_by s.repos) is)) (subst (Returns (λ _. record s { repos = new }) r) (in_place s change (found_repo name s.repos)) all)
+
 pub edited_of_chosen : {X : Type 0} (r : Result X Halt) (s : Session) (what : Edit) (ids : Ids) (name given : Bytes) (new : List Repo) → s.choice ≡ Some name → given ≡ name
     → Returns (λ _. new) r (edited_in given what ids s.repos) → Returns (λ _. record s { repos = new }) r (after_edit s ids what)
-unfolding after_edit chosen
-edited_of_chosen r s what ids name given new is same h =
-    let own = subst (λ (n : Bytes). Returns (λ _. new) r (edited_in n what ids s.repos)) same h in
-    let all = lifted r (edited_in name what ids s.repos) (λ repos. record s { repos = repos }) new own in
-    subst (λ (found : Result Repo Fault). Returns (λ _. record s { repos = new }) r (found >>= λ repo. edited what ids repo >>= λ new. Ok (record s { repos = with_repo new s.repos })))
-    (sym (ap (chosen_by s.repos) is)) (subst (Returns (λ _. record s { repos = new }) r) (in_place s what ids (found_repo name s.repos)) all)
+unfolding after_edit
+edited_of_chosen r s what ids name given new is same h = changed_of_chosen r s (edited what ids) name given new is same h
+
+pub expunged_of_chosen : {X : Type 0} (r : Result X Halt) (s : Session) (matchers : List Matches) (name given : Bytes) (new : List Repo) → s.choice ≡ Some name → given ≡ name
+    → Returns (λ _. new) r (expunged_in given matchers s.repos) → Returns (λ _. record s { repos = new }) r (after_expunge s matchers)
+unfolding after_expunge
+expunged_of_chosen r s matchers name given new is same h = changed_of_chosen r s (expunged matchers) name given new is same h

@@ -3,6 +3,8 @@ mod Entries
 mod Pieces
 mod Halting
 mod Ids
+mod Judged
+mod PathWords
 mod Changing
 mod Denying
 mod Readying

@@ -17,7 +17,6 @@ use Rattle.plain_model.specs.declared.fault.Fault.TheVariants as fault
 use Rattle.plain_model.specs.declared.fault.Why.{Why}
 use Rattle.plain_model.specs.declared.fault.Why.TheVariants.{Truncated}
 use Rattle.plain_model.specs.declared.limit.TheConstants.{MAX_STREAM_BYTES}
-use Rattle.line_automaton.specs.Limits.Cause.{Defect, Exceeds}
 use Rattle.line_automaton.specs.Machine.{Machine, Mode, all, begun, closed, first_lines, run}
 use Rattle.line_automaton.specs.Machine.Machine.{At, Stopped}
 use Rattle.line_automaton.specs.Machine.Mode.{InLine}

@@ -1,6 +1,6 @@
--- Commands and lines, from what comes before a command's own part: its events are there or not, a line has an order or not.
-use Rattle.std.proofs.Common.{◌≡◌, ℕ, List, [], ◌∷◌, ◌++◌, Option, Some, None, Result, Ok, Err, append-nil, refl, sym, ap, subst, ◌∙◌}
-use Rattle.std.specs.Prelude.{IfSome, OnErr}
+-- Commands and lines, from what comes before a command's own part: what it speaks of is there or not, a line has an order or not.
+use Rattle.std.proofs.Common.{◌≡◌, ℕ, List, [], Option, Some, None, Result, Ok, Err, append-nil, refl, sym, ap, subst, ◌∙◌}
+use Rattle.std.specs.Prelude.{IfSome}
 use Rattle.std.specs.Result.{IsErrAnd}
 use Rattle.plain_model.specs.Faults.{refusal}
 use Rattle.plain_model.specs.Files.{Files}
@@ -8,9 +8,7 @@ use Rattle.plain_model.specs.Paths.{Bytes}
 use Rattle.plain_model.specs.declared.fault.Fault.{Fault}
 use Rattle.plain_model.specs.declared.fault.Halt.{Halt}
 use Rattle.plain_model.specs.declared.fault.Halt.TheVariants as halt
-use Rattle.byte_patterns.specs.Judging.{Counted, Denial, Judges, plainly, under}
-use Rattle.event_sets.specs.Sets.{Ids}
-use Rattle.script_reader.specs.Answering.{◌>>=◌}
+use Rattle.byte_patterns.specs.Judging.{Denial, Judges, plainly, under}
 use Rattle.script_reader.specs.Commands.{order_of}
 use Rattle.script_reader.specs.declared.command.Command.{Command}
 use Rattle.script_reader.specs.declared.command.Command.TheVariants as command
@@ -18,7 +16,7 @@ use Rattle.script_reader.specs.declared.command.Order.{Order}
 use Rattle.script_reader.specs.declared.script.ScriptLine.TheVariants.{Plain}
 use Rattle.surgeon_store.specs.Outside.{StoreState, SinkState}
 use Rattle.history_machine.specs.Machine.{World, Turn, PartSent, sent, turn_of}
-use Rattle.history_machine.specs.Sessions.{Session, carried, line_step, ordered, ready, step}
+use Rattle.history_machine.specs.Sessions.{Session, Subject, carried, line_step, of_events, ordered, ready, step}
 use Rattle.history_machine.proofs.Steps.{nothing_built}
 use Rattle.surgeon_session.specs.Calls.{world}
 use Rattle.surgeon_session.specs.Commands.{Carries, CarriesOut, Leaves, LineReadsNoFile, OrderReadsNoFile, PartOf, PartTurned, ReadsNoFile, Steps, no_calls}
@@ -27,7 +25,7 @@ use Rattle.surgeon_session.specs.Ends.{of_halt}
 use Rattle.surgeon_session.specs.Pieces.{StopsNear, bytes_read, refused}
 use Rattle.surgeon_session.specs.declared.halted.Halted.{Halted}
 use Rattle.surgeon_session.specs.declared.halted.Halted.TheVariants as halted
-use Rattle.surgeon_session.proofs.Halting.{Halts, halted_alone, returned}
+use Rattle.surgeon_session.proofs.Halting.{halted_alone}
 use Rattle.surgeon_session.proofs.Rounds.{mapped, no_part, same_later, same_world}
 
 -- that holds under no denial
@@ -55,46 +53,46 @@ done_alone calls s k old new reads_no_file specified y is =
       kept = tt;
     }
 
--- ---- the events of a command
+-- ---- what a command speaks of
 
-without_events : (denial : Option Denial) (s : Session) (files : Files) (what : Command) (why : Fault) → under denial (ready s what) ≡ Err why → step denial s files what ≡ Err why
+without_subject : (denial : Option Denial) (s : Session) (files : Files) (what : Command) (why : Fault) → under denial (ready s what) ≡ Err why → step denial s files what ≡ Err why
 unfolding step
-without_events denial s files what why is = rw is refl
+without_subject denial s files what why is = rw is refl
 
-with_events : (s : Session) (files : Files) (what : Command) (ids : Ids) → (ready s what).value ≡ Ok ids → carried s files ids what ≡ step None s files what
+with_subject : (s : Session) (files : Files) (what : Command) (subject : Subject) → (ready s what).value ≡ Ok subject → carried s files subject what ≡ step None s files what
 unfolding step
-with_events s files what ids is = rw is refl
+with_subject s files what subject is = rw is refl
 
 module _ (before now : ℕ) where
-  -- they aren't there
+  -- it isn't there
   pub not_ready : (s : StoreState) (k : SinkState) (old new : Session) (what : Command) (h : Halt) (r : Result (Unit {0}) Halted) → IsErrAnd r (λ e. e ≡ of_halt h)
-      → Judges {X = Ids} (λ ids. ids) before now (Err h) (ready old what) → new ≡ old
+      → Judges {X = Subject} (λ subject. subject) before now (Err h) (ready old what) → new ≡ old
       → Under before now (λ denial. CarriesOut no_calls s k old (ReadsNoFile what) (λ files. step denial old files what) r new s k)
   not_ready s k old new what (halt.Refused why) r is judged same = (
     judged.0,
     judged.1,
-    halted_alone no_calls s k old new (ReadsNoFile what) (λ files. step judged.0 old files what) (halt.Refused why) r is (λ files. without_events judged.0 old files what why judged.2) same,
+    halted_alone no_calls s k old new (ReadsNoFile what) (λ files. step judged.0 old files what) (halt.Refused why) r is (λ files. without_subject judged.0 old files what why judged.2) same,
   )
   not_ready s k old new what halt.Memory r is judged same =
       undenied before now (λ denial. CarriesOut no_calls s k old (ReadsNoFile what) (λ files. step denial old files what) r new s k)
       (halted_alone no_calls s k old new (ReadsNoFile what) (λ files. step None old files what) halt.Memory r is (λ files. tt) same)
 
-  -- they are, and with them it is carried out
-  pub is_ready : (s s' : StoreState) (k k' : SinkState) (old mid new : Session) (what : Command) (ids : Ids) (r : Result (Unit {0}) Halted) → (ready old what).value ≡ Ok ids → mid ≡ old
-      → CarriesOut no_calls s k mid (ReadsNoFile what) (λ files. carried mid files ids what) r new s' k'
+  -- it is, and with it the command is carried out
+  pub is_ready : (s s' : StoreState) (k k' : SinkState) (old mid new : Session) (what : Command) (subject : Subject) (r : Result (Unit {0}) Halted) → (ready old what).value ≡ Ok subject → mid ≡ old
+      → CarriesOut no_calls s k mid (ReadsNoFile what) (λ files. carried mid files subject what) r new s' k'
       → Under before now (λ denial. CarriesOut no_calls s k old (ReadsNoFile what) (λ files. step denial old files what) r new s' k')
-  is_ready s s' k k' old mid new what ids r is same h =
+  is_ready s s' k k' old mid new what subject r is same h =
       undenied before now (λ denial. CarriesOut no_calls s k old (ReadsNoFile what) (λ files. step denial old files what) r new s' k')
-      (subst (λ (f : Files → Result (Turn Session) Fault). CarriesOut no_calls s k old (ReadsNoFile what) f r new s' k') (λ i. λ files. with_events old files what ids is i)
-      (subst (λ (x : Session). CarriesOut no_calls s k x (ReadsNoFile what) (λ files. carried x files ids what) r new s' k') same h))
+      (subst (λ (f : Files → Result (Turn Session) Fault). CarriesOut no_calls s k old (ReadsNoFile what) f r new s' k') (λ i. λ files. with_subject old files what subject is i)
+      (subst (λ (x : Session). CarriesOut no_calls s k x (ReadsNoFile what) (λ files. carried x files subject what) r new s' k') same h))
 
   never_both : {A : Type 0} {x : A} {why : Fault} → Ok x ≡ Err why → ⊥
   never_both is = absurd cc
 
-  -- a file is never read before they are there
-  none_refused : {A : Type 0} (h : Halt) (r : Result A Halted) → IsErrAnd r (λ e. e ≡ of_halt h) → Judges {X = Ids} {Y = Ids} (λ ids. ids) before now (Err h) (plainly (Ok [])) → refused r ≡ None
+  -- a file is never read before it is there
+  none_refused : {A : Type 0} (h : Halt) (r : Result A Halted) → IsErrAnd r (λ e. e ≡ of_halt h) → Judges {X = Subject} {Y = Subject} (λ subject. subject) before now (Err h) (plainly (Ok (of_events []))) → refused r ≡ None
   none_refused (halt.Refused why) (Ok x) is judged = absurd is
-  none_refused (halt.Refused why) (Err e) is judged = absurd (never_both (sym (nothing_built judged.0 (Ok [])) ∙ judged.2))
+  none_refused (halt.Refused why) (Err e) is judged = absurd (never_both (sym (nothing_built judged.0 (Ok (of_events []))) ∙ judged.2))
   none_refused halt.Memory (Ok x) is judged = absurd is
   none_refused halt.Memory (Err e) is judged = ap (λ (x : Halted). refused {X = Unit {0}} (Err x)) is
 
@@ -103,7 +101,7 @@ module _ (before now : ℕ) where
   near_none (Some bytes) rest = tt
 
   pub not_ready_near : {A : Type 0} (files : Option Files) (rest : Option Bytes) (s : Session) (what : Command) (h : Halt) (r : Result A Halted) → IsErrAnd r (λ e. e ≡ of_halt h)
-      → Judges {X = Ids} (λ ids. ids) before now (Err h) (ready s what) → StopsNear (bytes_read files what) (refused r) rest
+      → Judges {X = Subject} (λ subject. subject) before now (Err h) (ready s what) → StopsNear (bytes_read files what) (refused r) rest
   unfolding ready
   not_ready_near files rest s (command.Read file name) h r is judged =
       subst (λ (o : Option Fault). StopsNear (bytes_read files (command.Read file name)) o rest) (sym (none_refused h r is judged)) (near_none (bytes_read files (command.Read file name)) rest)
@@ -116,6 +114,7 @@ module _ (before now : ℕ) where
   not_ready_near files rest s (command.Show selection what to) h r is judged = tt
   not_ready_near files rest s (command.Assign selection name) h r is judged = tt
   not_ready_near files rest s (command.Edit selection edit) h r is judged = tt
+  not_ready_near files rest s (command.Expunge words) h r is judged = tt
   not_ready_near files rest s (command.Sample count start) h r is judged = tt
   not_ready_near files rest s (command.Names to) h r is judged = tt
   not_ready_near files rest s (command.Summary to) h r is judged = tt

@@ -1,16 +1,21 @@
 -- The events of which a command speaks are of the chosen repository, each once.
-use Rattle.std.proofs.Common.{◌≡◌, ℕ, List, [], Some, None, Result, Ok, Err, sym, subst}
+use Rattle.std.proofs.Common.{◌≡◌, ℕ, List, Some, Result, Ok, Err, subst}
 use Rattle.std.specs.Prelude.{IfOk}
+use Rattle.std.specs.Result.{IsErrAnd}
 use Rattle.plain_model.specs.Paths.{Bytes}
 use Rattle.plain_model.specs.declared.event.PlainEvent.{PlainEvent}
-use Rattle.plain_model.specs.declared.fault.Fault.{Fault}
 use Rattle.plain_model.specs.declared.fault.Halt.{Halt}
-use Rattle.byte_patterns.specs.Judging.{Judged, Judges}
+use Rattle.byte_patterns.specs.Judging.{Judged, Judges, plainly}
 use Rattle.event_sets.specs.Once.{AreLive, IsOnce}
 use Rattle.event_sets.specs.Sets.{Ids}
 use Rattle.selection_eval.specs.Given.{GivesLive, GivesOnce}
-use Rattle.history_machine.specs.Sessions.{Repo, find_repo}
-use Rattle.surgeon_session.specs.Entries.{AreLiveIn, Loaded, found_repo, repo_under}
+use Rattle.selection_parser.specs.Reading.{selection_at}
+use Rattle.path_expunge.specs.Matching.{Matches}
+use Rattle.path_expunge.proofs.Judged.{stopped}
+use Rattle.history_machine.specs.PathWords.{matches_of}
+use Rattle.history_machine.specs.Sessions.{Repo, Session, Subject, chosen, find_repo, in_scope, of_events, of_paths, said_paths, selected, stands_for}
+use Rattle.surgeon_session.specs.Entries.{AreLiveIn, Loaded, found_repo, repo_under, selected_in}
+use Rattle.surgeon_session.proofs.Judged.{one_by_one, passed_on}
 
 -- ---- what a selection stands for
 
@@ -22,6 +27,24 @@ module _ (before now : ℕ) (judged : Judged Ids) where
   pub judged_live : (events : List PlainEvent) (r : Result Ids Halt) → Judges {X = Ids} (λ ids. ids) before now r judged → GivesLive events judged.value → IfOk r (AreLive events)
   judged_live events (Ok ids) is lives = subst (GivesLive events) is lives
   judged_live events (Err why) is lives = tt
+
+-- ---- what is refused
+
+module _ (before now : ℕ) (s : Session) (ended : Halt) (r : Result Subject Halt) (is : IsErrAnd r (λ e. e ≡ ended)) where
+  -- a selection
+  pub events_refused : (text : Bytes) → Judges {X = Ids} (λ ids. ids) before now (Err ended) (selected_in text s) → Judges {X = Subject} (λ subject. subject) before now r (in_scope s (selected text))
+  events_refused text h =
+      passed_on (λ subject. subject) before now ended r (in_scope s (selected text)) is
+      (subst (Judges {X = Subject} (λ subject. subject) before now (Err ended))
+      (one_by_one (plainly (chosen s)) (λ repo. stands_for repo (selection_at text)) (λ ids. plainly (Ok (of_events ids))))
+      (stopped (λ ids. ids) (λ subject. subject) before now ended (selected_in text s) (λ ids. plainly (Ok (of_events ids))) h))
+
+  -- a word of an expunge
+  pub paths_refused : (repo : Repo) (words : List Bytes) → chosen s ≡ Ok repo → Judges {X = List Matches} (λ matchers. matchers) before now (Err ended) (matches_of words)
+      → Judges {X = Subject} (λ subject. subject) before now r (in_scope s (said_paths words))
+  paths_refused repo words chosen_is h =
+      passed_on (λ subject. subject) before now ended r (in_scope s (said_paths words)) is
+      (rw chosen_is (stopped (λ matchers. matchers) (λ subject. subject) before now ended (matches_of words) (λ matchers. plainly (Ok (of_paths matchers))) h))
 
 -- ---- the repository of a name
 

@@ -3,7 +3,16 @@ ghost use Rattle.std.specs.Prelude.{◌≡◌, ◌<◌, ◌≤◌, ◌^◌, [], 
 ghost use Rattle.byte_patterns.specs.Judging.{Judges};
 ghost use Rattle.coalesce_laws.specs.Coalesce.{coalesce_of};
 ghost use Rattle.event_sets.specs.Once.{AreLive, IsOnce};
-ghost use Rattle.history_machine.specs.Sessions.{edited, remade, said_path, shown, stands_for};
+ghost use Rattle.expunge_laws.specs.Expunged.{expunge_of};
+ghost use Rattle.history_machine.specs.Sessions.{
+  edited,
+  expunged,
+  remade,
+  shown,
+  stands_for,
+  with_live_names,
+};
+ghost use Rattle.path_expunge.specs.Matching.{matched_by};
 ghost use Rattle.plain_model.specs.Faults.{Returns};
 ghost use Rattle.plain_model.specs.Lookups.{next_number};
 ghost use Rattle.plain_model.specs.Soundness.{IsSound};
@@ -11,12 +20,14 @@ ghost use Rattle.renumbering.specs.Renumbered.{renumbered};
 ghost use Rattle.selection_parser.specs.Reading.{selection_at};
 ghost use Rattle.surgeon_session.specs.Entries.{repo_under, with_given};
 
+use crate::path_words::path_of;
 use byte_patterns::Patterns;
 use coalesce_simplify::{coalesce, simplify};
 use event_arena::{Events, Plan};
 use listing::{index, list, manifest, resolve, stamp};
 use manifest_cache::Manifests;
-use plain_model::{AnyId, Fault, Halt, IdList, Items, NoMemory, Path, PathFault, Text};
+use path_expunge::{Matcher, expunge};
+use plain_model::{AnyId, Fault, Halt, IdList, Items, NoMemory, Text};
 use renumbering::renumber;
 use reparent_laws::Removal;
 use reparent_rebase::{add_op, merge, remove_op, reparent, unmerge};
@@ -28,19 +39,6 @@ use split_reorder::{reorder, split_at, split_by};
 use squash_delete::squash;
 use std::alloc::Global;
 use std::marker::Model;
-
-// The path that a word says.
-fn path_of(alloc: Global, text: &[u8]) -> Result<Path, Halt>
-    ensures { Returns (λ path. path) result (said_path text.now) }
-{
-    match Path::new(alloc, text) {
-        Ok(path) => Ok(path),
-        Err(PathFault::Memory) => Err(Halt::Memory),
-        Err(_) => Err(Halt::Refused(Fault::NoSuchPath {
-            path: Items::of(alloc, text)?,
-        })),
-    }
-}
 
 /// A loaded history, with the lists of its events that have names, none of which has an event twice. Trees of its commits are kept besides, and what is shown of
 /// them doesn't depend on which.
@@ -230,6 +228,25 @@ impl Repository {
         }
     }
 
+    // Carries out a plan, or leaves all as it was. Lists under names keep the events that are still there.
+    fn carry_out(&mut self, plan: Plan) -> Result<(), NoMemory>
+        requires before { plan.before ≡ self.old.history }
+        requires made_at { plan.made_at ≡ self.old.next }
+        requires sound { IsSound plan.after }
+        ensures ok { (name : _) → OnOk result
+            (repo_under name self.new ≡ with_live_names (record (repo_under name self.old) {
+              history = plan.after;
+              next = plan.next;
+            })) }
+        ensures err { OnErr result (self.new ≡ self.old) }
+    {
+        self.events.reserve_for(&plan)?;
+        self.manifests.follow(&plan);
+        self.events.carry_out(plan);
+        self.names.keep_live(&self.events);
+        Ok(())
+    }
+
     /// Edits some of its events, or leaves all as it was.
     pub fn edit(&mut self, what: &Edit, ids: &[AnyId]) -> Result<(), Halt>
         requires once { IsOnce ids.now }
@@ -239,11 +256,30 @@ impl Repository {
         ensures err { OnErr result (self.new ≡ self.old) }
     {
         let plan = self.plan_of(what, ids)?;
-        self.events.reserve_for(&plan)?;
-        self.manifests.follow(&plan);
-        self.events.carry_out(plan);
-        self.names.keep_live(&self.events);
-        Ok(())
+        Ok(self.carry_out(plan)?)
+    }
+
+    // The plan of an expunge.
+    fn plan_without(&mut self, matchers: &[Matcher]) -> Result<Plan, Halt>
+        ensures answer { Returns (λ plan. plan.after) result
+            (expunge_of (matched_by matchers.now) self.old.history) }
+        ensures before { IfOk result (λ plan. plan.before ≡ self.old.history) }
+        ensures made_at { IfOk result (λ plan. plan.made_at ≡ self.old.next) }
+        ensures next { IfOk result (λ plan. plan.next ≡ self.old.next) }
+        ensures sound { IfOk result (λ plan. IsSound plan.after) }
+        ensures same { self.new ≡ self.old }
+    {
+        expunge(self.alloc, &self.events, &mut self.manifests, matchers)
+    }
+
+    /// Takes the matched paths out of its history, or leaves all as it was.
+    pub fn expunge(&mut self, matchers: &[Matcher]) -> Result<(), Halt>
+        ensures returns { (name : _) → Returns (λ _. repo_under name self.new) result
+            (expunged matchers.now (repo_under name self.old)) }
+        ensures err { OnErr result (self.new ≡ self.old) }
+    {
+        let plan = self.plan_without(matchers)?;
+        Ok(self.carry_out(plan)?)
     }
 
     /// Gives a list of events a name, unless another has it.

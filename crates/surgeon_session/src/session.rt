@@ -17,7 +17,7 @@ ghost use Rattle.script_reader.specs.Macros.{called};
 ghost use Rattle.surgeon_session.specs.Commands.{CarriesOut, ReadsNoFile, no_calls};
 ghost use Rattle.surgeon_session.specs.Denials.{Under};
 ghost use Rattle.plain_model.specs.Faults.{Returns};
-ghost use Rattle.surgeon_session.specs.Entries.{AreLiveIn, all_in, repo_under};
+ghost use Rattle.surgeon_session.specs.Entries.{AreLiveIn, all_in, repo_under, selected_in};
 ghost use Rattle.surgeon_session.specs.Pieces.{StopsNear, bytes_read, refused};
 
 mod changing;
@@ -26,12 +26,14 @@ mod loading;
 mod showing;
 
 use crate::halted::Halted;
+use crate::path_words::matchers_of;
 use crate::repositories::Repositories;
 use crate::repository::Repository;
+use crate::subject::Subject;
 use byte_patterns::Patterns;
 use listing::all;
-use plain_model::{AnyId, Fault, Halt, IdList, Items, NoMemory, Text};
-use script_reader::{Call, Command, LineList, Macros, WrittenSelection};
+use plain_model::{Fault, Halt, IdList, Items, NoMemory, Text};
+use script_reader::{Call, Command, LineList, Macros, ScriptText, WrittenSelection};
 use selection_eval::sound_histories_are_such;
 use std::alloc::Global;
 use std::marker::Model;
@@ -100,16 +102,17 @@ impl Session {
         }
     }
 
-    // The ids of all events of the chosen history, each once.
-    fn all_events(&self) -> Result<IdList, Halt>
-        ensures returns { Returns (λ ids. ids) result (all_in self.now) }
-        ensures once { IfOk result IsOnce }
-        ensures live { IfOk result (AreLiveIn (chosen self.now)) }
+    // All events of the chosen history, each once.
+    fn all_events(&self) -> Result<Subject, Halt>
+        ensures returns { Returns (λ subject. subject) result (all_in self.now) }
+        ensures once { IfOk result (λ subject. IsOnce subject.ids) }
+        ensures live { IfOk result (λ subject. AreLiveIn (chosen self.now) subject.ids) }
     {
         let (_, repository) = self.chosen()?;
         let _count = repository.events().count();
         sound_histories_are_such();
-        Ok(all(self.alloc, repository.events())?)
+        let ids = all(self.alloc, repository.events())?;
+        Ok(Subject::of_events(self.alloc, ids))
     }
 
     // The events of the chosen history for which a selection stands.
@@ -120,7 +123,7 @@ impl Session {
         patterns: &mut P,
     ) -> Result<IdList, Halt>
         ensures judged { Judges (λ ids. ids) (P.sizes patterns.old) (P.sizes patterns.new) result
-            (in_scope self.old (Scope.selected selection.now)) }
+            (selected_in selection.now self.old) }
         ensures once { IfOk result IsOnce }
         ensures live { IfOk result (AreLiveIn (chosen self.old)) }
         ensures same { self.new ≡ self.old }
@@ -134,13 +137,47 @@ impl Session {
         }
     }
 
-    // The events of which a command speaks, each once, after the checks that come before its own.
+    // The same, as what a command speaks of.
+    fn selected_events<P: Patterns>(
+        &mut self,
+        selection: &WrittenSelection,
+        patterns: &mut P,
+    ) -> Result<Subject, Halt>
+        ensures judged { Judges (λ subject. subject) (P.sizes patterns.old) (P.sizes patterns.new)
+            result (in_scope self.old (Scope.selected selection.now)) }
+        ensures once { IfOk result (λ subject. IsOnce subject.ids) }
+        ensures live { IfOk result (λ subject. AreLiveIn (chosen self.old) subject.ids) }
+        ensures same { self.new ≡ self.old }
+        ensures grows { P.sizes patterns.old ≤ P.sizes patterns.new }
+    {
+        let ids = self.selected(selection, patterns)?;
+        Ok(Subject::of_events(self.alloc, ids))
+    }
+
+    // The paths that words say, where a repository is chosen.
+    fn said_paths<P: Patterns>(
+        &self,
+        words: &[ScriptText],
+        patterns: &mut P,
+    ) -> Result<Subject, Halt>
+        ensures judged { Judges (λ subject. subject) (P.sizes patterns.old) (P.sizes patterns.new)
+            result (in_scope self.now (Scope.said_paths words.now)) }
+        ensures once { IfOk result (λ subject. IsOnce subject.ids) }
+        ensures live { IfOk result (λ subject. AreLiveIn (chosen self.now) subject.ids) }
+        ensures grows { P.sizes patterns.old ≤ P.sizes patterns.new }
+    {
+        let _ = self.chosen()?;
+        let matchers = matchers_of(self.alloc, words, patterns)?;
+        Ok(Subject::of_paths(self.alloc, matchers))
+    }
+
+    // What a command speaks of, each event once, after the checks that come before its own.
     #[tactic(auto, unfolding(history_machine::specs::Sessions::ready))]
-    fn ready<P: Patterns>(&mut self, command: &Command, patterns: &mut P) -> Result<IdList, Halt>
-        ensures judged { Judges (λ ids. ids) (P.sizes patterns.old) (P.sizes patterns.new) result
-            (ready self.old command.now) }
-        ensures once { IfOk result IsOnce }
-        ensures live { IfOk result (AreLiveIn (chosen self.old)) }
+    fn ready<P: Patterns>(&mut self, command: &Command, patterns: &mut P) -> Result<Subject, Halt>
+        ensures judged { Judges (λ subject. subject) (P.sizes patterns.old) (P.sizes patterns.new)
+            result (ready self.old command.now) }
+        ensures once { IfOk result (λ subject. IsOnce subject.ids) }
+        ensures live { IfOk result (λ subject. AreLiveIn (chosen self.old) subject.ids) }
         ensures same { self.new ≡ self.old }
         ensures grows { P.sizes patterns.old ≤ P.sizes patterns.new }
     {
@@ -152,7 +189,7 @@ impl Session {
             | Command::Edit {
                 selection: Some(selection),
                 ..
-            } => self.selected(selection, patterns),
+            } => self.selected_events(selection, patterns),
             Command::Show {
                 selection: None,
                 ..
@@ -161,24 +198,25 @@ impl Session {
                 selection: None,
                 ..
             } => self.all_events(),
-            Command::Assign { selection, .. } => self.selected(selection, patterns),
-            _ => Ok(Items::empty(self.alloc)),
+            Command::Assign { selection, .. } => self.selected_events(selection, patterns),
+            Command::Expunge { words } => self.said_paths(words.as_slice(), patterns),
+            _ => Ok(Subject::of_events(self.alloc, Items::empty(self.alloc))),
         }
     }
 
-    // What a command does with the events of which it speaks.
+    // What a command does with what it speaks of.
     #[tactic(auto, unfolding(history_machine::specs::Sessions::carried))]
     fn carry<S: Store, T: Sink>(
         &mut self,
         command: &Command,
-        ids: &[AnyId],
+        subject: &Subject,
         store: &mut S,
         out: &mut T,
     ) -> Result<(), Halted>
-        requires once { IsOnce ids.now }
-        requires live { AreLiveIn (chosen self.old) ids.now }
+        requires once { IsOnce subject.now.ids }
+        requires live { AreLiveIn (chosen self.old) subject.now.ids }
         ensures carries { CarriesOut no_calls (S.state store.old) (T.state out.old) self.old
-            (ReadsNoFile command.now) (λ files. carried self.old files ids.now command.now)
+            (ReadsNoFile command.now) (λ files. carried self.old files subject.now command.now)
             result self.new (S.state store.new) (T.state out.new) }
         ensures near { StopsNear (bytes_read (S.state store.old).files command.now) (refused result)
             (S.state store.new).rest }
@@ -191,9 +229,10 @@ impl Session {
             Command::Drop { name } => Ok(self.forget(name.as_slice())?),
             Command::DropChosen => Ok(self.forget_chosen()?),
             Command::Renumber => Ok(self.renumber()?),
-            Command::Show { what, to, .. } => self.show(*what, ids, store, out, to),
-            Command::Assign { name, .. } => Ok(self.assign(ids, name.as_slice())?),
-            Command::Edit { what, .. } => Ok(self.edit(what, ids)?),
+            Command::Show { what, to, .. } => self.show(*what, subject.ids(), store, out, to),
+            Command::Assign { name, .. } => Ok(self.assign(subject.ids(), name.as_slice())?),
+            Command::Edit { what, .. } => Ok(self.edit(what, subject.ids())?),
+            Command::Expunge { .. } => Ok(self.expunge(subject.matchers())?),
             Command::Sample { count, start } => Ok(self.sample(*count, *start)?),
             Command::Names { to } => self.names(store, out, to),
             Command::Summary { to } => self.summary(store, out, to),
@@ -220,7 +259,7 @@ impl Session {
             (S.state store.new).rest }
         ensures grows { P.sizes patterns.old ≤ P.sizes patterns.new }
     {
-        let ids = self.ready(command, patterns)?;
-        self.carry(command, ids.as_slice(), store, out)
+        let subject = self.ready(command, patterns)?;
+        self.carry(command, &subject, store, out)
     }
 }

@@ -61,7 +61,7 @@ fn each_command_prints_and_writes_its_text(rt: HostRuntime) -> Result<(), Fail> 
     let alloc = rt.alloc();
     let index: &[u8] =
         b"     1 blob :7\n     2 commit :9 refs/heads/main\n     3 reset :9 refs/tags/v\n";
-    let rows: [(&str, &[u8], &[u8], &[u8]); 18] = [
+    let rows: [(&str, &[u8], &[u8], &[u8]); 19] = [
         (
             "list",
             b"read <1.fi\nlist",
@@ -129,6 +129,12 @@ fn each_command_prints_and_writes_its_text(rt: HostRuntime) -> Result<(), Fail> 
             "reorder",
             b"sample 2 17\n:4,:2 reorder\nnames\nindex",
             b"branch refs/heads/master :2\n     1 blob :1\n     2 blob :3\n     3 commit :4 refs/heads/master\n     4 commit :2 refs/heads/master\n",
+            b"",
+        ),
+        (
+            "expunge",
+            b"sample 3 0\n:4,:2 assign few\nexpunge d8/f1 /^d9\\//\nindex\n<few> index",
+            b"     1 blob :3\n     2 commit :4 refs/heads/master\n     2 commit :4 refs/heads/master\n",
             b"",
         ),
         (
@@ -225,13 +231,16 @@ fn said(alloc: Global, session: &mut Session, line: &str) -> Result<&'static str
 fn a_session_goes_on_from_command_to_command(rt: HostRuntime) -> Result<(), Fail> {
     let alloc = rt.alloc();
     let mut session = Session::new(alloc)?;
-    let rows: [(&str, &str); 10] = [
+    let rows: [(&str, &str); 13] = [
         ("renumber", "nothing chosen"),
+        ("expunge /a//b", "nothing chosen"),
         (":9 assign few", "nothing chosen"),
         ("read <1.fi", "done"),
         (":9 assign few", "done"),
         (":9 assign few", "assigned"),
         ("renumber", "done"),
+        ("expunge / f", "another refusal"),
+        ("expunge //", "done"),
         ("drop 2", "not loaded"),
         ("drop 1", "done"),
         ("choose 1", "not loaded"),

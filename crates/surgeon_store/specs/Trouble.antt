@@ -40,7 +40,7 @@ abbrev pub error_number : Option ℤ → ℕ
 error_number (Some code) = unsigned_abs code
 error_number None = 0
 
--- an error of a kind without words: two are told apart by their numbers on Linux
+-- an error of a kind without words: two are distinguished by their numbers on Linux
 abbrev pub error_text : ℕ → List ℕ
 error_text number =
     if number == 5 then codes "input or output error"

@@ -22,3 +22,6 @@ pub returns-clause-written : goal.returns-clause-written
 returns-clause-written g c = λ files.
     writes_shown c.a_step_keeps_it.ensures.line c.what_is_written_shows_the_history.ensures c.the_chosen_history_is_lawful.ensures c.a_write_sends_the_stream.ensures.sent c.a_write_sends_the_stream.ensures.done
     (map string_bytes c.args.words.now) files
+
+pub returns-clause-read : goal.returns-clause-read
+returns-clause-read g c = λ files. c.the_reads_of_a_run_are_spelled.ensures (map string_bytes c.args.words.now) files

@@ -1,6 +1,5 @@
 use Rattle.std.proofs.Common.{List, None, refl}
 use Rattle.plain_model.specs.Paths.{Bytes}
-use Rattle.history_machine.specs.Sessions.{ordered}
 use Rattle.surgeon_session.proofs.Halting.{halted_alone, halts_after, returned}
 use Rattle.surgeon_session.proofs.run.carry_out_order.Goals as goal
 

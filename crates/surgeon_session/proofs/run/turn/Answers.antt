@@ -1,4 +1,3 @@
-use Rattle.std.proofs.Common.{ℕ}
 use Rattle.history_machine.specs.Sessions.{line_step}
 use Rattle.surgeon_session.specs.Calls.{world}
 use Rattle.surgeon_session.proofs.Readying.{broken_turn}

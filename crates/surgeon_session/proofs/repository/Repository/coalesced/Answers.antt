@@ -1,4 +1,4 @@
-use Rattle.std.proofs.Common.{◌≡◌, List, Result, Ok, ap, sym, ◌∙◌}
+use Rattle.std.proofs.Common.{List, Result, Ok, ap, sym, ◌∙◌}
 use Rattle.plain_model.specs.declared.event.PlainEvent.{PlainEvent}
 use Rattle.plain_model.specs.declared.fault.Fault.{Fault}
 use Rattle.coalesce_laws.specs.Coalesce.{coalesce_of}

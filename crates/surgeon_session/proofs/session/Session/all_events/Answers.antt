@@ -2,4 +2,4 @@ use Rattle.history_machine.proofs.Selections.{all_live}
 use Rattle.surgeon_session.proofs.session.Session.all_events.Goals as goal
 
 pub returns-clause-live : goal.returns-clause-live
-returns-clause-live c = rw (c.in_ok-repository.ensures, c.in_ok-all.ensures, c.events-2.ensures) (all_live c.in_ok-repository.repository.now.history)
+returns-clause-live c = rw (c.in_ok-repository.ensures, c.of_events.ensures, c.in_ok-ids.ensures, c.events-2.ensures) (all_live c.in_ok-repository.repository.now.history)

@@ -48,7 +48,7 @@ returns-in_err-assign-in-Assign-clause-carries g c =
     let failed = c.in_err-assign-in-Assign in
     rw c.in-Assign.is
     (halted_alone no_calls _ _ c.args.self.now c.assign.new.self _ _ failed.field-0.0 _ c.from_residual-in_err-assign-in-Assign.ensures.1
-    (λ files. halts_after failed.field-0.0 _ _ (returned (λ (b : Session). b) failed.field-0.0 _ (rw c.as_slice-in-Assign.ensures at failed.ensures.returns))) failed.ensures.kept)
+    (λ files. halts_after failed.field-0.0 _ _ (returned (λ (b : Session). b) failed.field-0.0 _ (rw (c.as_slice-in-Assign.ensures, c.ids-in-Assign.ensures) at failed.ensures.returns))) failed.ensures.kept)
 
 pub returns-in_err-edit-in-Edit-clause-carries : goal.returns-in_err-edit-in-Edit-clause-carries
 unfolding carried
@@ -56,7 +56,15 @@ returns-in_err-edit-in-Edit-clause-carries g c =
     let failed = c.in_err-edit-in-Edit in
     rw c.in-Edit.is
     (halted_alone no_calls _ _ c.args.self.now c.edit.new.self _ _ failed.field-0.0 _ c.from_residual-in_err-edit-in-Edit.ensures.1
-    (λ files. halts_after failed.field-0.0 _ _ (returned (λ (b : Session). b) failed.field-0.0 _ failed.ensures.returns)) failed.ensures.kept)
+    (λ files. halts_after failed.field-0.0 _ _ (returned (λ (b : Session). b) failed.field-0.0 _ (rw c.ids-in-Edit.ensures at failed.ensures.returns))) failed.ensures.kept)
+
+pub returns-in_err-expunge-in-Expunge-clause-carries : goal.returns-in_err-expunge-in-Expunge-clause-carries
+unfolding carried
+returns-in_err-expunge-in-Expunge-clause-carries g c =
+    let failed = c.in_err-expunge-in-Expunge in
+    rw c.in-Expunge.is
+    (halted_alone no_calls _ _ c.args.self.now c.expunge.new.self _ _ failed.field-0.0 _ c.from_residual-in_err-expunge-in-Expunge.ensures.1
+    (λ files. halts_after failed.field-0.0 _ _ (returned (λ (b : Session). b) failed.field-0.0 _ (rw c.matchers.ensures at failed.ensures.returns))) failed.ensures.kept)
 
 pub returns-in_err-sample-in-Sample-clause-carries : goal.returns-in_err-sample-in-Sample-clause-carries
 unfolding carried
@@ -76,7 +84,8 @@ returns-in-ShowRepos-clause-carries g c = rw c.in-ShowRepos.is (record { outcome
 
 pub returns-in-Show-clause-carries : goal.returns-in-Show-clause-carries
 unfolding carried
-returns-in-Show-clause-carries g c = rw c.in-Show.is (record { outcome = c.show.ensures.outcome; exact = c.show.ensures.exact; kept = c.show.ensures.kept })
+returns-in-Show-clause-carries g c =
+    rw c.in-Show.is (record { outcome = rw c.ids.ensures at c.show.ensures.outcome; exact = rw c.ids.ensures at c.show.ensures.exact; kept = c.show.ensures.kept })
 
 pub returns-in-Names-clause-carries : goal.returns-in-Names-clause-carries
 unfolding carried
