@@ -1,12 +1,14 @@
 //! Events of a history.
-ghost use Rattle.std.specs.Prelude.{◌≡◌, IfOk};
+ghost use Rattle.std.specs.Prelude.{◌≡◌, ◌∷◌, ◌++◌, [], IfOk, OnErr, OnOk};
 
 use crate::id::{AnyId, BlobId, CommitId, PassId, ResetId, TagId};
 use crate::list::{Copied, Items, NoMemory, Text};
 use crate::mark::Mark;
 use crate::operation::OpList;
 use crate::person::Signed;
+use crate::shared::Shared;
 use std::alloc::Global;
+use std::marker::Model;
 
 /// Marks, in order.
 pub type MarkList = Items<Mark>;
@@ -21,19 +23,19 @@ pub enum PlainEvent {
     Blob {
         id: BlobId,
         mark: Mark,
-        bytes: Text,
+        bytes: Shared<Text>,
     },
     /// A commit on a branch; its tree is that of its first parent, changed by its operations.
     Commit {
         id: CommitId,
         mark: Mark,
-        branch: Text,
+        branch: Shared<Text>,
         author: Signed,
         committer: Signed,
-        encoding: Option<Text>,
+        encoding: Option<Shared<Text>>,
         comment: Text,
         parents: ParentList,
-        ops: OpList,
+        ops: Shared<OpList>,
         /// Its further marks. (git-fast-import, `alias`.)
         aliases: MarkList,
     },
@@ -49,7 +51,7 @@ pub enum PlainEvent {
     /// A branch that is set to a commit, or removed.
     Reset {
         id: ResetId,
-        branch: Text,
+        branch: Shared<Text>,
         target: Option<CommitId>,
     },
     /// A line that is passed through as it is: `checkpoint`, `progress`, `feature` or `option`. (own)
@@ -59,8 +61,68 @@ pub enum PlainEvent {
     },
 }
 
-/// A history: events, each after those that it refers to.
-pub type EventList = Items<PlainEvent>;
+/// A history: events, each after those that it refers to. They are shared from the first on, so that whoever keeps them
+/// copies none of them.
+#[derive(Drop)]
+pub struct EventList {
+    rows: Items<Shared<PlainEvent>>,
+}
+
+impl Model for EventList {
+    ghost use Rattle.std.specs.Prelude.{List};
+    ghost use Rattle.plain_model.specs.declared.event.PlainEvent.{PlainEvent};
+
+    ghost Value = { List PlainEvent };
+
+    ghost view = { λ l. l.rows };
+}
+
+impl EventList {
+    /// The history without events. It takes no memory.
+    pub fn empty(alloc: Global) -> EventList
+        ensures { result ≡ [] }
+    {
+        EventList {
+            rows: Items::empty(alloc),
+        }
+    }
+
+    /// The history without events, in the form of the calls that can want memory.
+    pub fn new(alloc: Global) -> Result<EventList, NoMemory>
+        ensures { IfOk result (λ made. made ≡ []) }
+    {
+        Ok(EventList::empty(alloc))
+    }
+
+    /// The history of these events.
+    pub fn of_rows(rows: Items<Shared<PlainEvent>>) -> EventList
+        ensures { result ≡ rows }
+    {
+        EventList { rows }
+    }
+
+    /// Puts an event at the end; a refused call leaves the list.
+    pub fn push(&mut self, event: PlainEvent) -> Result<(), NoMemory>
+        ensures ok { OnOk result (self.new ≡ self.old ++ event ∷ []) }
+        ensures err { OnErr result (self.new ≡ self.old) }
+    {
+        let row = Shared::new(self.rows.alloc(), event)?;
+        self.rows.push(row)
+    }
+
+    pub fn as_slice(&self) -> &[Shared<PlainEvent>]
+        ensures { result.now ≡ self.now }
+    {
+        self.rows.as_slice()
+    }
+
+    /// The events themselves, taken out of the list.
+    pub fn into_rows(self) -> Vec<Shared<PlainEvent>>
+        ensures { result.items ≡ self }
+    {
+        self.rows.into_items()
+    }
+}
 
 impl PlainEvent {
     ghost use Rattle.plain_model.specs.Lookups.{id_of};

@@ -12,6 +12,7 @@ mod operation;
 mod path;
 mod person;
 mod raw;
+mod shared;
 mod status;
 mod steps;
 
@@ -31,6 +32,7 @@ pub use operation::{Content, Entry, EntryList, FileOp, Mode, OpList};
 pub use path::{Path, PathFault};
 pub use person::{Person, Signed, When};
 pub use raw::{Place, RawContent, RawOp};
+pub use shared::Shared;
 pub use status::Status;
 pub use steps::Steps;
 

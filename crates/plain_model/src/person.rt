@@ -2,6 +2,7 @@
 ghost use Rattle.std.specs.Prelude.{◌≡◌, IfOk};
 
 use crate::list::{Copied, NoMemory, Text};
+use crate::shared::Shared;
 use std::alloc::Global;
 
 /// A name, which may be empty, and an email. Neither holds `<`, `>` or NUL. (git-fast-import, `committer`.)
@@ -25,7 +26,7 @@ pub struct When {
 /// Who did something, and when.
 #[derive(Drop)]
 pub struct Signed {
-    pub person: Person,
+    pub person: Shared<Person>,
     pub when: When,
 }
 

@@ -153,10 +153,13 @@ fn lists_of_operations_are_filled_and_copied(rt: HostRuntime) -> Result<(), Fail
 
 fn signed(alloc: Global, name: &[u8], seconds: u64) -> Result<Signed, Fail> {
     Ok(Signed {
-        person: Person {
-            name: text(alloc, name)?,
-            email: text(alloc, b"e")?,
-        },
+        person: Shared::new(
+            alloc,
+            Person {
+                name: text(alloc, name)?,
+                email: text(alloc, b"e")?,
+            },
+        )?,
         when: When {
             seconds,
             minus: true,
@@ -165,42 +168,103 @@ fn signed(alloc: Global, name: &[u8], seconds: u64) -> Result<Signed, Fail> {
     })
 }
 
-fn events(alloc: Global) -> Result<EventList, Fail> {
-    let mut events = Items::new(alloc)?;
-    events.push(PlainEvent::Commit {
-        id: CommitId::new(2),
-        mark: mark(9)?,
-        branch: text(alloc, b"main")?,
+fn shared(alloc: Global, bytes: &[u8]) -> Result<Shared<Text>, Fail> {
+    Ok(Shared::new(alloc, text(alloc, bytes)?)?)
+}
+
+fn blob(alloc: Global) -> Result<PlainEvent, Fail> {
+    let mark = mark(8)?;
+    Ok(PlainEvent::Blob {
+        id: BlobId::new(1),
+        mark,
+        bytes: shared(alloc, b"one")?,
+    })
+}
+
+// What a commit has besides its operations and further marks.
+#[derive(Drop)]
+struct Front {
+    branch: Shared<Text>,
+    author: Signed,
+    committer: Signed,
+    encoding: Shared<Text>,
+    comment: Text,
+}
+
+fn commit_front(alloc: Global) -> Result<Front, Fail> {
+    Ok(Front {
+        branch: shared(alloc, b"main")?,
         author: signed(alloc, b"A", 1)?,
         committer: signed(alloc, b"C", 2)?,
-        encoding: Some(text(alloc, b"latin1")?),
+        encoding: shared(alloc, b"latin1")?,
         comment: text(alloc, b"why")?,
-        parents: Items::of(alloc, &[CommitId::new(7)])?,
-        ops: operations(alloc)?,
-        aliases: Items::of(alloc, &[mark(10)?, mark(11)?])?,
-    })?;
-    events.push(PlainEvent::Tag {
+    })
+}
+
+fn shared_operations(alloc: Global) -> Result<Shared<OpList>, Fail> {
+    Ok(Shared::new(alloc, operations(alloc)?)?)
+}
+
+fn aliases(alloc: Global) -> Result<MarkList, Fail> {
+    let marks = [mark(10)?, mark(11)?];
+    Ok(Items::of(alloc, &marks)?)
+}
+
+fn commit(alloc: Global) -> Result<PlainEvent, Fail> {
+    let mark = mark(9)?;
+    let parents = Items::of(alloc, &[CommitId::new(7)])?;
+    let aliases = aliases(alloc)?;
+    let ops = shared_operations(alloc)?;
+    let front = commit_front(alloc)?;
+    Ok(PlainEvent::Commit {
+        id: CommitId::new(2),
+        mark,
+        branch: front.branch,
+        author: front.author,
+        committer: front.committer,
+        encoding: Some(front.encoding),
+        comment: front.comment,
+        parents,
+        ops,
+        aliases,
+    })
+}
+
+fn tag(alloc: Global) -> Result<PlainEvent, Fail> {
+    let mark = mark(12)?;
+    Ok(PlainEvent::Tag {
         id: TagId::new(3),
         name: text(alloc, b"v1")?,
         target: CommitId::new(2),
         tagger: Some(signed(alloc, b"T", 3)?),
         comment: text(alloc, b"tagged")?,
-        mark: Some(mark(12)?),
-    })?;
-    events.push(PlainEvent::Reset {
+        mark: Some(mark),
+    })
+}
+
+fn reset(alloc: Global) -> Result<PlainEvent, Fail> {
+    Ok(PlainEvent::Reset {
         id: ResetId::new(4),
-        branch: text(alloc, b"side")?,
+        branch: shared(alloc, b"side")?,
         target: Some(CommitId::new(2)),
-    })?;
-    events.push(PlainEvent::Pass {
+    })
+}
+
+fn pass(alloc: Global) -> Result<PlainEvent, Fail> {
+    Ok(PlainEvent::Pass {
         id: PassId::new(5),
         line: text(alloc, b"checkpoint")?,
-    })?;
-    events.push_front(PlainEvent::Blob {
-        id: BlobId::new(1),
-        mark: mark(8)?,
-        bytes: text(alloc, b"one")?,
-    })?;
+    })
+}
+
+// One of each kind.
+fn events(alloc: Global) -> Result<EventList, Fail> {
+    let mut events = EventList::new(alloc)?;
+    events.push(blob(alloc)?)?;
+    events.push(commit(alloc)?)?;
+    events.push(tag(alloc)?)?;
+    events.push(reset(alloc)?)?;
+    events.push(pass(alloc)?)?;
     Ok(events)
 }
 
@@ -215,8 +279,9 @@ fn put_number(out: &mut Text, number: u64) -> Result<(), NoMemory> {
 }
 
 fn put_signed(out: &mut Text, signed: &Signed) -> Result<(), NoMemory> {
-    put_word(out, &signed.person.name)?;
-    put_word(out, &signed.person.email)?;
+    let person = signed.person.as_ref();
+    put_word(out, &person.name)?;
+    put_word(out, &person.email)?;
     put_number(out, signed.when.seconds)?;
     out.push_all(if signed.when.minus { b" -" } else { b" +" })?;
     out.push_number(u64::from(signed.when.offset))
@@ -229,7 +294,7 @@ fn put_event(out: &mut Text, event: &PlainEvent) -> Result<(), NoMemory> {
             out.push_all(b"blob")?;
             put_number(out, id.number())?;
             put_number(out, mark.number())?;
-            put_word(out, bytes)
+            put_word(out, bytes.as_ref())
         }
         PlainEvent::Commit {
             id,
@@ -246,11 +311,11 @@ fn put_event(out: &mut Text, event: &PlainEvent) -> Result<(), NoMemory> {
             out.push_all(b"commit")?;
             put_number(out, id.number())?;
             put_number(out, mark.number())?;
-            put_word(out, branch)?;
+            put_word(out, branch.as_ref())?;
             put_signed(out, author)?;
             put_signed(out, committer)?;
             if let Some(encoding) = encoding {
-                put_word(out, encoding)?;
+                put_word(out, encoding.as_ref())?;
             }
             put_word(out, comment)?;
             for parent in parents.as_slice() {
@@ -288,7 +353,7 @@ fn put_event(out: &mut Text, event: &PlainEvent) -> Result<(), NoMemory> {
         PlainEvent::Reset { id, branch, target } => {
             out.push_all(b"reset")?;
             put_number(out, id.number())?;
-            put_word(out, branch)?;
+            put_word(out, branch.as_ref())?;
             if let Some(target) = target {
                 put_number(out, target.number())?;
             }
@@ -303,9 +368,21 @@ fn put_event(out: &mut Text, event: &PlainEvent) -> Result<(), NoMemory> {
 }
 
 #[test]
+fn shared_values_have_one_value_and_one_more_owner(rt: HostRuntime) -> Result<(), Fail> {
+    let alloc = rt.alloc();
+    let branch = shared(alloc, b"main")?;
+    let same = branch.share()?;
+    assert_eq!(rt; same.as_slice(), b"main".as_slice());
+    let same = Shared::of_rc(same.into_rc()).copied(alloc)?;
+    assert_eq!(rt; same.as_ref().as_slice(), b"main".as_slice());
+    assert_eq!(rt; branch.as_slice(), b"main".as_slice());
+    Ok(())
+}
+
+#[test]
 fn lists_of_events_are_filled_and_copied(rt: HostRuntime) -> Result<(), Fail> {
     let alloc = rt.alloc();
-    let copied = events(alloc)?.copy()?;
+    let events = events(alloc)?;
     let rows: [(&str, &[u8]); 5] = [
         ("a blob", b"blob 1 8 one"),
         (
@@ -316,10 +393,11 @@ fn lists_of_events_are_filled_and_copied(rt: HostRuntime) -> Result<(), Fail> {
         ("a reset", b"reset 4 side 2"),
         ("a line passed through", b"pass 5 checkpoint"),
     ];
-    assert_eq!(rt; copied.as_slice().len(), rows.len());
-    for ((what, want), event) in rows.into_iter().zip(copied.as_slice()) {
+    assert_eq!(rt; events.as_slice().len(), rows.len());
+    for ((what, want), event) in rows.into_iter().zip(events.as_slice()) {
+        let copied = event.as_ref().copied(alloc)?;
         let mut out = Items::new(alloc)?;
-        put_event(&mut out, event)?;
+        put_event(&mut out, &copied)?;
         assert_eq!(rt; out.as_slice(), want, "{what}");
     }
     Ok(())
