@@ -4,3 +4,4 @@ pub mod Fronts
 pub mod Places
 pub mod QuoteSteps
 pub mod Rests
+pub mod WholePeople

@@ -6,7 +6,8 @@ ghost use Rattle.plain_model.specs.Names.{is_name, is_name_byte};
 ghost use Rattle.stream_fields.specs.Answers.{Gives};
 
 use crate::fault::FieldFault;
-use plain_model::{Items, MAX_NAME_BYTES, Text, Why};
+use crate::repeated::Names;
+use plain_model::{Items, MAX_NAME_BYTES, Shared, Text, Why};
 use std::alloc::Global;
 
 fn are_name_bytes(text: &[u8]) -> bool
@@ -29,6 +30,22 @@ pub fn read_name(alloc: Global, text: &[u8]) -> Result<Text, FieldFault>
 {
     if fits_name(text) {
         Ok(Items::of(alloc, text)?)
+    } else {
+        Err(FieldFault::Bad(Why::BadName))
+    }
+}
+
+/// The name of a branch, which is kept once for all events that are on it.
+#[tactic(auto, unfolding(plain_model::specs::Fields::name_in))]
+pub fn read_branch(
+    alloc: Global,
+    names: &mut Names,
+    text: &[u8],
+) -> Result<Shared<Text>, FieldFault>
+    ensures { Gives (λ name. name) result (name_in text.now) }
+{
+    if fits_name(text) {
+        Ok(names.shared(alloc, text)?)
     } else {
         Err(FieldFault::Bad(Why::BadName))
     }

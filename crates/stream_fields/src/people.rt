@@ -9,7 +9,8 @@ ghost use Rattle.stream_fields.specs.Answers.{Gives};
 use crate::fault::{FieldFault, or_defect};
 use crate::lines::{cut, strip};
 use crate::numbers::number_up_to;
-use plain_model::{Items, MAX_SECONDS, Person, Signed, When, Why};
+use crate::repeated::People;
+use plain_model::{MAX_SECONDS, Signed, When, Why};
 use std::alloc::Global;
 
 // The name before an email: nothing, or what is before a last space.
@@ -88,17 +89,22 @@ fn parts_of_person(text: &[u8]) -> Option<(&[u8], &[u8], &[u8])>
     }
 }
 
+// The name and the email, as they are spelled.
+fn before_email_end(text: &[u8]) -> &[u8] {
+    match cut(b'>', text) {
+        Some((spelled, _)) => spelled,
+        None => text,
+    }
+}
+
 /// Who and when: a name and a space, or nothing; an email in `<` and `>`; seconds; a sign and four digits.
 /// (git-fast-import, `committer`.)
 #[tactic(auto, unfolding(plain_model::specs::Fields::person_in))]
-pub fn read_person(alloc: Global, text: &[u8]) -> Result<Signed, FieldFault>
+pub fn read_person(alloc: Global, people: &mut People, text: &[u8]) -> Result<Signed, FieldFault>
     ensures { Gives (λ who. who) result (person_in text.now) }
 {
     let (name, email, tail) = or_defect(Why::BadPerson, parts_of_person(text))?;
     let when = or_defect(Why::BadWhen, moment_after(tail))?;
-    let person = Person {
-        name: Items::of(alloc, name)?,
-        email: Items::of(alloc, email)?,
-    };
+    let person = people.shared(alloc, before_email_end(text), name, email)?;
     Ok(Signed { person, when })
 }

@@ -30,11 +30,12 @@ fn path_shown(alloc: Global, text: &[u8], place: Place) -> Result<Text, Fail> {
 // NAME|EMAIL|SECONDS, the sign, and the zone as a number
 fn person_shown(alloc: Global, text: &[u8]) -> Result<Text, Fail> {
     let mut out = Items::empty(alloc);
-    match read_person(alloc, text) {
+    match read_person(alloc, &mut People::new(alloc), text) {
         Ok(who) => {
-            out.push_all(who.person.name.as_slice())?;
+            let person = who.person.as_ref();
+            out.push_all(person.name.as_slice())?;
             out.push(b'|')?;
-            out.push_all(who.person.email.as_slice())?;
+            out.push_all(person.email.as_slice())?;
             out.push(b'|')?;
             out.push_number(who.when.seconds)?;
             out.push(if who.when.minus { b'-' } else { b'+' })?;
@@ -405,12 +406,43 @@ fn marks_names_and_blocks_are_written(rt: HostRuntime) -> Result<(), Fail> {
 }
 
 #[test]
+fn whoever_comes_again_is_kept_once(rt: HostRuntime) -> Result<(), Fail> {
+    let alloc = rt.alloc();
+    let mut people = People::new(alloc);
+    let rows: [(&str, &[u8], &[u8], &[u8]); 4] = [
+        ("someone", b"A <a@x> 1 +0000", b"A", b"a@x"),
+        ("again, later", b"A <a@x> 2 +0000", b"A", b"a@x"),
+        ("another name", b"B <a@x> 2 +0000", b"B", b"a@x"),
+        ("no name", b"<a@x> 2 +0000", b"", b"a@x"),
+    ];
+    for (what, spelled, name, email) in rows {
+        let who = read_person(alloc, &mut people, spelled)?;
+        let person = who.person.as_ref();
+        assert_eq!(rt; person.name.as_slice(), name, "{what}");
+        assert_eq!(rt; person.email.as_slice(), email, "{what}");
+    }
+    let mut names = Names::new(alloc);
+    for name in [b"refs/heads/a", b"refs/heads/b", b"refs/heads/a"] {
+        let branch = read_branch(alloc, &mut names, name.as_slice())?;
+        assert_eq!(rt; branch.as_slice(), name.as_slice());
+    }
+    Ok(())
+}
+
+#[test]
 fn people_and_paths_are_written(rt: HostRuntime) -> Result<(), Fail> {
     let alloc = rt.alloc();
+    let mut people = People::new(alloc);
     let mut out: Text = Items::empty(alloc);
-    write_person(&read_person(alloc, b" <a@x> 0100 -0330")?, &mut out)?;
+    write_person(
+        &read_person(alloc, &mut people, b" <a@x> 0100 -0330")?,
+        &mut out,
+    )?;
     out.push(b'\n')?;
-    write_person(&read_person(alloc, b"A  <> 7 +0000")?, &mut out)?;
+    write_person(
+        &read_person(alloc, &mut people, b"A  <> 7 +0000")?,
+        &mut out,
+    )?;
     out.push(b'\n')?;
     let (path, _) = read_path(alloc, b"\"a \\\\\"", Place::Last)?;
     write_path(&path, Place::Source, &mut out)?;

@@ -12,6 +12,7 @@ ghost use Rattle.std.specs.Prelude.{
   IsTrue,
   codes,
   length,
+  take,
 };
 ghost use Rattle.plain_model.specs.Fields.{
   mark_in,
@@ -29,6 +30,18 @@ ghost use Rattle.plain_model.specs.Text.{marked, person, path_text, raw_op_text,
 use crate::written_parts::{push_data, push_marked, push_op, push_path, push_person};
 use plain_model::{Mark, NoMemory, Path, Place, RawOp, Signed, Text};
 
+// What was put after so many bytes goes again where memory ran out.
+fn whole_or_none(into: &mut Text, before: usize, put: Result<(), NoMemory>) -> Result<(), NoMemory>
+    ensures same { result ≡ put }
+    ensures ok { OnOk result (into.new ≡ into.old) }
+    ensures err { OnErr result (into.new ≡ take before into.old) }
+{
+    if put.is_err() {
+        into.truncate(before);
+    }
+    put
+}
+
 /// Puts a mark with its colon. (git-fast-import, `mark`.)
 #[tactic(auto, using(field_laws::proofs::FieldsAgain::mark_again))]
 pub fn write_mark(mark: Mark, into: &mut Text) -> Result<(), NoMemory>
@@ -36,9 +49,9 @@ pub fn write_mark(mark: Mark, into: &mut Text) -> Result<(), NoMemory>
     ensures err { OnErr result (into.new ≡ into.old) }
     ensures again { OnOk result (mark_in (marked mark) ≡ Ok mark) }
 {
-    let mut field = into.empty_like();
-    push_marked(&mut field, mark.number())?;
-    into.push_all(field.as_slice())
+    let before = into.as_slice().len();
+    let put = push_marked(into, mark.number());
+    whole_or_none(into, before, put)
 }
 
 /// Puts who and when: the name and a space, if there is a name, the email in `<` and `>`, the seconds without leading
@@ -50,9 +63,9 @@ pub fn write_person(signed: &Signed, into: &mut Text) -> Result<(), NoMemory>
     ensures again { OnOk result
         (IsFormedSigned signed.now → person_in (person signed.now) ≡ Ok signed.now) }
 {
-    let mut field = into.empty_like();
-    push_person(&mut field, signed)?;
-    into.push_all(field.as_slice())
+    let before = into.as_slice().len();
+    let put = push_person(into, signed);
+    whole_or_none(into, before, put)
 }
 
 /// Puts a path, in quotes exactly where it begins with one, holds an LF, or is before another path and holds a
@@ -65,9 +78,9 @@ pub fn write_path(path: &Path, place: Place, into: &mut Text) -> Result<(), NoMe
         → path_in place (path_text place path.now ++ rest)
         ≡ Ok (path.now, length (path_text place path.now))) }
 {
-    let mut field = into.empty_like();
-    push_path(&mut field, path, place)?;
-    into.push_all(field.as_slice())
+    let before = into.as_slice().len();
+    let put = push_path(into, path, place);
+    whole_or_none(into, before, put)
 }
 
 /// Puts an operation without the end of its line. One that gives a link to another repository a mark or bytes is
@@ -79,9 +92,9 @@ pub fn write_op(op: &RawOp, into: &mut Text) -> Result<(), NoMemory>
     ensures again { OnOk result
         (HasItsContent op.now → op_in (raw_op_text op.now) ≡ Ok op.now) }
 {
-    let mut field = into.empty_like();
-    push_op(&mut field, op)?;
-    into.push_all(field.as_slice())
+    let before = into.as_slice().len();
+    let put = push_op(into, op);
+    whole_or_none(into, before, put)
 }
 
 /// Puts the line `data COUNT`, the bytes and an LF. (git-fast-import, `data`.)

@@ -1,5 +1,5 @@
 //! Parts of a written line at the end of a text. Where memory runs out it is left open how much of them is
-//! there: the text is a new one, which is dropped then.
+//! there; what was there before stays.
 ghost use Rattle.std.specs.Prelude.{
   ◌≡◌,
   ◌++◌,
@@ -52,8 +52,10 @@ fn first_digit(number: u16) -> u8
     b'0' + (number / 1000) as u8
 }
 
+#[tactic(auto, using(crate::proofs::Fronts::fronts))]
 fn push_zone(out: &mut Text, offset: u16) -> Result<(), NoMemory>
-    ensures { OnOk result (out.new ≡ out.old ++ zone offset) }
+    ensures text { OnOk result (out.new ≡ out.old ++ zone offset) }
+    ensures front { take (length out.old) out.new ≡ out.old }
 {
     out.push(first_digit(offset))?;
     out.push(digit(offset, 100))?;
@@ -61,8 +63,10 @@ fn push_zone(out: &mut Text, offset: u16) -> Result<(), NoMemory>
     out.push(digit(offset, 1))
 }
 
+#[tactic(auto, using(crate::proofs::Fronts::fronts))]
 fn push_name(out: &mut Text, name: &[u8]) -> Result<(), NoMemory>
-    ensures { OnOk result (out.new ≡ out.old ++ name_part name.now) }
+    ensures text { OnOk result (out.new ≡ out.old ++ name_part name.now) }
+    ensures front { take (length out.old) out.new ≡ out.old }
 {
     out.push_all(name)?;
     if !name.is_empty() {
@@ -71,8 +75,10 @@ fn push_name(out: &mut Text, name: &[u8]) -> Result<(), NoMemory>
     Ok(())
 }
 
+#[tactic(auto, using(crate::proofs::Fronts::fronts))]
 fn push_address(out: &mut Text, person: &Person) -> Result<(), NoMemory>
-    ensures { OnOk result (out.new ≡ out.old ++ address person.now) }
+    ensures text { OnOk result (out.new ≡ out.old ++ address person.now) }
+    ensures front { take (length out.old) out.new ≡ out.old }
 {
     out.push(b'<')?;
     out.push_all(person.email.as_slice())?;
@@ -85,8 +91,10 @@ fn sign(minus: bool) -> &'static [u8]
     if minus { b"-" } else { b"+" }
 }
 
+#[tactic(auto, using(crate::proofs::Fronts::fronts))]
 fn push_date(out: &mut Text, when: &When) -> Result<(), NoMemory>
-    ensures { OnOk result (out.new ≡ out.old ++ date when.now) }
+    ensures text { OnOk result (out.new ≡ out.old ++ date when.now) }
+    ensures front { take (length out.old) out.new ≡ out.old }
 {
     out.push_number(when.seconds)?;
     out.push(b' ')?;
@@ -94,11 +102,14 @@ fn push_date(out: &mut Text, when: &When) -> Result<(), NoMemory>
     push_zone(out, when.offset)
 }
 
+#[tactic(auto, using(crate::proofs::Fronts::fronts))]
 pub fn push_person(out: &mut Text, signed: &Signed) -> Result<(), NoMemory>
-    ensures { OnOk result (out.new ≡ out.old ++ person signed.now) }
+    ensures text { OnOk result (out.new ≡ out.old ++ person signed.now) }
+    ensures front { take (length out.old) out.new ≡ out.old }
 {
-    push_name(out, signed.person.name.as_slice())?;
-    push_address(out, &signed.person)?;
+    let person = signed.person.as_ref();
+    push_name(out, person.name.as_slice())?;
+    push_address(out, person)?;
     push_date(out, &signed.when)
 }
 
@@ -116,8 +127,10 @@ fn has_lf_or_space(bytes: &[u8]) -> bool
     bytes.iter().any(|b| *b == b'\n' || *b == b' ')
 }
 
+#[tactic(auto, using(crate::proofs::Fronts::fronts))]
 fn push_quoted_byte(out: &mut Text, byte: u8) -> Result<(), NoMemory>
-    ensures { OnOk result (out.new ≡ out.old ++ quoted_byte byte) }
+    ensures text { OnOk result (out.new ≡ out.old ++ quoted_byte byte) }
+    ensures front { take (length out.old) out.new ≡ out.old }
 {
     match byte {
         b'"' => out.push_all(b"\\\""),
@@ -127,8 +140,10 @@ fn push_quoted_byte(out: &mut Text, byte: u8) -> Result<(), NoMemory>
     }
 }
 
+#[tactic(auto, using(crate::proofs::Fronts::fronts))]
 fn push_quoted(out: &mut Text, bytes: &[u8]) -> Result<(), NoMemory>
-    ensures { OnOk result (out.new ≡ out.old ++ quoted bytes.now) }
+    ensures text { OnOk result (out.new ≡ out.old ++ quoted bytes.now) }
+    ensures front { take (length out.old) out.new ≡ out.old }
 {
     out.push(b'"')?;
     for byte in bytes {
@@ -137,9 +152,11 @@ fn push_quoted(out: &mut Text, bytes: &[u8]) -> Result<(), NoMemory>
     out.push(b'"')
 }
 
+#[tactic(auto, using(crate::proofs::Fronts::fronts))]
 pub fn push_path(out: &mut Text, path: &Path, place: Place) -> Result<(), NoMemory>
     ensures text { OnOk result (out.new ≡ out.old ++ path_text place path.now) }
     ensures fits { IsPath path.now }
+    ensures front { take (length out.old) out.new ≡ out.old }
 {
     let bytes = path.as_bytes();
     match place {
@@ -174,16 +191,20 @@ pub fn mode_digits(mode: Mode) -> &'static [u8]
     }
 }
 
+#[tactic(auto, using(crate::proofs::Fronts::fronts))]
 pub fn push_marked(out: &mut Text, mark: u64) -> Result<(), NoMemory>
-    ensures { OnOk result (out.new ≡ out.old ++ marked mark) }
+    ensures text { OnOk result (out.new ≡ out.old ++ marked mark) }
+    ensures front { take (length out.old) out.new ≡ out.old }
 {
     out.push(b':')?;
     out.push_number(mark)
 }
 
+#[tactic(auto, using(crate::proofs::Fronts::fronts))]
 fn push_content(out: &mut Text, content: RawContent) -> Result<(), NoMemory>
     ensures text { OnOk result (out.new ≡ out.old ++ raw_content_text content) }
     ensures fits { ContentFits content }
+    ensures front { take (length out.old) out.new ≡ out.old }
 {
     match content {
         RawContent::Marked(mark) => push_marked(out, mark.number()),
@@ -192,9 +213,11 @@ fn push_content(out: &mut Text, content: RawContent) -> Result<(), NoMemory>
     }
 }
 
+#[tactic(auto, using(crate::proofs::Fronts::fronts))]
 fn push_modify(out: &mut Text, mode: Mode, content: RawContent, path: &Path) -> Result<(), NoMemory>
     ensures text { OnOk result (out.new ≡ out.old ++ modify_text mode content path.now) }
     ensures fits { OnOk result (ContentFits content × IsPath path.now) }
+    ensures front { take (length out.old) out.new ≡ out.old }
 {
     out.push_all(b"M ")?;
     out.push_all(mode_digits(mode))?;
@@ -205,9 +228,11 @@ fn push_modify(out: &mut Text, mode: Mode, content: RawContent, path: &Path) -> 
 }
 
 // `C` or `R`, and its two paths.
+#[tactic(auto, using(crate::proofs::Fronts::fronts))]
 fn push_paths(out: &mut Text, word: &[u8], source: &Path, target: &Path) -> Result<(), NoMemory>
     ensures text { OnOk result (out.new ≡ out.old ++ paths_text word.now source.now target.now) }
     ensures fits { OnOk result (IsPath source.now × IsPath target.now) }
+    ensures front { take (length out.old) out.new ≡ out.old }
 {
     out.push_all(word)?;
     push_path(out, source, Place::Source)?;
@@ -215,17 +240,21 @@ fn push_paths(out: &mut Text, word: &[u8], source: &Path, target: &Path) -> Resu
     push_path(out, target, Place::Last)
 }
 
+#[tactic(auto, using(crate::proofs::Fronts::fronts))]
 fn push_delete(out: &mut Text, path: &Path) -> Result<(), NoMemory>
     ensures text { OnOk result (out.new ≡ out.old ++ (codes "D " ++ last_path path.now)) }
     ensures fits { OnOk result (IsPath path.now) }
+    ensures front { take (length out.old) out.new ≡ out.old }
 {
     out.push_all(b"D ")?;
     push_path(out, path, Place::Last)
 }
 
+#[tactic(auto, using(crate::proofs::Fronts::fronts))]
 pub fn push_op(out: &mut Text, op: &RawOp) -> Result<(), NoMemory>
     ensures text { OnOk result (out.new ≡ out.old ++ raw_op_text op.now) }
     ensures fits { OnOk result (OpFits op.now) }
+    ensures front { take (length out.old) out.new ≡ out.old }
 {
     match op {
         RawOp::Modify {

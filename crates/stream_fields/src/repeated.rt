@@ -1,0 +1,107 @@
+//! Values of fields that come again and again in a stream: each is kept once, and has many owners.
+ghost use Rattle.std.specs.Prelude.{◌≡◌, true, IfOk, IfSome};
+
+use plain_model::{Items, NoMemory, Person, Shared, Text};
+use std::alloc::Global;
+use std::collections::HashMap;
+
+/// The names of branches so far.
+#[derive(Drop)]
+pub struct Names {
+    kept: HashMap<Vec<u8>, Shared<Text>>,
+}
+
+/// The people so far, by their names and emails as they were spelled.
+#[derive(Drop)]
+pub struct People {
+    kept: HashMap<Vec<u8>, Shared<Person>>,
+}
+
+// What is kept is looked at again where it is found, so that nothing has to be known of the maps.
+fn is_name(kept: &Shared<Text>, name: &[u8]) -> bool
+    ensures { result ≡ true → kept.now ≡ name.now }
+{
+    kept.as_slice() == name
+}
+
+fn is_person(kept: &Person, name: &[u8], email: &[u8]) -> bool
+    ensures { result ≡ true → kept.now ≡ record { name = name.now; email = email.now } }
+{
+    kept.name.as_slice() == name && kept.email.as_slice() == email
+}
+
+impl Names {
+    /// No names yet.
+    pub fn new(alloc: Global) -> Names {
+        Names {
+            kept: HashMap::new(alloc),
+        }
+    }
+
+    fn found(&self, name: &[u8]) -> Option<&Shared<Text>>
+        ensures { IfSome result (λ found. found.now ≡ name.now) }
+    {
+        let found = self.kept.get(name)?;
+        if is_name(found, name) {
+            Some(found)
+        } else {
+            None
+        }
+    }
+
+    /// The name: the one that is kept, or a new one that is kept from now on.
+    pub fn shared(&mut self, alloc: Global, name: &[u8]) -> Result<Shared<Text>, NoMemory>
+        ensures { IfOk result (λ made. made ≡ name.now) }
+    {
+        if let Some(found) = self.found(name) {
+            return found.share();
+        }
+        let made = Shared::new(alloc, Items::of(alloc, name)?)?;
+        let key = Vec::from_slice(alloc, name)?;
+        self.kept.insert(key, made.share()?)?;
+        Ok(made)
+    }
+}
+
+impl People {
+    /// Nobody yet.
+    pub fn new(alloc: Global) -> People {
+        People {
+            kept: HashMap::new(alloc),
+        }
+    }
+
+    fn found(&self, spelled: &[u8], name: &[u8], email: &[u8]) -> Option<&Shared<Person>>
+        ensures { IfSome result (λ found. found.now ≡ record { name = name.now; email = email.now }) }
+    {
+        let found = self.kept.get(spelled)?;
+        if is_person(found.as_ref(), name, email) {
+            Some(found)
+        } else {
+            None
+        }
+    }
+
+    /// The person with this name and this email, who are spelled so: whoever is kept, or a new one who is kept from now on.
+    pub fn shared(
+        &mut self,
+        alloc: Global,
+        spelled: &[u8],
+        name: &[u8],
+        email: &[u8],
+    ) -> Result<Shared<Person>, NoMemory>
+        ensures { IfOk result (λ made. made ≡ record { name = name.now; email = email.now }) }
+    {
+        if let Some(found) = self.found(spelled, name, email) {
+            return found.share();
+        }
+        let person = Person {
+            name: Items::of(alloc, name)?,
+            email: Items::of(alloc, email)?,
+        };
+        let made = Shared::new(alloc, person)?;
+        let key = Vec::from_slice(alloc, spelled)?;
+        self.kept.insert(key, made.share()?)?;
+        Ok(made)
+    }
+}
