@@ -1,5 +1,5 @@
 use crate::{TipList, Tips};
-use plain_model::{CommitId, Items, NoMemory, PlainEvent, ResetId, Text};
+use plain_model::{CommitId, Items, NoMemory, PlainEvent, ResetId, Shared, Text};
 use std::alloc::Global;
 use std::test::*;
 
@@ -10,7 +10,7 @@ fn text(alloc: Global, bytes: &[u8]) -> Option<Text> {
 fn reset(alloc: Global, number: u64, branch: &[u8], target: Option<u64>) -> Option<PlainEvent> {
     Some(PlainEvent::Reset {
         id: ResetId::new(number),
-        branch: text(alloc, branch)?,
+        branch: Shared::new(alloc, text(alloc, branch)?).ok()?,
         target: target.map(CommitId::new),
     })
 }

@@ -25,6 +25,7 @@ use std::alloc::Global;
 use std::marker::Model;
 use std::mem;
 use stream_drafts::{Aliases, Drafts, FinishFault};
+use stream_fields::{Names, People};
 
 /// Builds the events of a stream from its lines. Contracts see what is known of the stream.
 #[derive(Drop)]
@@ -33,6 +34,9 @@ pub struct Builder {
     aliases: Aliases,
     current: Open,
     trees: Trees,
+    // Who and which branches were read, so that each is kept once.
+    people: People,
+    names: Names,
     // How many operations there are.
     ops: u64,
 }
@@ -58,6 +62,8 @@ impl Builder {
             aliases: Aliases::new(alloc),
             current: Open::Nothing,
             trees: Trees::new(alloc),
+            people: People::new(alloc),
+            names: Names::new(alloc),
             ops: 0,
         }
     }

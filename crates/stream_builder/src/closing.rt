@@ -7,7 +7,7 @@ ghost use Rattle.stream_builder.specs.Minding.{HasAtMost, IsOpened, Minds, open_
 
 use crate::known::{OpenTree, Trees};
 use crate::open::{Open, OpenCommit};
-use plain_model::{Copied, NoMemory, Signed};
+use plain_model::{Copied, NoMemory, Shared, Signed};
 use std::alloc::Global;
 use stream_drafts::{CommitFields, Drafts};
 
@@ -64,6 +64,7 @@ fn push_commit(
     };
     let author = author_of(alloc, author, &committer)?;
     let count = ops.as_slice().len() as u64;
+    let ops = Shared::new(alloc, ops)?;
     let fields = CommitFields {
         branch,
         author,

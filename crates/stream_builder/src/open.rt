@@ -1,14 +1,14 @@
 //! The event that is being read.
-use plain_model::{CommitId, Mark, OpList, ParentList, Signed, Text};
+use plain_model::{CommitId, Mark, OpList, ParentList, Shared, Signed, Text};
 
 /// A commit, as far as its lines were read.
 #[derive(Drop)]
 pub struct OpenCommit {
-    pub branch: Text,
+    pub branch: Shared<Text>,
     pub mark: Option<Mark>,
     pub author: Option<Signed>,
     pub committer: Option<Signed>,
-    pub encoding: Option<Text>,
+    pub encoding: Option<Shared<Text>>,
     pub comment: Text,
     pub parents: ParentList,
     pub ops: OpList,
@@ -29,7 +29,7 @@ pub enum Open {
         mark: Option<Mark>,
     },
     Reset {
-        branch: Text,
+        branch: Shared<Text>,
         target: Option<CommitId>,
     },
     Alias {

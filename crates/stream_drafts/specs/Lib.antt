@@ -2,3 +2,4 @@ pub mod Aliased
 pub mod Events
 pub mod Indexed
 pub mod Placed
+pub mod Whole

@@ -1,54 +1,77 @@
 //! Events whose mark may not be there yet.
-ghost use Rattle.std.specs.Prelude.{◌≡◌, ◌≤◌, ℕ, option_map};
+ghost use Rattle.std.specs.Prelude.{◌≡◌, ◌≤◌, IfOk, option_map};
+ghost use Rattle.plain_model.specs.declared.event.PlainEvent.TheVariants as plain;
 ghost use Rattle.plain_model.specs.Lookups.{top_mark};
-ghost use Rattle.stream_drafts.specs.Events.{number_or_0};
-
-use plain_model::{
-    BlobId, CommitId, MAX_MARK, Mark, OpList, ParentList, PassId, ResetId, Signed, TagId, Text,
+ghost use Rattle.stream_drafts.specs.Whole.{IsWhole};
+ghost use Rattle.stream_drafts.specs.Events.{
+  commit_of,
+  event_of,
+  event_without_mark,
+  links_of,
+  number_or_0,
+  own_node,
 };
+
+use crate::whole::WholeEvent;
+use plain_model::{
+    BlobId, CommitId, FileOp, Items, MAX_MARK, Mark, MarkList, NoMemory, OpList, ParentList,
+    PlainEvent, Shared, Signed, Text,
+};
+use std::alloc::Global;
 
 /// What a commit has besides its id and its marks.
 #[derive(Drop)]
 pub struct CommitFields {
-    pub branch: Text,
+    pub branch: Shared<Text>,
     pub author: Signed,
     pub committer: Signed,
-    pub encoding: Option<Text>,
+    pub encoding: Option<Shared<Text>>,
     pub comment: Text,
     pub parents: ParentList,
-    pub ops: OpList,
+    pub ops: Shared<OpList>,
 }
 
-/// An event, of which a blob or a commit may have no mark yet. A commit's aliases are kept beside it.
+impl CommitFields {
+    /// The commit with an id, a mark and aliases.
+    pub fn into_event(self, id: CommitId, mark: Mark, aliases: MarkList) -> PlainEvent
+        ensures { result ≡ plain.Commit id mark self.branch self.author self.committer
+            self.encoding self.comment self.parents self.ops aliases }
+    {
+        PlainEvent::Commit {
+            id,
+            mark,
+            branch: self.branch,
+            author: self.author,
+            committer: self.committer,
+            encoding: self.encoding,
+            comment: self.comment,
+            parents: self.parents,
+            ops: self.ops,
+            aliases,
+        }
+    }
+}
+
+/// A blob or a commit that has no mark yet.
+#[derive(Drop)]
+pub enum Unmarked {
+    Blob { id: BlobId, bytes: Shared<Text> },
+    Commit { id: CommitId, fields: CommitFields },
+}
+
+/// An event, of which a blob or a commit may have no mark yet. It is made as soon as it can be, and then shared. A commit's
+/// aliases are kept beside it.
 #[derive(Drop)]
 pub enum Draft {
-    Blob {
-        id: BlobId,
-        mark: Option<Mark>,
-        bytes: Text,
-    },
-    Commit {
-        id: CommitId,
-        mark: Option<Mark>,
-        fields: CommitFields,
-    },
-    Tag {
-        id: TagId,
-        name: Text,
-        target: CommitId,
-        tagger: Option<Signed>,
-        comment: Text,
-        mark: Option<Mark>,
-    },
-    Reset {
-        id: ResetId,
-        branch: Text,
-        target: Option<CommitId>,
-    },
-    Pass {
-        id: PassId,
-        line: Text,
-    },
+    Whole(WholeEvent),
+    Unmarked(Box<Unmarked>),
+}
+
+/// What the tree of a commit hangs on.
+#[derive(Clone, Copy)]
+pub struct Links<'a> {
+    pub parents: &'a [CommitId],
+    pub ops: &'a [FileOp],
 }
 
 fn number_or_0(mark: Option<Mark>) -> u64
@@ -62,16 +85,77 @@ fn number_or_0(mark: Option<Mark>) -> u64
 }
 
 impl Draft {
-    ghost use Rattle.stream_drafts.specs.Events.{event_of, links_of, node_of, own_node};
+    /// An event that lacks nothing but a commit's aliases.
+    pub fn whole(alloc: Global, event: PlainEvent) -> Result<Draft, NoMemory>
+        requires { IsWhole event }
+        ensures { IfOk result (λ draft. event_of draft ≡ event) }
+    {
+        Ok(Draft::Whole(WholeEvent::new(alloc, event)?))
+    }
 
-    /// What a commit has.
-    pub fn commit_fields(&self) -> Option<&CommitFields>
-        ensures { (id : ℕ) → option_map (λ fields. links_of (node_of id fields.now)) result
+    fn unmarked(alloc: Global, unmarked: Unmarked) -> Result<Draft, NoMemory>
+        ensures { IfOk result (λ draft. event_of draft ≡ event_without_mark unmarked) }
+    {
+        Ok(Draft::Unmarked(Box::new(alloc, unmarked)?))
+    }
+
+    /// A blob with a mark, if it has one.
+    pub fn blob(
+        alloc: Global,
+        id: BlobId,
+        mark: Option<Mark>,
+        bytes: Shared<Text>,
+    ) -> Result<Draft, NoMemory>
+        ensures { IfOk result (λ draft. event_of draft ≡ plain.Blob id (number_or_0 mark) bytes) }
+    {
+        match mark {
+            Some(mark) => {
+                prove!(mark.number() >= 1 && mark.number() <= MAX_MARK);
+                Draft::whole(alloc, PlainEvent::Blob { id, mark, bytes })
+            }
+            None => Draft::unmarked(alloc, Unmarked::Blob { id, bytes }),
+        }
+    }
+
+    /// A commit with a mark, if it has one.
+    pub fn commit(
+        alloc: Global,
+        id: CommitId,
+        mark: Option<Mark>,
+        fields: CommitFields,
+    ) -> Result<Draft, NoMemory>
+        ensures { IfOk result (λ draft. event_of draft ≡ commit_of id mark fields) }
+    {
+        match mark {
+            Some(mark) => {
+                prove!(mark.number() >= 1 && mark.number() <= MAX_MARK);
+                let aliases = Items::empty(alloc);
+                Draft::whole(alloc, fields.into_event(id, mark, aliases))
+            }
+            None => Draft::unmarked(alloc, Unmarked::Commit { id, fields }),
+        }
+    }
+
+    /// What the tree of the commit hangs on, if it is one.
+    pub fn links(&self) -> Option<Links<'_>>
+        ensures { option_map (λ links. (links.parents.now, links.ops.now)) result
             ≡ option_map links_of (own_node (event_of self.now)) }
     {
         match self {
-            Draft::Commit { fields, .. } => Some(fields),
-            _ => None,
+            Draft::Whole(event) => match event.as_ref() {
+                PlainEvent::Commit { parents, ops, .. } => Some(Links {
+                    parents: parents.as_slice(),
+                    ops: ops.as_slice(),
+                }),
+                _ => None,
+            },
+            Draft::Unmarked(unmarked) => match unmarked.as_ref() {
+                Unmarked::Commit { fields, .. } => Some(Links {
+                    parents: fields.parents.as_slice(),
+                    ops: fields.ops.as_slice(),
+                }),
+                Unmarked::Blob { .. } => None,
+            },
         }
     }
 
@@ -80,10 +164,13 @@ impl Draft {
         ensures value { result ≡ top_mark (event_of self.now) }
         ensures range { result ≤ MAX_MARK }
     {
-        match self {
-            Draft::Blob { mark, .. } => number_or_0(*mark),
-            Draft::Commit { mark, .. } => number_or_0(*mark),
-            Draft::Tag { mark, .. } => number_or_0(*mark),
+        let Draft::Whole(event) = self else {
+            return 0;
+        };
+        match event.as_ref() {
+            PlainEvent::Blob { mark, .. } => mark.number(),
+            PlainEvent::Commit { mark, .. } => mark.number(),
+            PlainEvent::Tag { mark, .. } => number_or_0(*mark),
             _ => 0,
         }
     }

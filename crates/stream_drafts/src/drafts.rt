@@ -9,17 +9,16 @@ ghost use Rattle.stream_grammar.specs.Known.{history_of, next_id, with_event};
 ghost use Rattle.stream_grammar.specs.Limits.{last_mark};
 ghost use Rattle.stream_drafts.specs.Aliased.{finished};
 ghost use Rattle.stream_drafts.specs.Placed.{ArePlaced};
+ghost use Rattle.stream_drafts.specs.Whole.{IsMarked};
 ghost use Rattle.stream_drafts.specs.Events.{
-  IsMarked,
   commit_of,
   event_of,
   links_of,
-  node_of,
   number_or_0,
 };
 
 use crate::aliases::Aliases;
-use crate::draft::{CommitFields, Draft};
+use crate::draft::{CommitFields, Draft, Links};
 use crate::finish::{FinishFault, greatest_of, marked_events};
 use crate::grouping::grouped;
 use crate::index::{
@@ -27,7 +26,8 @@ use crate::index::{
 };
 use branch_tips::Tips;
 use plain_model::{
-    BlobId, CommitId, EventList, MAX_MARK, Mark, NoMemory, PassId, ResetId, Signed, TagId, Text,
+    BlobId, CommitId, EventList, MAX_MARK, Mark, NoMemory, PassId, PlainEvent, ResetId, Shared,
+    Signed, TagId, Text,
 };
 use std::alloc::Global;
 use std::collections::{HashMap, HashSet};
@@ -117,15 +117,15 @@ impl Drafts {
         self.tips.tip(branch)
     }
 
-    /// What the commit with the id has, if there is one. Ids are places.
-    pub fn commit(&self, id: CommitId) -> Option<&CommitFields>
+    /// What the tree of the commit with the id hangs on, if there is one. Ids are places.
+    pub fn commit(&self, id: CommitId) -> Option<Links<'_>>
         ensures placed { ArePlaced 1 self.now }
-        ensures found { option_map (λ fields. links_of (node_of id fields.now)) result
+        ensures found { option_map (λ links. (links.parents.now, links.ops.now)) result
             ≡ option_map links_of (node_at (past self.now) id) }
     {
         let drafts = self.drafts.as_slice();
         let place = id.number().checked_sub(1)?;
-        drafts.get(place as usize)?.commit_fields()
+        drafts.get(place as usize)?.links()
     }
 
     // Puts a draft at the end, whose id is its place. What can want memory comes first.
@@ -149,14 +149,15 @@ impl Drafts {
     }
 
     /// Puts a blob at the end.
-    pub fn push_blob(&mut self, mark: Option<Mark>, bytes: Text) -> Result<BlobId, NoMemory>
+    pub fn push_blob(&mut self, mark: Option<Mark>, bytes: Shared<Text>) -> Result<BlobId, NoMemory>
         ensures ok { OnOk result (self.new ≡ with_event self.old
             (plain.Blob (next_id self.old) (number_or_0 mark) bytes)) }
         ensures id { IfOk result (λ id. id ≡ next_id self.old) }
         ensures err { OnErr result (self.new ≡ self.old) }
     {
         let id = BlobId::new(self.next_id());
-        self.push(Draft::Blob { id, mark, bytes })?;
+        let draft = Draft::blob(self.alloc, id, mark, bytes)?;
+        self.push(draft)?;
         Ok(id)
     }
 
@@ -172,7 +173,8 @@ impl Drafts {
         ensures err { OnErr result (self.new ≡ self.old) }
     {
         let id = CommitId::new(self.next_id());
-        self.push(Draft::Commit { id, mark, fields })?;
+        let draft = Draft::commit(self.alloc, id, mark, fields)?;
+        self.push(draft)?;
         Ok(id)
     }
 
@@ -191,21 +193,23 @@ impl Drafts {
         ensures err { OnErr result (self.new ≡ self.old) }
     {
         let id = TagId::new(self.next_id());
-        self.push(Draft::Tag {
+        let tag = PlainEvent::Tag {
             id,
             name,
             target,
             tagger,
             comment,
             mark,
-        })?;
+        };
+        let draft = Draft::whole(self.alloc, tag)?;
+        self.push(draft)?;
         Ok(id)
     }
 
     /// Puts a reset at the end. Its branch is on its target from then on, or is gone.
     pub fn push_reset(
         &mut self,
-        branch: Text,
+        branch: Shared<Text>,
         target: Option<CommitId>,
     ) -> Result<ResetId, NoMemory>
         ensures ok { OnOk result (self.new ≡ with_event self.old
@@ -214,7 +218,8 @@ impl Drafts {
         ensures err { OnErr result (self.new ≡ self.old) }
     {
         let id = ResetId::new(self.next_id());
-        self.push(Draft::Reset { id, branch, target })?;
+        let draft = Draft::whole(self.alloc, PlainEvent::Reset { id, branch, target })?;
+        self.push(draft)?;
         Ok(id)
     }
 
@@ -226,7 +231,8 @@ impl Drafts {
         ensures err { OnErr result (self.new ≡ self.old) }
     {
         let id = PassId::new(self.next_id());
-        self.push(Draft::Pass { id, line })?;
+        let draft = Draft::whole(self.alloc, PlainEvent::Pass { id, line })?;
+        self.push(draft)?;
         Ok(id)
     }
 

@@ -21,18 +21,19 @@ ghost use Rattle.std.specs.HashMap.{get};
 ghost use Rattle.plain_model.specs.Lookups.{greatest_of};
 ghost use Rattle.stream_grammar.specs.Known.{alias_marks, with_aliases, with_marks};
 ghost use Rattle.stream_drafts.specs.Aliased.{AreGrouped};
+ghost use Rattle.stream_drafts.specs.Whole.{IsMarked};
 ghost use Rattle.stream_drafts.specs.Events.{
-  IsMarked,
   event_of,
+  event_without_mark,
   events_of,
-  mark_after,
-  number_or_0,
 };
-ghost use Rattle.stream_grammar.specs.Limits.{own_want, unmarked_count, want_of};
+ghost use Rattle.stream_grammar.specs.Limits.{own_want, unmarked_count};
 
-use crate::draft::Draft;
+use crate::draft::{Draft, Unmarked};
 use crate::grouping::aliases_in;
-use plain_model::{CommitId, EventList, Items, MAX_MARK, Mark, MarkList, NoMemory, PlainEvent};
+use plain_model::{
+    CommitId, EventList, Items, MAX_MARK, Mark, MarkList, NoMemory, PlainEvent, Shared,
+};
 use std::alloc::Global;
 use std::collections::HashMap;
 
@@ -67,24 +68,38 @@ pub fn greatest_of(first: u64, aliases: &[(Mark, CommitId)]) -> u64
     greatest
 }
 
-// The mark, or else the one above the last, which is the last from then on.
-fn mark_or_next(mark: Option<Mark>, last: &mut u64) -> Result<Mark, FinishFault>
+// The mark above the last, which is the last from then on.
+fn next_mark(last: &mut u64) -> Result<Mark, FinishFault>
     requires { last.old ≤ MAX_MARK }
-    ensures mark { IfOk result (λ m. m ≡ mark_after last.old (number_or_0 mark)) }
-    ensures last { OnOk result (last.new ≡ last.old + want_of (number_or_0 mark)) }
+    ensures mark { IfOk result (λ m. m ≡ last.old + 1) }
+    ensures last { OnOk result (last.new ≡ last.old + 1) }
     ensures range { last.new ≤ MAX_MARK }
-    ensures spent { OnErr result ((last.old ≡ MAX_MARK) × (want_of (number_or_0 mark) ≡ 1)) }
+    ensures spent { OnErr result (last.old ≡ MAX_MARK) }
     ensures is_mark { IfOk result IsMark }
 {
-    match mark {
-        Some(mark) => {
-            prove!(mark.number() >= 1 && mark.number() <= MAX_MARK);
-            Ok(mark)
-        }
-        None => {
-            let next = Mark::new(*last + 1).ok_or(FinishFault::MarksSpent)?;
-            *last += 1;
-            Ok(next)
+    let next = Mark::new(*last + 1).ok_or(FinishFault::MarksSpent)?;
+    *last += 1;
+    Ok(next)
+}
+
+// The blob or the commit with its mark, and as a commit with its aliases.
+fn with_mark(
+    alloc: Global,
+    groups: &HashMap<u64, MarkList>,
+    unmarked: Unmarked,
+    mark: Mark,
+) -> Result<PlainEvent, NoMemory>
+    ensures event { IfOk result (λ e. (aliases : List (ℕ × ℕ)) (last : ℕ) (events : List PlainEvent) →
+        AreGrouped aliases (get nat_eq groups.now) → mark ≡ last + 1 →
+        with_aliases aliases (with_marks last (event_without_mark unmarked ∷ events))
+        ≡ e ∷ with_aliases aliases (with_marks (last + 1) events)) }
+    ensures marked { IfOk result (λ e. IsMark mark → IsMarked e) }
+{
+    match unmarked {
+        Unmarked::Blob { id, bytes } => Ok(PlainEvent::Blob { id, mark, bytes }),
+        Unmarked::Commit { id, fields } => {
+            let aliases = aliases_in(alloc, groups, id)?;
+            Ok(fields.into_event(id, mark, aliases))
         }
     }
 }
@@ -95,7 +110,7 @@ fn marked_event(
     groups: &HashMap<u64, MarkList>,
     draft: Draft,
     last: &mut u64,
-) -> Result<PlainEvent, FinishFault>
+) -> Result<Shared<PlainEvent>, FinishFault>
     requires { last.old ≤ MAX_MARK }
     ensures event { IfOk result (λ e. (aliases : List (ℕ × ℕ)) (events : List PlainEvent) →
         AreGrouped aliases (get nat_eq groups.now) →
@@ -108,43 +123,12 @@ fn marked_event(
         (last.old ≡ MAX_MARK) × (own_want (event_of draft) ≡ 1) }
 {
     match draft {
-        Draft::Blob { id, mark, bytes } => {
-            let mark = mark_or_next(mark, last)?;
-            Ok(PlainEvent::Blob { id, mark, bytes })
+        Draft::Whole(event) => Ok(event.with_aliases(alloc, groups)?),
+        Draft::Unmarked(unmarked) => {
+            let mark = next_mark(last)?;
+            let event = with_mark(alloc, groups, Box::into_inner(unmarked), mark)?;
+            Ok(Shared::new(alloc, event)?)
         }
-        Draft::Commit { id, mark, fields } => {
-            let mark = mark_or_next(mark, last)?;
-            let aliases = aliases_in(alloc, groups, id)?;
-            Ok(PlainEvent::Commit {
-                id,
-                mark,
-                branch: fields.branch,
-                author: fields.author,
-                committer: fields.committer,
-                encoding: fields.encoding,
-                comment: fields.comment,
-                parents: fields.parents,
-                ops: fields.ops,
-                aliases,
-            })
-        }
-        Draft::Tag {
-            id,
-            name,
-            target,
-            tagger,
-            comment,
-            mark,
-        } => Ok(PlainEvent::Tag {
-            id,
-            name,
-            target,
-            tagger,
-            comment,
-            mark,
-        }),
-        Draft::Reset { id, branch, target } => Ok(PlainEvent::Reset { id, branch, target }),
-        Draft::Pass { id, line } => Ok(PlainEvent::Pass { id, line }),
     }
 }
 
@@ -163,11 +147,11 @@ pub fn marked_events(
     ensures spent { result ≡ Err FinishFault.MarksSpent →
         MAX_MARK < greatest + unmarked_count (events_of drafts.items) }
 {
-    let mut events = Items::empty(alloc);
+    let mut rows = Items::empty(alloc);
     let mut last = greatest;
     for draft in drafts {
         let event = marked_event(alloc, groups, draft, &mut last)?;
-        events.push(event)?;
+        rows.push(event)?;
     }
-    Ok(events)
+    Ok(EventList::of_rows(rows))
 }

@@ -20,12 +20,12 @@ ghost use Rattle.std.specs.HashSet.{contains, spare as set_spare};
 ghost use Rattle.plain_model.specs.Marks.{IsMark};
 ghost use Rattle.plain_model.specs.Snapshots.{refs_after};
 ghost use Rattle.plain_model.specs.Streams.{blob_marked, commit_marked};
-ghost use Rattle.stream_drafts.specs.Events.{event_of};
+ghost use Rattle.stream_drafts.specs.Events.{event_of, event_without_mark};
 ghost use Rattle.stream_drafts.specs.Indexed.{first_of, tag_marked};
 
-use crate::draft::Draft;
+use crate::draft::{Draft, Unmarked};
 use branch_tips::Tips;
-use plain_model::{BlobId, CommitId, Mark, NoMemory};
+use plain_model::{BlobId, CommitId, Mark, NoMemory, PlainEvent};
 use std::collections::{HashMap, HashSet};
 
 /// Makes room for one mark more.
@@ -85,12 +85,10 @@ pub fn note_blob(blobs: &mut HashMap<u64, BlobId>, draft: &Draft)
     ensures { (n : ℕ) → 1 ≤ n → get nat_eq blobs.new n ≡
         first_of (get nat_eq blobs.old n) (blob_marked (event_of draft.now ∷ []) n) }
 {
-    if let Draft::Blob {
-        id,
-        mark: Some(mark),
-        ..
-    } = draft
-    {
+    let Draft::Whole(event) = draft else {
+        return;
+    };
+    if let PlainEvent::Blob { id, mark, .. } = event.as_ref() {
         note_blob_mark(blobs, *mark, *id);
     }
 }
@@ -101,12 +99,10 @@ pub fn note_commit(commits: &mut HashMap<u64, CommitId>, draft: &Draft)
     ensures { (n : ℕ) → 1 ≤ n → get nat_eq commits.new n ≡
         first_of (get nat_eq commits.old n) (commit_marked (event_of draft.now ∷ []) n) }
 {
-    if let Draft::Commit {
-        id,
-        mark: Some(mark),
-        ..
-    } = draft
-    {
+    let Draft::Whole(event) = draft else {
+        return;
+    };
+    if let PlainEvent::Commit { id, mark, .. } = event.as_ref() {
         note_commit_mark(commits, *mark, *id);
     }
 }
@@ -117,13 +113,27 @@ pub fn note_tag(tags: &mut HashSet<u64>, draft: &Draft)
     ensures { (n : ℕ) → contains nat_eq tags.new n ≡
         (contains nat_eq tags.old n || tag_marked (event_of draft.now ∷ []) n) }
 {
-    if let Draft::Tag {
+    let Draft::Whole(event) = draft else {
+        return;
+    };
+    if let PlainEvent::Tag {
         mark: Some(mark),
         ..
-    } = draft
+    } = event.as_ref()
     {
         let noted: Result<_, _> = tags.insert(mark.number());
         let _ = noted.unwrap();
+    }
+}
+
+fn note_unmarked_tip(tips: &mut Tips, unmarked: &Unmarked) -> Result<(), NoMemory>
+    ensures ok { OnOk result
+        (tips.new ≡ refs_after tips.old (event_without_mark unmarked.now ∷ [])) }
+    ensures err { OnErr result (tips.new ≡ tips.old) }
+{
+    match unmarked {
+        Unmarked::Commit { id, fields } => tips.set(fields.branch.as_slice(), *id),
+        Unmarked::Blob { .. } => Ok(()),
     }
 }
 
@@ -133,14 +143,7 @@ pub fn note_tip(tips: &mut Tips, draft: &Draft) -> Result<(), NoMemory>
     ensures err { OnErr result (tips.new ≡ tips.old) }
 {
     match draft {
-        Draft::Commit { id, fields, .. } => tips.set(fields.branch.as_slice(), *id),
-        Draft::Reset { branch, target, .. } => match target {
-            Some(commit) => tips.set(branch.as_slice(), *commit),
-            None => {
-                tips.remove(branch.as_slice());
-                Ok(())
-            }
-        },
-        _ => Ok(()),
+        Draft::Whole(event) => tips.note(event.as_ref()),
+        Draft::Unmarked(unmarked) => note_unmarked_tip(tips, unmarked.as_ref()),
     }
 }

@@ -7,9 +7,10 @@ mod drafts;
 mod finish;
 mod grouping;
 mod index;
+mod whole;
 
 pub use aliases::Aliases;
-pub use draft::CommitFields;
+pub use draft::{CommitFields, Links};
 pub use drafts::Drafts;
 pub use finish::FinishFault;
 

@@ -1,7 +1,7 @@
 use crate::*;
 use plain_model::{
     CommitId, Content, EventList, FileOp, Items, Mark, Mode, NoMemory, Path, Person, PlainEvent,
-    Signed, Text, When,
+    Shared, Signed, Text, When,
 };
 use std::alloc::Global;
 use std::test::*;
@@ -10,12 +10,17 @@ fn text(alloc: Global, bytes: &[u8]) -> Result<Text, Fail> {
     Ok(Items::of(alloc, bytes)?)
 }
 
+fn shared(alloc: Global, bytes: &[u8]) -> Result<Shared<Text>, Fail> {
+    Ok(Shared::new(alloc, text(alloc, bytes)?)?)
+}
+
 fn signed(alloc: Global, name: &[u8]) -> Result<Signed, Fail> {
+    let person = Person {
+        name: text(alloc, name)?,
+        email: text(alloc, b"x")?,
+    };
     Ok(Signed {
-        person: Person {
-            name: text(alloc, name)?,
-            email: text(alloc, b"x")?,
-        },
+        person: Shared::new(alloc, person)?,
         when: When {
             seconds: 100,
             minus: false,
@@ -42,13 +47,13 @@ fn fields(
         path: Path::new(alloc, b"f")?,
     })?;
     Ok(CommitFields {
-        branch: text(alloc, branch)?,
+        branch: shared(alloc, branch)?,
         author: signed(alloc, b"A")?,
         committer: signed(alloc, b"C")?,
-        encoding: Some(text(alloc, b"latin1")?),
+        encoding: Some(Shared::new(alloc, text(alloc, b"latin1")?)?),
         comment: text(alloc, comment)?,
         parents,
-        ops,
+        ops: Shared::new(alloc, ops)?,
     })
 }
 
@@ -68,7 +73,7 @@ fn put_event(out: &mut Text, event: &PlainEvent) -> Result<(), NoMemory> {
         PlainEvent::Blob { id, mark, bytes } => {
             put_number(out, b"blob ", id.number())?;
             put_number(out, b" :", mark.number())?;
-            put_text(out, b" ", bytes)
+            put_text(out, b" ", bytes.as_ref())
         }
         PlainEvent::Commit {
             id,
@@ -83,9 +88,9 @@ fn put_event(out: &mut Text, event: &PlainEvent) -> Result<(), NoMemory> {
         } => {
             put_number(out, b"commit ", id.number())?;
             put_number(out, b" :", mark.number())?;
-            put_text(out, b" ", branch)?;
-            put_text(out, b" ", &author.person.name)?;
-            put_text(out, b" ", &committer.person.name)?;
+            put_text(out, b" ", branch.as_ref())?;
+            put_text(out, b" ", &author.person.as_ref().name)?;
+            put_text(out, b" ", &committer.person.as_ref().name)?;
             put_text(out, b" ", comment)?;
             for parent in parents.as_slice() {
                 put_number(out, b" from ", parent.number())?;
@@ -113,7 +118,7 @@ fn put_event(out: &mut Text, event: &PlainEvent) -> Result<(), NoMemory> {
         }
         PlainEvent::Reset { id, branch, target } => {
             put_number(out, b"reset ", id.number())?;
-            put_text(out, b" ", branch)?;
+            put_text(out, b" ", branch.as_ref())?;
             match target {
                 Some(target) => put_number(out, b" to ", target.number()),
                 None => Ok(()),
@@ -129,7 +134,7 @@ fn put_event(out: &mut Text, event: &PlainEvent) -> Result<(), NoMemory> {
 fn shown(alloc: Global, events: &EventList) -> Result<Text, Fail> {
     let mut out = Items::new(alloc)?;
     for event in events.as_slice() {
-        put_event(&mut out, event)?;
+        put_event(&mut out, event.as_ref())?;
         out.push(b'\n')?;
     }
     Ok(out)
@@ -138,8 +143,8 @@ fn shown(alloc: Global, events: &EventList) -> Result<Text, Fail> {
 // Blobs and commits with and without marks, and an event of each other kind.
 fn seven_drafts(alloc: Global) -> Result<Drafts, Fail> {
     let mut drafts = Drafts::new(alloc);
-    drafts.push_blob(Mark::new(7), text(alloc, b"one")?)?;
-    drafts.push_blob(None, text(alloc, b"two")?)?;
+    drafts.push_blob(Mark::new(7), shared(alloc, b"one")?)?;
+    drafts.push_blob(None, shared(alloc, b"two")?)?;
     let root = drafts.push_commit(Mark::new(3), fields(alloc, b"main", b"c1", None)?)?;
     drafts.push_commit(None, fields(alloc, b"side", b"c2", Some(root))?)?;
     drafts.push_tag(
@@ -149,7 +154,7 @@ fn seven_drafts(alloc: Global) -> Result<Drafts, Fail> {
         text(alloc, b"first")?,
         Mark::new(5),
     )?;
-    drafts.push_reset(text(alloc, b"old")?, Some(root))?;
+    drafts.push_reset(shared(alloc, b"old")?, Some(root))?;
     drafts.push_pass(text(alloc, b"progress half")?)?;
     Ok(drafts)
 }
@@ -234,7 +239,7 @@ fn aliases_find_their_commits(rt: HostRuntime) -> Result<(), Fail> {
 fn branches_stand_where_the_last_event_set_them(rt: HostRuntime) -> Result<(), Fail> {
     let alloc = rt.alloc();
     let mut drafts = seven_drafts(alloc)?;
-    drafts.push_reset(text(alloc, b"side")?, None)?;
+    drafts.push_reset(shared(alloc, b"side")?, None)?;
     drafts.push_commit(None, fields(alloc, b"main", b"c3", None)?)?;
     let rows: [(&str, &[u8], Option<u64>); 4] = [
         ("set by two commits", b"main", Some(9)),
@@ -251,9 +256,9 @@ fn branches_stand_where_the_last_event_set_them(rt: HostRuntime) -> Result<(), F
 #[test]
 fn commits_are_found_by_their_ids(rt: HostRuntime) -> Result<(), Fail> {
     let drafts = seven_drafts(rt.alloc())?;
-    let rows: [(&str, u64, Option<&[u8]>); 5] = [
-        ("the first", 3, Some(b"main")),
-        ("the second", 4, Some(b"side")),
+    let rows: [(&str, u64, Option<(usize, usize)>); 5] = [
+        ("the first", 3, Some((0, 1))),
+        ("the second", 4, Some((1, 1))),
         ("a blob's id", 2, None),
         ("none before the first event", 0, None),
         ("none after the last", 8, None),
@@ -261,7 +266,7 @@ fn commits_are_found_by_their_ids(rt: HostRuntime) -> Result<(), Fail> {
     for (what, number, want) in rows {
         let found = drafts
             .commit(CommitId::new(number))
-            .map(|commit| commit.branch.as_slice());
+            .map(|links| (links.parents.len(), links.ops.len()));
         assert_eq!(rt; found, want, "{what}");
     }
     Ok(())
@@ -280,8 +285,8 @@ fn marks_go_up_to_4294967295(rt: HostRuntime) -> Result<(), Fail> {
     ];
     for (what, number, want) in rows {
         let mut drafts = Drafts::new(alloc);
-        drafts.push_blob(Mark::new(number), text(alloc, b"a")?)?;
-        drafts.push_blob(None, text(alloc, b"b")?)?;
+        drafts.push_blob(Mark::new(number), shared(alloc, b"a")?)?;
+        drafts.push_blob(None, shared(alloc, b"b")?)?;
         match drafts.finish(Aliases::new(alloc)) {
             Ok(events) => {
                 let out = shown(alloc, &events)?;

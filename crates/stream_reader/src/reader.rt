@@ -223,8 +223,11 @@ impl StreamReader {
         let from = self.number;
         match extent_up_to(MAX_COUNT, line) {
             Ok(Extent::Counted(0)) => {
-                self.builder
-                    .take_block(self.standing.is_inline(), Items::empty(self.alloc))?;
+                self.builder.take_block(
+                    self.alloc,
+                    self.standing.is_inline(),
+                    Items::empty(self.alloc),
+                )?;
                 Ok(Place::AfterBlock { in_line: false })
             }
             Ok(Extent::Counted(count)) => Ok(Place::Block {
@@ -331,7 +334,8 @@ impl StreamReader {
             (data_arrived (state self.old.standing spelled self.old.known) (bytes ++ part.now))) }
     {
         bytes.push_all(part)?;
-        self.builder.take_block(self.standing.is_inline(), bytes)?;
+        self.builder
+            .take_block(self.alloc, self.standing.is_inline(), bytes)?;
         Ok(Place::AfterBlock {
             in_line: is_inside_after(part),
         })
@@ -398,7 +402,8 @@ impl StreamReader {
             (state self.old.standing spelled self.old.known)) }
     {
         if are_same(line, delimiter.as_slice()) {
-            self.builder.take_block(self.standing.is_inline(), bytes)?;
+            self.builder
+                .take_block(self.alloc, self.standing.is_inline(), bytes)?;
             return Ok(Place::AfterBlock { in_line: false });
         }
         bytes.push_all(line)?;

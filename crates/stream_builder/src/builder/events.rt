@@ -13,7 +13,7 @@ use crate::fault::LineFault;
 use crate::open::{Open, OpenCommit};
 use plain_model::{CommitId, Items, NoMemory, ParentList, Why};
 use std::alloc::Global;
-use stream_fields::read_name;
+use stream_fields::{read_branch, read_name};
 use stream_grammar::text_of;
 
 fn begins_with(text: &[u8], word: &[u8]) -> bool
@@ -61,7 +61,7 @@ impl Builder {
     pub(crate) fn judge_reset(&mut self, alloc: Global, line: &[u8]) -> Result<(), LineFault>
         ensures { Judges self.new result (judged_within word.Reset line.now self.old) }
     {
-        let branch = read_name(alloc, text_of(line))?;
+        let branch = read_branch(alloc, &mut self.names, text_of(line))?;
         let target = None;
         self.begin(alloc, Open::Reset { branch, target })?;
         self.within_events()
@@ -87,7 +87,7 @@ impl Builder {
     pub(crate) fn judge_commit(&mut self, alloc: Global, line: &[u8]) -> Result<(), LineFault>
         ensures { Judges self.new result (judged_within word.Commit line.now self.old) }
     {
-        let branch = read_name(alloc, text_of(line))?;
+        let branch = read_branch(alloc, &mut self.names, text_of(line))?;
         self.close(alloc)?;
         let parents = self.tip_list(alloc, branch.as_slice())?;
         let commit = OpenCommit {

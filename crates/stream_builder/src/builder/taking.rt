@@ -7,7 +7,7 @@ ghost use Rattle.stream_builder.specs.Judging.{Judges};
 use crate::builder::Builder;
 use crate::fault::LineFault;
 use crate::open::Open;
-use plain_model::{NoMemory, Text};
+use plain_model::{NoMemory, Shared, Text};
 use std::alloc::Global;
 use std::mem;
 use stream_grammar::Word;
@@ -42,17 +42,19 @@ impl Builder {
     }
 
     /// Takes the block after a line of data: a blob's bytes, a comment, or an operation's content where `inline` says so.
-    pub fn take_block(&mut self, inline: bool, bytes: Text) -> Result<(), NoMemory>
+    pub fn take_block(&mut self, alloc: Global, inline: bool, bytes: Text) -> Result<(), NoMemory>
         ensures { OnOk result (self.new ≡ with_data inline bytes self.old) }
     {
         match &mut self.current {
             Open::Blob { mark } => {
                 let mark = *mark;
+                let bytes = Shared::new(alloc, bytes)?;
                 self.drafts.push_blob(mark, bytes)?;
                 self.current = Open::Nothing;
             }
             Open::Commit(commit) => {
                 if inline {
+                    let bytes = Shared::new(alloc, bytes)?;
                     self.drafts.push_blob(None, bytes)?;
                 } else {
                     commit.comment = bytes;

@@ -20,10 +20,10 @@ pub enum Back {
 pub fn step_back(drafts: &Drafts, commit: CommitId) -> Back
     ensures { LeadsBack drafts.now commit result }
 {
-    let Some(fields) = drafts.commit(commit) else {
+    let Some(links) = drafts.commit(commit) else {
         return Back::Nowhere;
     };
-    match fields.parents.as_slice() {
+    match links.parents {
         [] => Back::Root,
         [first, ..] => {
             if first.number() < commit.number() {

@@ -1,24 +1,25 @@
 use super::*;
 use plain_model::{
-    BlobId, CommitId, Content, FileOp, Items, Mode, OpList, ParentList, Path, Person, Signed, Text,
-    When,
+    BlobId, CommitId, Content, FileOp, Items, Mode, OpList, ParentList, Path, Person, Shared,
+    Signed, Text, When,
 };
 use std::alloc::Global;
 use std::test::*;
 use stream_drafts::{CommitFields, Drafts};
 
-fn signed(alloc: Global) -> Signed {
-    Signed {
-        person: Person {
-            name: Items::empty(alloc),
-            email: Items::empty(alloc),
-        },
+fn signed(alloc: Global) -> Result<Signed, Fail> {
+    let person = Person {
+        name: Items::empty(alloc),
+        email: Items::empty(alloc),
+    };
+    Ok(Signed {
+        person: Shared::new(alloc, person)?,
         when: When {
             seconds: 0,
             minus: false,
             offset: 0,
         },
-    }
+    })
 }
 
 // A commit that hangs on the one with this number, or a root for 0, and puts a file.
@@ -36,13 +37,13 @@ fn push(alloc: Global, drafts: &mut Drafts, parent: u64) -> Result<(), Fail> {
         path: Path::new(alloc, name.as_slice())?,
     })?;
     let fields = CommitFields {
-        branch: Items::empty(alloc),
-        author: signed(alloc),
-        committer: signed(alloc),
+        branch: Shared::new(alloc, Items::empty(alloc))?,
+        author: signed(alloc)?,
+        committer: signed(alloc)?,
         encoding: None,
         comment: Items::empty(alloc),
         parents,
-        ops,
+        ops: Shared::new(alloc, ops)?,
     };
     drafts.push_commit(None, fields)?;
     Ok(())

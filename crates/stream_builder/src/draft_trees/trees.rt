@@ -23,7 +23,7 @@ fn folded_after(
     ensures { IfOk result (λ made. made ≡ tree_after (ops_at drafts.now commit) base) }
 {
     match drafts.commit(commit) {
-        Some(fields) => folded(fields.ops.as_slice(), base),
+        Some(links) => folded(links.ops, base),
         None => Ok(base),
     }
 }

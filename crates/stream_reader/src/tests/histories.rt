@@ -12,8 +12,8 @@ fn put_bytes(out: &mut Text, before: &[u8], bytes: &[u8]) -> Result<(), NoMemory
 
 // NAME|EMAIL|SECONDS, a sign, and the zone as a number.
 fn put_signed(out: &mut Text, signed: &Signed) -> Result<(), NoMemory> {
-    put_bytes(out, b" ", signed.person.name.as_slice())?;
-    put_bytes(out, b"|", signed.person.email.as_slice())?;
+    put_bytes(out, b" ", signed.person.as_ref().name.as_slice())?;
+    put_bytes(out, b"|", signed.person.as_ref().email.as_slice())?;
     put_number(out, b"|", signed.when.seconds)?;
     let sign: &[u8] = if signed.when.minus { b"-" } else { b"+" };
     put_number(out, sign, u64::from(signed.when.offset))
@@ -138,7 +138,7 @@ fn put_event(out: &mut Text, event: &PlainEvent) -> Result<(), NoMemory> {
 
 fn put_events(out: &mut Text, events: &EventList) -> Result<(), NoMemory> {
     for event in events.as_slice() {
-        put_event(out, event)?;
+        put_event(out, event.as_ref())?;
         out.push(b'\n')?;
     }
     Ok(())

@@ -1,4 +1,4 @@
-use Rattle.std.proofs.Common.{◌≡◌, ℕ, ◌<◌, ◌≤◌, List, length, drop, get_or, ap, subst, ◌∙◌, Some, arith}
+use Rattle.std.proofs.Common.{ℕ, ◌<◌, ◌≤◌, List, drop, ap, ◌∙◌, Some, arith}
 use Rattle.stream_builder.proofs.FirstParents.{has_no_tree, is_root, hangs_on, hangs_nowhere, is_empty_list, begins_with}
 use Rattle.stream_builder.proofs.draft_trees.line.step_back.Goals as goal
 
@@ -7,28 +7,26 @@ returns-in_default c = has_no_tree c.args.drafts.now c.commit.ensures.placed c.a
 
 pub returns-in-empty : goal.returns-in-empty
 returns-in-empty c =
-    let empty = is_empty_list c.in-Some.fields.now.parents (subst (λ (l : List ℕ). length l < 1) c.as_slice.ensures c.in-empty.len_below) in
-    is_root c.args.drafts.now c.commit.ensures.placed c.args.commit c.in-Some.fields.now.ops
-    (ap (λ (l : List ℕ). Some (l, c.in-Some.fields.now.ops)) empty ∙ c.in-Some.ensures.found)
+    let empty = is_empty_list c.in-Some.links.parents.now c.in-empty.len_below in
+    is_root c.args.drafts.now c.commit.ensures.placed c.args.commit c.in-Some.links.ops.now
+    (ap (λ (l : List ℕ). Some (l, c.in-Some.links.ops.now)) empty ∙ c.in-Some.ensures.found)
 
 pub returns-then-number : goal.returns-then-number
 returns-then-number c =
-    let parents = begins_with c.in-Some.fields.now.parents c.first-item.result
-    (subst (λ (l : List ℕ). 1 ≤ length l) c.as_slice.ensures c.in-len1-up.len_at_least)
-    (subst (λ (l : List ℕ). c.first-item.result ≡ get_or l 0 c.first-item.result) c.as_slice.ensures c.first-item.is) in
+    let parents = begins_with c.in-Some.links.parents.now c.first-item.result
+    c.in-len1-up.len_at_least c.first-item.is in
     let left = c.number.ensures in
     let right = c.number-in-len1-up.ensures in
     let less : c.first-item.result < c.args.commit = omega (arith, left, right, c.if-number.true) in
-    hangs_on c.args.drafts.now c.commit.ensures.placed c.args.commit c.first-item.result (drop 1 c.in-Some.fields.now.parents) c.in-Some.fields.now.ops
-    (ap (λ (l : List ℕ). Some (l, c.in-Some.fields.now.ops)) parents ∙ c.in-Some.ensures.found) less
+    hangs_on c.args.drafts.now c.commit.ensures.placed c.args.commit c.first-item.result (drop 1 c.in-Some.links.parents.now) c.in-Some.links.ops.now
+    (ap (λ (l : List ℕ). Some (l, c.in-Some.links.ops.now)) parents ∙ c.in-Some.ensures.found) less
 
 pub returns-else-number : goal.returns-else-number
 returns-else-number c =
-    let parents = begins_with c.in-Some.fields.now.parents c.first-item.result
-    (subst (λ (l : List ℕ). 1 ≤ length l) c.as_slice.ensures c.in-len1-up.len_at_least)
-    (subst (λ (l : List ℕ). c.first-item.result ≡ get_or l 0 c.first-item.result) c.as_slice.ensures c.first-item.is) in
+    let parents = begins_with c.in-Some.links.parents.now c.first-item.result
+    c.in-len1-up.len_at_least c.first-item.is in
     let left = c.number.ensures in
     let right = c.number-in-len1-up.ensures in
     let more : c.args.commit ≤ c.first-item.result = omega (arith, left, right, c.if-number.false) in
-    hangs_nowhere c.args.drafts.now c.commit.ensures.placed c.args.commit c.first-item.result (drop 1 c.in-Some.fields.now.parents) c.in-Some.fields.now.ops
-    (ap (λ (l : List ℕ). Some (l, c.in-Some.fields.now.ops)) parents ∙ c.in-Some.ensures.found) more
+    hangs_nowhere c.args.drafts.now c.commit.ensures.placed c.args.commit c.first-item.result (drop 1 c.in-Some.links.parents.now) c.in-Some.links.ops.now
+    (ap (λ (l : List ℕ). Some (l, c.in-Some.links.ops.now)) parents ∙ c.in-Some.ensures.found) more
