@@ -6,7 +6,7 @@ ghost use Rattle.plain_model.specs.Soundness.{IsSound};
 
 use plain_model::{
     BlobId, CommitId, Content, EventList, FileOp, Items, Mark, Mode, OpList, ParentList, Path,
-    Person, PlainEvent, Signed, Text, When,
+    Person, PlainEvent, Shared, Signed, Text, When,
 };
 use std::alloc::Global;
 
@@ -14,6 +14,12 @@ fn text(alloc: Global, bytes: &[u8]) -> Option<Text>
     ensures { IfSome result (λ text. text ≡ bytes.now) }
 {
     Items::of(alloc, bytes).ok()
+}
+
+fn shared_text(alloc: Global, bytes: &[u8]) -> Option<Shared<Text>>
+    ensures { IfSome result (λ text. text ≡ bytes.now) }
+{
+    Shared::new(alloc, text(alloc, bytes)?).ok()
 }
 
 fn who(alloc: Global) -> Option<Signed>
@@ -26,10 +32,8 @@ fn who(alloc: Global) -> Option<Signed>
     };
     let name = text(alloc, b"A")?;
     let email = text(alloc, b"a@example.com")?;
-    Some(Signed {
-        person: Person { name, email },
-        when,
-    })
+    let person = Shared::new(alloc, Person { name, email }).ok()?;
+    Some(Signed { person, when })
 }
 
 // The blob of the step.
@@ -40,7 +44,7 @@ fn blob(alloc: Global, step: u64) -> Option<PlainEvent>
     Some(PlainEvent::Blob {
         id: BlobId::new(2 * step + 1),
         mark: Mark::new(2 * step + 1)?,
-        bytes: text(alloc, b"a line of a small file\n")?,
+        bytes: shared_text(alloc, b"a line of a small file\n")?,
     })
 }
 
@@ -76,13 +80,13 @@ fn commit(alloc: Global, step: u64) -> Option<PlainEvent>
     Some(PlainEvent::Commit {
         id: CommitId::new(2 * step + 2),
         mark: Mark::new(2 * step + 2)?,
-        branch: text(alloc, b"refs/heads/main")?,
+        branch: shared_text(alloc, b"refs/heads/main")?,
         author: who(alloc)?,
         committer: who(alloc)?,
         encoding: None,
         comment: text(alloc, b"a comment of one line\n")?,
         parents: parents(alloc, step)?,
-        ops: operations(alloc, step)?,
+        ops: Shared::new(alloc, operations(alloc, step)?).ok()?,
         aliases: Items::empty(alloc),
     })
 }

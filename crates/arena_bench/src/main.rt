@@ -81,7 +81,7 @@ fn time_halved(rt: &HostRuntime, events: &Events, commits: u64) -> Option<Durati
     Some(since(rt, &start))
 }
 
-// Makes room for a plan; the room is there, so that only its need is found.
+// Makes room for a plan; the room is there already, which the plan's weight tells.
 fn time_reserve(rt: &HostRuntime, events: &mut Events, plan: &Plan) -> Option<Duration> {
     let start = Instant::now(rt).ok();
     events.reserve_for(plan).ok()?;

@@ -8,6 +8,8 @@ pub mod MarkLemmas
 pub mod MeasureLemmas
 pub mod OnceLemmas
 pub mod PlaceLemmas
+pub mod PointerLemmas
 pub mod RowLemmas
 pub mod SoundLemmas
 pub mod SpentLemmas
+pub mod WeightLemmas

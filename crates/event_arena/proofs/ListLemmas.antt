@@ -32,11 +32,6 @@ module _ {X : Type 0} where
   drop-item (y ∷ xs) zero x h = ap (λ z. z ∷ xs) (sym (same_Some x y (sym h)))
   drop-item (y ∷ xs) (suc k) x h = drop-item xs k x h
 
-  pub length-take-item : (xs : List X) (k : ℕ) (x : X) → slice_get xs k ≡ Some x → length (take (suc k) xs) ≡ length (take k xs) + 1
-  length-take-item [] k x h = absurd (none_at x h)
-  length-take-item (y ∷ xs) zero x h = refl
-  length-take-item (y ∷ xs) (suc k) x h = let r = length-take-item xs k x h in omega arith
-
   pub reverse-push : (xs : List X) (x : X) → reverse (xs ++ x ∷ []) ≡ x ∷ reverse xs
   reverse-push xs x = reverse-append xs (x ∷ [])
 
@@ -56,11 +51,6 @@ module _ {X Y : Type 0} (f : X → List Y) where
   flat-split [] (suc k) = refl
   flat-split (x ∷ xs) zero = refl
   flat-split (x ∷ xs) (suc k) = append_assoc (f x) (flat_map f (take k xs)) (flat_map f (drop k xs)) ∙ ap (λ ys. f x ++ ys) (flat-split xs k)
-
-  pub length-flat-take : (xs : List X) (k : ℕ) → length (flat_map f (take k xs)) ≤ length (flat_map f xs)
-  length-flat-take xs k =
-      let s = sym (length-append (flat_map f (take k xs)) (flat_map f (drop k xs))) ∙ ap length (flat-split xs k) in
-      omega arith
 
   pub length-flat-drop : (xs : List X) (k : ℕ) → length (flat_map f (drop k xs)) ≤ length (flat_map f xs)
   length-flat-drop xs k =

@@ -1,36 +1,18 @@
 -- What a list of events comes to.
-use Rattle.std.proofs.Common.{◌≡◌, ◌∙◌, ℕ, zero, suc, ◌+◌, ◌<◌, ◌≤◌, inl, inr, List, [], ◌∷◌, Some, refl, sym, ap, length, take, max, arith, length-append}
+use Rattle.std.proofs.Common.{◌≡◌, ◌∙◌, ℕ, zero, suc, ◌+◌, ◌<◌, ◌≤◌, inl, inr, List, [], ◌∷◌, Some, refl, sym, ap, length, max, arith, length-append}
 use Rattle.std.proofs.lemmas.Bool.{cases_Bool, true≢false}
-use Rattle.std.proofs.lemmas.List.{length-take}
 use Rattle.std.proofs.lemmas.Option.{none-some, same_Some}
 use Rattle.std.specs.List.{fold}
 use Rattle.std.specs.Prelude.{flat_map, map, slice_get, IsSome}
 use Rattle.plain_model.specs.declared.id.AnyId.{AnyId}
 use Rattle.plain_model.specs.declared.event.PlainEvent.{PlainEvent}
-use Rattle.plain_model.specs.Lookups.{AreIdsBelow, event_parents, find_event, id_number, id_of, marks_of, next_number, own_marks, referents_of, same_id}
+use Rattle.plain_model.specs.Lookups.{AreIdsBelow, event_parents, find_event, id_number, id_of, next_number, referents_of, same_id}
 use Rattle.plain_model.specs.declared.event.PlainEvent.TheVariants as plain
 use Rattle.plain_model.specs.declared.id.AnyId.TheVariants as any
 use Rattle.history_laws.proofs.Ids.{same_id-refl, same_id-true}
-use Rattle.event_arena.specs.Needs.{event_need, need}
-use Rattle.event_arena.proofs.ListLemmas.{flat-take-item, length-flat-take, length-take-item}
+use Rattle.event_arena.specs.Needs.{need}
 
 -- ---- room
-
-pub need-more : (es : List PlainEvent) (k : ℕ) (e : PlainEvent) → slice_get es k ≡ Some e → need (take (suc k) es) ≡ need (take k es) + event_need e
-need-more es k e h =
-    let a = length-take-item es k e h in
-    let b = ap length (flat-take-item referents_of es k e h) ∙ length-append (flat_map referents_of (take k es)) (referents_of e) in
-    let c = ap length (flat-take-item own_marks es k e h) ∙ length-append (marks_of (take k es)) (own_marks e) in
-    omega arith
-
--- the events before one and that one need no more than all
-pub need-part : (es : List PlainEvent) (k : ℕ) (e : PlainEvent) → slice_get es k ≡ Some e → need (take k es) + event_need e ≤ need es
-need-part es k e h =
-    let more = need-more es k e h in
-    let a = length-take (suc k) es in
-    let b = length-flat-take referents_of es (suc k) in
-    let c = length-flat-take own_marks es (suc k) in
-    omega arith
 
 -- parents are among what an event refers to
 parents-referents : (e : PlainEvent) → length (event_parents e) ≤ length (referents_of e)

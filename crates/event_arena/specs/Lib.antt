@@ -8,5 +8,7 @@ pub mod Indices
 pub mod Needs
 pub mod Numbers
 pub mod Once
+pub mod Pointers
 pub mod Rows
 pub mod Spent
+pub mod Weights

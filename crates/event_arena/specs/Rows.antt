@@ -1,5 +1,5 @@
 -- The events of a table's rows, and the places that are noted for them. (own)
-use Rattle.std.specs.Prelude.{◌≡◌, ◌==◌, ℕ, List, map, Some, slice_index_or, if◌then◌else◌}
+use Rattle.std.specs.Prelude.{◌≡◌, ◌==◌, ◌≤◌, ℕ, List, map, Option, Some, IfSome, slice_index_or, if◌then◌else◌}
 use Rattle.std.specs.declared.rc.Rc.{Rc}
 use Rattle.plain_model.specs.declared.id.AnyId.{AnyId}
 use Rattle.plain_model.specs.declared.id.AnyId.TheVariants as any
@@ -7,6 +7,7 @@ use Rattle.plain_model.specs.declared.event.PlainEvent.{PlainEvent}
 use Rattle.plain_model.specs.Lookups.{place_of, same_id}
 use Rattle.event_arena.specs.declared.places.Places.{Places}
 use Rattle.event_arena.specs.Once.{AreDistinct}
+use Rattle.event_arena.specs.Weights.{weight_of}
 
 abbrev pub events_of : {A : Type 0} → List (Rc PlainEvent A) → List PlainEvent
 events_of rows = map (λ r. r.value) rows
@@ -31,7 +32,8 @@ IsNoted id place old new = (other : AnyId) → noted new other ≡ (if same_id o
 abbrev pub IsPlaced : Places → List PlainEvent → Type 0
 IsPlaced places events = (id : AnyId) (k : ℕ) → place_of id events ≡ Some k → noted places id ≡ k
 
--- a table: no two events with one id, and their places
-pub record IsTable (places : Places) (events : List PlainEvent) : Type 0 where
+-- a table: no two events with one id, their places, and a bound of what they weigh
+pub record IsTable (places : Places) (weight : Option ℕ) (events : List PlainEvent) : Type 0 where
   pub once : AreDistinct events
   pub placed : IsPlaced places events
+  pub bound : IfSome weight (λ most. weight_of events ≤ most)

@@ -17,6 +17,7 @@ ghost use Rattle.std.specs.Prelude.{
   OnOk,
 };
 ghost use Rattle.event_arena.specs.Needs.{need};
+ghost use Rattle.event_arena.specs.Pointers.{HasPointers};
 ghost use Rattle.event_arena.specs.Numbers.{numbered};
 ghost use Rattle.event_arena.specs.Spent.{BringsNoneBack};
 ghost use Rattle.plain_model.specs.Lookups.{
@@ -34,12 +35,12 @@ ghost use Rattle.plain_model.specs.Lookups.{
 ghost use Rattle.plain_model.specs.Soundness.{IsSound, are_distinct};
 ghost use Rattle.plain_model.specs.declared.id.AnyId.TheVariants.{Commit};
 
-use crate::index::{fill_links, fill_marks};
+use crate::index::fill;
 use crate::links::{Children, Links};
-use crate::measure::{greatest_mark, need_of, next_number};
+use crate::measure::{greatest_mark, next_number};
 use crate::plan::Plan;
 use crate::table::EventTable;
-use plain_model::{AnyId, CommitId, EventList, MAX_MARK, Mark, NoMemory, PlainEvent};
+use plain_model::{AnyId, CommitId, EventList, IdList, MAX_MARK, Mark, NoMemory, PlainEvent};
 use std::alloc::Global;
 use std::marker::Model;
 
@@ -80,14 +81,13 @@ impl Events {
         ensures room { IfOk result (λ events. need list ≤ events.room) }
     {
         let table = EventTable::from_list(alloc, list)?;
-        let Some(room) = need_of(&table) else {
+        let Some(room) = table.weight() else {
             return Err(NoMemory);
         };
         let mut marks = Vec::with_capacity(alloc, room)?;
         let mut links = Links::new(alloc);
         links.reserve(room, room)?;
-        fill_marks(&table, &mut marks);
-        fill_links(&table, &mut links);
+        fill(&table, &mut marks, &mut links);
         let next_id = next_number(&table);
         Ok(Events {
             alloc,
@@ -159,6 +159,13 @@ impl Events {
         ensures within { IfSome result (λ place. place < length self.now.list) }
     {
         self.table.place(id)
+    }
+
+    /// The ids of all tags and resets, found without a look at other events. Others, which are gone, may be among them.
+    pub fn tags_and_resets(&self) -> Result<IdList, NoMemory>
+        ensures { IfOk result (λ ids. HasPointers ids self.now.list) }
+    {
+        self.table.tags_and_resets()
     }
 
     /// The id of the event with the mark.
@@ -238,7 +245,7 @@ impl Events {
         ensures room { self.old.room ≤ self.new.room }
         ensures ok { OnOk result (need plan.now.after ≤ self.new.room) }
     {
-        let Some(room) = need_of(plan.table()) else {
+        let Some(room) = plan.weight() else {
             return Err(NoMemory);
         };
         if self.room < room {
@@ -267,8 +274,7 @@ impl Events {
         ensures none_back { BringsNoneBack self.old.next_id self.old.list self.new.list }
     {
         let (table, next_id) = plan.into_after();
-        fill_marks(&table, &mut self.marks);
-        fill_links(&table, &mut self.links);
+        fill(&table, &mut self.marks, &mut self.links);
         self.table = table;
         self.next_id = next_id;
     }

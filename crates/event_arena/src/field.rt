@@ -1,5 +1,5 @@
 //! Fields of events that a plan can set.
-ghost use Rattle.std.specs.Prelude.{◌≡◌, IfOk};
+ghost use Rattle.std.specs.Prelude.{◌≡◌, IfOk, OnOk};
 ghost use Rattle.event_arena.specs.Changes.{
   with_aliases,
   with_comment,
@@ -13,7 +13,8 @@ ghost use Rattle.event_arena.specs.Changes.{
 };
 
 use plain_model::{
-    CommitId, Copied, Mark, MarkList, NoMemory, OpList, ParentList, PlainEvent, Signed, Text,
+    CommitId, Copied, Mark, MarkList, NoMemory, OpList, ParentList, PlainEvent, Shared, Signed,
+    Text,
 };
 use std::alloc::Global;
 
@@ -46,7 +47,7 @@ fn put_parents(event: &mut PlainEvent, new: ParentList)
     }
 }
 
-fn put_ops(event: &mut PlainEvent, new: OpList)
+fn put_ops(event: &mut PlainEvent, new: Shared<OpList>)
     ensures { event.new ≡ with_ops new event.old }
 {
     if let PlainEvent::Commit { ops, .. } = event {
@@ -76,15 +77,16 @@ fn put_aliases(event: &mut PlainEvent, new: MarkList)
     }
 }
 
-fn put_label(event: &mut PlainEvent, new: Text)
-    ensures { event.new ≡ with_label new event.old }
+fn put_label(alloc: Global, event: &mut PlainEvent, new: Text) -> Result<(), NoMemory>
+    ensures { OnOk result (event.new ≡ with_label new event.old) }
 {
     match event {
-        PlainEvent::Commit { branch, .. } => *branch = new,
+        PlainEvent::Commit { branch, .. } => *branch = Shared::new(alloc, new)?,
         PlainEvent::Tag { name, .. } => *name = new,
-        PlainEvent::Reset { branch, .. } => *branch = new,
+        PlainEvent::Reset { branch, .. } => *branch = Shared::new(alloc, new)?,
         _ => {}
     }
+    Ok(())
 }
 
 fn put_target(event: &mut PlainEvent, new: CommitId)
@@ -119,26 +121,28 @@ fn put_signed(event: &mut PlainEvent, role: Role, new: Signed)
 }
 
 // Puts a value into its field, where the event has such a field.
-fn put_field(event: &mut PlainEvent, field: Field)
-    ensures { event.new ≡ with_field field event.old }
+fn put_field(alloc: Global, event: &mut PlainEvent, field: Field) -> Result<(), NoMemory>
+    ensures { OnOk result (event.new ≡ with_field field event.old) }
 {
     match field {
         Field::Parents(new) => put_parents(event, new),
-        Field::Ops(new) => put_ops(event, new),
+        Field::Ops(new) => put_ops(event, Shared::new(alloc, new)?),
         Field::Mark(new) => put_mark(event, new),
         Field::Aliases(new) => put_aliases(event, new),
-        Field::Label(new) => put_label(event, new),
+        Field::Label(new) => put_label(alloc, event, new)?,
         Field::Target(new) => put_target(event, new),
         Field::Comment(new) => put_comment(event, new),
         Field::Signed(role, new) => put_signed(event, role, new),
     }
+    Ok(())
 }
 
-/// A copy of an event with another value in a field. An event without the field is only copied.
+/// A copy of an event with another value in a field; it shares what is big in the others. An event without the field is
+/// only copied.
 pub fn with_field(alloc: Global, event: &PlainEvent, field: Field) -> Result<PlainEvent, NoMemory>
     ensures { IfOk result (λ made. made ≡ with_field field event.now) }
 {
     let mut made = event.copied(alloc)?;
-    put_field(&mut made, field);
+    put_field(alloc, &mut made, field)?;
     Ok(made)
 }

@@ -76,25 +76,6 @@ fn clear_places(count: usize, links: &mut Links)
     }
 }
 
-/// Links each commit of the table to its parents. It goes from the last one back, and each child is put before
-/// the others, so that children are in the order of the table. Places that are there stay, and may be used again.
-pub fn fill_links(table: &EventTable, links: &mut Links)
-    requires once { AreParentsOnce table.now }
-    requires place_room { length table.now ≤ links.old.place_room }
-    requires places { length links.old.lists ≤ links.old.place_room }
-    requires link_room { length (flat_map event_parents table.now) ≤ links.old.link_room }
-    ensures places { length links.new.lists ≡ max (length links.old.lists) (length table.now) }
-    ensures children { HasChildren links.new.lists table.now table.now }
-    ensures place_room { links.new.place_room ≡ links.old.place_room }
-    ensures link_room { links.new.link_room ≡ links.old.link_room }
-{
-    let count = table.count();
-    clear_places(count, links);
-    for done in 0..count {
-        link(table, links, table.nth(count - 1 - done));
-    }
-}
-
 // Notes the aliases of a commit, in room that is there.
 fn note_aliases(marks: &mut Vec<(u64, AnyId)>, aliases: &[Mark], id: CommitId)
     requires { vec_len marks.old + length aliases.now ≤ vec_capacity marks.old }
@@ -136,15 +117,29 @@ fn note_event(marks: &mut Vec<(u64, AnyId)>, event: &PlainEvent)
     }
 }
 
-/// Notes each mark of the table, in the order of the marks, and forgets all others.
-pub fn fill_marks(table: &EventTable, marks: &mut Vec<(u64, AnyId)>)
-    requires { length (marks_of table.now) ≤ vec_capacity marks.old }
+/// Fills both indices anew, in one pass over the table: the marks, in their order, and the links from each commit to its
+/// children. It goes from the last event back, and each child is put before the others, so that children are in the
+/// order of the table. Places that are there stay, and may be used again.
+pub fn fill(table: &EventTable, marks: &mut Vec<(u64, AnyId)>, links: &mut Links)
+    requires once { AreParentsOnce table.now }
+    requires mark_room { length (marks_of table.now) ≤ vec_capacity marks.old }
+    requires place_room { length table.now ≤ links.old.place_room }
+    requires places { length links.old.lists ≤ links.old.place_room }
+    requires link_room { length (flat_map event_parents table.now) ≤ links.old.link_room }
     ensures index { IsMarkIndex marks.new.items table.now }
-    ensures room { vec_capacity marks.new ≡ vec_capacity marks.old }
+    ensures mark_room { vec_capacity marks.new ≡ vec_capacity marks.old }
+    ensures places { length links.new.lists ≡ max (length links.old.lists) (length table.now) }
+    ensures children { HasChildren links.new.lists table.now table.now }
+    ensures place_room { links.new.place_room ≡ links.old.place_room }
+    ensures link_room { links.new.link_room ≡ links.old.link_room }
 {
+    let count = table.count();
     marks.clear();
-    for place in 0..table.count() {
-        note_event(marks, table.nth(place));
+    clear_places(count, links);
+    for done in 0..count {
+        let event = table.nth(count - 1 - done);
+        note_event(marks, event);
+        link(table, links, event);
     }
     marks.sort_unstable_by_key(|marked: &(u64, AnyId)| -> u64 { marked.0 });
 }

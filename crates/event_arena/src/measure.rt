@@ -1,87 +1,16 @@
-//! What a table of events comes to: the room that it needs, its greatest mark, and the first id above all.
-ghost use Rattle.std.specs.Prelude.{◌≡◌, ◌≤◌, ◌<◌, ◌+◌, ◌^◌, flat_map, length};
-ghost use Rattle.std.specs.Option.{SomeIff};
-ghost use Rattle.event_arena.specs.Needs.{event_need, need};
+//! What a table of events comes to: its greatest mark, and the first id above all.
+ghost use Rattle.std.specs.Prelude.{◌≡◌, ◌≤◌, ◌<◌, ◌^◌};
 ghost use Rattle.plain_model.specs.Lookups.{
   AreIdsBelow,
   greatest_mark,
   greatest_of,
   id_number,
   next_number,
-  op_blobs,
-  referents_of,
   top_mark,
 };
 
 use crate::table::EventTable;
-use plain_model::{AnyId, Content, FileOp, Mark, PlainEvent};
-
-// How many blobs an operation names.
-fn blobs_in(op: &FileOp) -> usize
-    ensures value { result ≡ length (op_blobs op.now) }
-    ensures within { result ≤ 1 }
-{
-    match op {
-        FileOp::Modify {
-            content: Content::Blob(_),
-            ..
-        } => 1,
-        _ => 0,
-    }
-}
-
-// How many blobs operations name.
-fn blob_count(ops: &[FileOp]) -> usize
-    ensures { result ≡ length (flat_map op_blobs ops.now) }
-{
-    let mut count: usize = 0;
-    for op in ops {
-        count += blobs_in(op);
-    }
-    count
-}
-
-// What an event needs, if that is below 2^64.
-fn need_of_event(event: &PlainEvent) -> Option<usize>
-    ensures { SomeIff result (event_need event.now < 2 ^ 64) (event_need event.now) }
-{
-    match event {
-        PlainEvent::Blob { .. } => Some(2),
-        PlainEvent::Commit {
-            parents,
-            ops,
-            aliases,
-            ..
-        } => {
-            let named = parents
-                .as_slice()
-                .len()
-                .checked_add(blob_count(ops.as_slice()))?;
-            let more = named.checked_add(aliases.as_slice().len())?;
-            more.checked_add(2)
-        }
-        PlainEvent::Tag { mark: Some(_), .. } => Some(3),
-        PlainEvent::Tag { mark: None, .. } => Some(2),
-        PlainEvent::Reset {
-            target: Some(_),
-            ..
-        } => Some(2),
-        PlainEvent::Reset { target: None, .. } => Some(1),
-        PlainEvent::Pass { .. } => Some(1),
-    }
-}
-
-/// What a table needs. `None` exactly where that is 2^64 or more: there is no memory of such a size.
-pub fn need_of(table: &EventTable) -> Option<usize>
-    ensures { SomeIff result (need table.now < 2 ^ 64) (need table.now) }
-{
-    let mut total: usize = 0;
-    for place in 0..table.count() {
-        let one = need_of_event(table.nth(place))?;
-        total = total.checked_add(one)?;
-    }
-    Some(total)
-}
+use plain_model::{AnyId, Mark, PlainEvent};
 
 // The greatest of a mark and others.
 fn greatest_of(first: Mark, marks: &[Mark]) -> u64

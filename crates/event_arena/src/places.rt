@@ -1,9 +1,10 @@
 //! The places of events, noted under their ids.
 ghost use Rattle.std.specs.Prelude.{◌≡◌, ◌==◌, slice_index_or, if◌then◌else◌, OnErr, OnOk};
+ghost use Rattle.event_arena.specs.Pointers.{AreAmong, HasNotedResets, HasNotedTags};
 ghost use Rattle.event_arena.specs.Rows.{IsNoted, IsNotedAt, noted};
 ghost use Rattle.plain_model.specs.declared.id.AnyId.{AnyId};
 
-use plain_model::{AnyId, NoMemory};
+use plain_model::{AnyId, IdList, NoMemory, ResetId, TagId};
 use std::alloc::{AllocError, Global};
 
 /// For each id the place that was noted for it last, or 0. Ids of each kind have numbers of their own.
@@ -68,6 +69,32 @@ impl Places {
             AnyId::Reset(id) => noted_at(&self.resets, id.number()),
             AnyId::Pass(id) => noted_at(&self.passes, id.number()),
         }
+    }
+
+    /// Puts the ids of the tags at the end for which another place than the first is noted.
+    pub fn push_tags(&self, list: &mut IdList) -> Result<(), NoMemory>
+        ensures old { OnOk result (AreAmong list.old list.new) }
+        ensures all { OnOk result (HasNotedTags self.now list.new) }
+    {
+        for number in 0..self.tags.len() {
+            if self.tags[number] != 0 {
+                list.push(AnyId::Tag(TagId::new(number as u64)))?;
+            }
+        }
+        Ok(())
+    }
+
+    /// Puts the ids of the resets at the end for which another place than the first is noted.
+    pub fn push_resets(&self, list: &mut IdList) -> Result<(), NoMemory>
+        ensures old { OnOk result (AreAmong list.old list.new) }
+        ensures all { OnOk result (HasNotedResets self.now list.new) }
+    {
+        for number in 0..self.resets.len() {
+            if self.resets[number] != 0 {
+                list.push(AnyId::Reset(ResetId::new(number as u64)))?;
+            }
+        }
+        Ok(())
     }
 
     /// Notes the place of an id.

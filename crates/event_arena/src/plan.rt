@@ -44,6 +44,7 @@ ghost use Rattle.event_arena.specs.Changes.{
 };
 ghost use Rattle.event_arena.specs.Once.{AreDistinct};
 ghost use Rattle.event_arena.specs.Spent.{BringsNoneBack};
+ghost use Rattle.event_arena.specs.Weights.{weight_of};
 ghost use Rattle.plain_model.specs.Lookups.{
   AreIdsBelow,
   event_at,
@@ -191,10 +192,12 @@ impl Plan {
         self.before.event(id)
     }
 
-    pub(crate) fn table(&self) -> &EventTable
-        ensures { result.now ≡ self.now.after }
+    /// No less than the events weigh after, which each change keeps up: no fewer than all their parents, operations and
+    /// aliases together. `None` where no such number is known below 2^64.
+    pub fn weight(&self) -> Option<usize>
+        ensures { IfSome result (λ most. weight_of self.now.after ≤ most) }
     {
-        &self.after
+        self.after.weight()
     }
 
     pub(crate) fn into_after(self) -> (EventTable, u64)

@@ -1,6 +1,7 @@
 //! Events in order, found by place and by id.
 ghost use Rattle.std.specs.Prelude.{
   ◌≡◌,
+  ◌≤◌,
   ◌<◌,
   ◌∷◌,
   ◌++◌,
@@ -30,8 +31,10 @@ ghost use Rattle.event_arena.specs.Changes.{
 };
 ghost use Rattle.event_arena.specs.Numbers.{numbered};
 ghost use Rattle.event_arena.specs.Once.{AreDistinct};
+ghost use Rattle.event_arena.specs.Pointers.{HasPointers};
 ghost use Rattle.event_arena.specs.Rows.{IsNoted, IsPlaced, IsTable, events_of, noted};
 ghost use Rattle.event_arena.specs.Spent.{AddsNone, AddsOnly};
+ghost use Rattle.event_arena.specs.Weights.{weight_of};
 ghost use Rattle.plain_model.specs.Lookups.{
   event_at,
   find_event,
@@ -44,7 +47,8 @@ ghost use Rattle.plain_model.specs.Lookups.{
 
 use crate::field::{Field, with_field};
 use crate::places::Places;
-use plain_model::{AnyId, Copied, EventList, NoMemory, PlainEvent};
+use crate::weight::{heavier, lighter};
+use plain_model::{AnyId, EventList, IdList, Items, NoMemory, PlainEvent, Shared};
 use std::alloc::Global;
 use std::marker::Model;
 use std::rc::Rc;
@@ -57,6 +61,8 @@ pub struct EventTable {
     rows: Rc<Vec<Rc<PlainEvent>>>,
     // A place counts for an id only where the event there has that very id. So places of events that are gone may stay.
     places: Rc<Places>,
+    // A bound of what the events weigh, kept up with each change, so that the room that they need is known without a walk.
+    weight: Option<usize>,
 }
 
 impl Model for EventTable {
@@ -68,7 +74,7 @@ impl Model for EventTable {
 
     ghost view = { λ t. events_of t.rows.value.items };
 
-    ghost invariant = { λ t. IsTable t.places.value (events_of t.rows.value.items) };
+    ghost invariant = { λ t. IsTable t.places.value t.weight (events_of t.rows.value.items) };
 }
 
 impl EventTable {
@@ -77,13 +83,14 @@ impl EventTable {
         requires { AreDistinct (events_of rows.items) }
         ensures { IfOk result (λ table. table ≡ events_of rows.items) }
     {
-        let places = places_of(alloc, rows.as_slice())?;
+        let (places, weight) = noted_rows(alloc, rows.as_slice())?;
         let places = Rc::new(alloc, places)?;
         let rows = Rc::new(alloc, rows)?;
         Ok(EventTable {
             alloc,
             rows,
             places,
+            weight,
         })
     }
 
@@ -92,23 +99,23 @@ impl EventTable {
         requires { AreDistinct list }
         ensures { IfOk result (λ table. table ≡ list) }
     {
-        let items = list.into_items();
-        let mut rows = Vec::with_capacity(alloc, items.len())?;
-        for event in items {
-            rows.push(Rc::new(alloc, event)?)?;
+        let events = list.into_rows();
+        let mut rows = Vec::with_capacity(alloc, events.len())?;
+        for event in events {
+            rows.push(event.into_rc())?;
         }
         EventTable::of_rows(alloc, rows)
     }
 
-    /// The list, with copies of the events.
+    /// The list, over the same events.
     pub fn to_list(&self) -> Result<EventList, NoMemory>
         ensures { IfOk result (λ list. list ≡ self.now) }
     {
-        let mut list = EventList::new(self.alloc)?;
+        let mut list = Items::empty(self.alloc);
         for place in 0..self.count() {
-            list.push(self.nth(place).copied(self.alloc)?)?;
+            list.push(Shared::of_rc(self.row(place).clone()?))?;
         }
-        Ok(list)
+        Ok(EventList::of_rows(list))
     }
 
     /// An equal table over the same rows.
@@ -117,11 +124,20 @@ impl EventTable {
     {
         let rows = self.rows.clone()?;
         let places = self.places.clone()?;
+        let weight = self.weight;
         Ok(EventTable {
             alloc,
             rows,
             places,
+            weight,
         })
+    }
+
+    /// A bound of what the events weigh. `None` where none is known below 2^64.
+    pub fn weight(&self) -> Option<usize>
+        ensures { IfSome result (λ most. weight_of self.now ≤ most) }
+    {
+        self.weight
     }
 
     /// How many events there are. No two have one id.
@@ -187,6 +203,20 @@ impl EventTable {
         }
     }
 
+    /// The ids of all tags and resets, found without a look at other events. Others, which are gone, may be among them.
+    pub fn tags_and_resets(&self) -> Result<IdList, NoMemory>
+        ensures { IfOk result (λ ids. HasPointers ids self.now) }
+    {
+        let mut ids = IdList::empty(self.alloc);
+        // The first place is noted for each id that isn't there, too.
+        if self.count() > 0 {
+            ids.push(self.nth(0).id())?;
+        }
+        self.places.as_ref().push_tags(&mut ids)?;
+        self.places.as_ref().push_resets(&mut ids)?;
+        Ok(ids)
+    }
+
     /// The number of the event with the id, from 1.
     pub fn position(&self, id: AnyId) -> Option<usize>
         ensures { result ≡ number_of id self.now }
@@ -217,9 +247,12 @@ impl EventTable {
     {
         let place = self.count();
         let id = event.id();
+        let weight = heavier(self.weight, &event);
         let row = Rc::new(self.alloc, event)?;
         note_place(&mut self.places, id, place)?;
-        push_row(&mut self.rows, row)
+        push_row(&mut self.rows, row)?;
+        self.weight = weight;
+        Ok(())
     }
 
     // The rows with another right after the one with the id.
@@ -257,9 +290,14 @@ impl EventTable {
         ensures adds { AddsNone self.old self.new }
     {
         let place = self.place(id).unwrap();
-        let event = with_field(self.alloc, self.nth(place), field)?;
+        let old = self.nth(place);
+        let event = with_field(self.alloc, old, field)?;
+        let others = lighter(self.weight, old);
+        let weight = heavier(others, &event);
         let row = Rc::new(self.alloc, event)?;
-        put_row(&mut self.rows, place, row)
+        put_row(&mut self.rows, place, row)?;
+        self.weight = weight;
+        Ok(())
     }
 
     // The rows but for the one with the id.
@@ -299,18 +337,36 @@ impl EventTable {
         Ok(listed)
     }
 
-    // The rows without those of these ids.
-    fn rows_without(&self, ids: &[AnyId]) -> Result<Vec<Rc<PlainEvent>>, NoMemory>
-        ensures { IfOk result (λ rows. events_of rows.items ≡ without_all ids.now self.now) }
+    // Places to note others in. Most stay as they were, and those of events that are gone may stay.
+    fn noted_places(&self) -> Result<Places, NoMemory> {
+        Ok(self.places.as_ref().clone()?)
+    }
+
+    // The table without the events with these ids. Of those that stay only the ids are looked at.
+    fn table_without(&self, ids: &[AnyId]) -> Result<EventTable, NoMemory>
+        ensures { IfOk result (λ table. table ≡ without_all ids.now self.now) }
     {
         let gone = self.listed(ids)?;
         let mut rows = Vec::new(self.alloc);
+        let mut places = self.noted_places()?;
+        let mut weight = self.weight;
         for place in 0..self.count() {
-            if !gone[place] {
-                rows.push(self.row(place).clone()?)?;
+            let row = self.row(place);
+            if gone[place] {
+                weight = lighter(weight, row.as_ref());
+            } else {
+                places.note(row.as_ref().id(), rows.len())?;
+                rows.push(row.clone()?)?;
             }
         }
-        Ok(rows)
+        let rows = Rc::new(self.alloc, rows)?;
+        let places = Rc::new(self.alloc, places)?;
+        Ok(EventTable {
+            alloc: self.alloc,
+            rows,
+            places,
+            weight,
+        })
     }
 
     /// Takes away the events with these ids, in one pass.
@@ -319,8 +375,7 @@ impl EventTable {
         ensures err { OnErr result (self.new ≡ self.old) }
         ensures adds { AddsNone self.old self.new }
     {
-        let rows = self.rows_without(ids)?;
-        *self = EventTable::of_rows(self.alloc, rows)?;
+        *self = self.table_without(ids)?;
         Ok(())
     }
 
@@ -357,16 +412,21 @@ fn has_id(event: &PlainEvent, id: &AnyId) -> bool
     event.id() == *id
 }
 
-// The places of these rows.
-fn places_of(alloc: Global, rows: &[Rc<PlainEvent>]) -> Result<Places, NoMemory>
+// The places of these rows, and a bound of what they weigh.
+fn noted_rows(alloc: Global, rows: &[Rc<PlainEvent>]) -> Result<(Places, Option<usize>), NoMemory>
     requires { AreDistinct (events_of rows.now) }
-    ensures { IfOk result (λ places. IsPlaced places (events_of rows.now)) }
+    ensures places { IfOk result (λ noted. IsPlaced noted.0 (events_of rows.now)) }
+    ensures weight { IfOk result
+        (λ noted. IfSome noted.1 (λ most. weight_of (events_of rows.now) ≤ most)) }
 {
     let mut places = Places::new(alloc);
+    let mut weight: Option<usize> = Some(0);
     for place in 0..rows.len() {
-        places.note(rows[place].as_ref().id(), place)?;
+        let event = rows[place].as_ref();
+        places.note(event.id(), place)?;
+        weight = heavier(weight, event);
     }
-    Ok(places)
+    Ok((places, weight))
 }
 
 // Notes a place; in a copy, where the places have another owner.

@@ -10,7 +10,7 @@ mod slots;
 use crate::*;
 use plain_model::{
     AnyId, BlobId, CommitId, EventList, FileOp, IdList, Items, Mark, NoMemory, Person, PlainEvent,
-    ResetId, Signed, TagId, Text, When,
+    ResetId, Shared, Signed, TagId, Text, When,
 };
 use std::alloc::Global;
 use std::test::*;
@@ -31,10 +31,13 @@ fn signed(alloc: Global, seconds: u64) -> Result<Signed, Fail>
     ensures { IfOk result (λ made. made ≡ signed seconds) }
 {
     Ok(Signed {
-        person: Person {
-            name: text(alloc, b"A")?,
-            email: text(alloc, b"e")?,
-        },
+        person: Shared::new(
+            alloc,
+            Person {
+                name: text(alloc, b"A")?,
+                email: text(alloc, b"e")?,
+            },
+        )?,
         when: When {
             seconds,
             minus: false,
@@ -54,13 +57,13 @@ fn commit(
     Ok(PlainEvent::Commit {
         id: CommitId::new(number),
         mark: mark(number)?,
-        branch: text(alloc, b"main")?,
+        branch: Shared::new(alloc, text(alloc, b"main")?)?,
         author: signed(alloc, number)?,
         committer: signed(alloc, number)?,
         encoding: None,
         comment: text(alloc, b"why")?,
         parents: Items::of(alloc, parents)?,
-        ops: Items::new(alloc)?,
+        ops: Shared::new(alloc, Items::new(alloc)?)?,
         aliases: Items::of(alloc, aliases)?,
     })
 }
@@ -88,7 +91,7 @@ fn put_example(alloc: Global, list: &mut EventList) -> Result<(), Fail>
     list.push(PlainEvent::Blob {
         id: BlobId::new(1),
         mark: mark(1)?,
-        bytes: text(alloc, b"one")?,
+        bytes: Shared::new(alloc, text(alloc, b"one")?)?,
     })?;
     list.push(commit(alloc, 2, &[], &[])?)?;
     list.push(commit(alloc, 3, &[CommitId::new(2)], &[mark(30)?])?)?;
@@ -97,7 +100,7 @@ fn put_example(alloc: Global, list: &mut EventList) -> Result<(), Fail>
     list.push(tag(alloc, 6, 5)?)?;
     list.push(PlainEvent::Reset {
         id: ResetId::new(7),
-        branch: text(alloc, b"side")?,
+        branch: Shared::new(alloc, text(alloc, b"side")?)?,
         target: Some(CommitId::new(4)),
     })?;
     Ok(())
@@ -106,7 +109,7 @@ fn put_example(alloc: Global, list: &mut EventList) -> Result<(), Fail>
 fn list(alloc: Global) -> Result<EventList, Fail>
     ensures { IfOk result (λ list. list ≡ example) }
 {
-    let mut list = Items::new(alloc)?;
+    let mut list = EventList::new(alloc)?;
     put_example(alloc, &mut list)?;
     Ok(list)
 }
@@ -393,6 +396,19 @@ fn events_are_found_by_number_mark_id_and_parent(rt: HostRuntime) -> Result<(), 
     Ok(())
 }
 
+#[test]
+fn tags_and_resets_are_listed_and_a_plan_is_weighed(rt: HostRuntime) -> Result<(), Fail> {
+    let alloc = rt.alloc();
+    let events = history(alloc)?;
+    let ids = events.tags_and_resets()?;
+    assert!(rt; ids.as_slice().contains(&tag_id(6)));
+    assert!(rt; ids.as_slice().contains(&reset_id(7)));
+    // Two for each commit, and its parents and aliases; three for each other event.
+    let plan = begun(alloc, &events)?;
+    assert_eq!(rt; plan.weight(), Some(3 + 2 + 4 + 3 + 4 + 3 + 3));
+    Ok(())
+}
+
 fn set_parents(alloc: Global, plan: &mut Plan, number: u64, parent: u64) -> Result<(), Fail> {
     find(plan, commit_id(number))?;
     plan.set_parents(
@@ -509,9 +525,9 @@ fn set_labels(alloc: Global, plan: &mut Plan) -> Result<(), Fail> {
 // The branch of a commit or a reset, or the name of a tag.
 fn put_label(out: &mut Text, event: &PlainEvent) -> Result<(), NoMemory> {
     match event {
-        PlainEvent::Commit { branch, .. } => put_text(out, branch),
+        PlainEvent::Commit { branch, .. } => put_text(out, branch.as_ref()),
         PlainEvent::Tag { name, .. } => put_text(out, name),
-        PlainEvent::Reset { branch, .. } => put_text(out, branch),
+        PlainEvent::Reset { branch, .. } => put_text(out, branch.as_ref()),
         _ => Ok(()),
     }
 }

@@ -5,6 +5,7 @@ use Rattle.std.specs.Prelude.{◌||◌, nat_lt, slice_get}
 use Rattle.std.proofs.Math.Bool.{or-true}
 use Rattle.std.proofs.lemmas.List.Folds.{list_any-append}
 use Rattle.std.proofs.lemmas.Option.{none-some, same_Some}
+use Rattle.std.proofs.lemmas.List.Sums.{sum_by-cons}
 use Rattle.std.proofs.lemmas.Bool.Decides.{nat_tests}
 use Rattle.plain_model.specs.declared.event.PlainEvent.{PlainEvent}
 use Rattle.plain_model.specs.declared.event.PlainEvent.TheVariants.{Blob, Commit, Tag, Reset, Pass}
@@ -14,6 +15,7 @@ use Rattle.history_laws.specs.FirstParents.{ops_along}
 use Rattle.edit_laws.specs.Parts.{tally}
 use Rattle.edit_laws.proofs.Limits.{not_many}
 use Rattle.edit_laws.proofs.Lists.{tally_append}
+use Rattle.event_arena.specs.Weights.{event_weight, weight_of}
 use Rattle.event_arena.proofs.ListLemmas.{take-all, take-item}
 use Rattle.plan_limits.specs.Counts.{IsSum, count_of, total_of}
 use Rattle.plan_limits.specs.declared.limits.Sum.{Sum}
@@ -88,6 +90,29 @@ module _ (f : PlainEvent → ℕ) (count : List PlainEvent → ℕ) (counted : (
   count_within es k total all so_far low =
       let same : count (take k es) ≡ count es = ap count (take-all es k all) in
       sym (not_many most (count es) (omega arith))
+
+-- events weigh no less than what they have
+pub ops_weight : (es : List PlainEvent) → length (ops_along (nodes es)) ≤ weight_of es
+ops_weight [] = omega arith
+ops_weight (e ∷ es) = let own = one e in let rest = ops_weight es in let whole = sum_by-cons event_weight e es in omega arith
+  where
+    one : (e : PlainEvent) → length (ops_along (nodes (e ∷ es))) ≤ event_weight e + length (ops_along (nodes es))
+    one (Commit id mark branch author committer encoding comment parents ops aliases) = let whole = length-append ops (ops_along (nodes es)) in omega arith
+    one (Blob id mark bytes) = omega arith
+    one (Tag id name target tagger comment mark) = omega arith
+    one (Reset id branch target) = omega arith
+    one (Pass id line) = omega arith
+
+pub aliases_weight : (es : List PlainEvent) → alias_count es ≤ weight_of es
+aliases_weight [] = omega arith
+aliases_weight (e ∷ es) = let own = one e in let rest = aliases_weight es in let whole = sum_by-cons event_weight e es in omega arith
+  where
+    one : (e : PlainEvent) → alias_count (e ∷ es) ≤ event_weight e + alias_count es
+    one (Commit id mark branch author committer encoding comment parents ops aliases) = omega arith
+    one (Blob id mark bytes) = omega arith
+    one (Tag id name target tagger comment mark) = omega arith
+    one (Reset id branch target) = omega arith
+    one (Pass id line) = omega arith
 
 -- each of the two is a sum
 pub totals : (what : Counted) (es : List PlainEvent) → tally (count_of what) es ≡ total_of what es

@@ -9,7 +9,8 @@ use super::{
 };
 use crate::*;
 use plain_model::{
-    BlobId, CommitId, Content, EventList, FileOp, Items, Mode, OpList, Path, PlainEvent, Text,
+    BlobId, CommitId, Content, EventList, FileOp, Items, Mode, OpList, Path, PlainEvent, Shared,
+    Text,
 };
 use std::alloc::Global;
 use std::test::*;
@@ -38,22 +39,22 @@ fn two_ops(alloc: Global) -> Result<OpList, Fail>
 fn pair_list(alloc: Global) -> Result<EventList, Fail>
     ensures { IfOk result (λ list. list ≡ pair) }
 {
-    let mut list: EventList = Items::new(alloc)?;
+    let mut list = EventList::new(alloc)?;
     list.push(PlainEvent::Blob {
         id: BlobId::new(1),
         mark: mark(1)?,
-        bytes: text(alloc, b"one")?,
+        bytes: Shared::new(alloc, text(alloc, b"one")?)?,
     })?;
     list.push(PlainEvent::Commit {
         id: CommitId::new(2),
         mark: mark(2)?,
-        branch: text(alloc, b"main")?,
+        branch: Shared::new(alloc, text(alloc, b"main")?)?,
         author: signed(alloc, 2)?,
         committer: signed(alloc, 2)?,
         encoding: None,
         comment: text(alloc, b"why")?,
         parents: Items::new(alloc)?,
-        ops: two_ops(alloc)?,
+        ops: Shared::new(alloc, two_ops(alloc)?)?,
         aliases: Items::new(alloc)?,
     })?;
     Ok(list)

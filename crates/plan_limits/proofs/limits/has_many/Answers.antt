@@ -1,5 +1,6 @@
 use Rattle.std.proofs.Common.{◌≡◌, ◌∙◌, ◌+◌, ℕ, add-one, ap, subst, suc, sym, take}
 use Rattle.plain_model.specs.declared.limit.TheConstants.{MAX_ALIASES, MAX_OPERATIONS}
+use Rattle.edit_laws.proofs.Limits.{not_many}
 use Rattle.plan_limits.specs.Counts.{IsSum, count_of, total_of}
 use Rattle.plan_limits.specs.declared.limits.Counted.{Counted}
 use Rattle.plan_limits.specs.declared.limits.Counted.TheVariants.{Operations, Aliases}
@@ -20,3 +21,9 @@ loop-place-preserved c =
       aliases = subst (λ n. IsSum MAX_ALIASES n c.add-aliases.result) (ap (λ n. total_of Aliases (take place after) + n) c.count_of-in-loop-place.ensures ∙ more Aliases)
           (c.add-aliases.ensures MAX_ALIASES (total_of Aliases (take place after)) v.aliases);
     })
+
+pub returns-then-is_light-clause-operations : goal.returns-then-is_light-clause-operations
+returns-then-is_light-clause-operations c = sym (not_many MAX_OPERATIONS (total_of Operations c.args.plan.now.after) (c.is_light.ensures.operations c.if-is_light.true))
+
+pub returns-then-is_light-clause-aliases : goal.returns-then-is_light-clause-aliases
+returns-then-is_light-clause-aliases c = sym (not_many MAX_ALIASES (total_of Aliases c.args.plan.now.after) (c.is_light.ensures.aliases c.if-is_light.true))

@@ -4,11 +4,11 @@ use Rattle.event_arena.proofs.MeasureLemmas.{parents-need}
 use Rattle.event_arena.proofs.SoundLemmas.{sound-once}
 use Rattle.event_arena.proofs.events.Events.carry_out.Goals as goal
 
-pub fill_links-requires-clause-once : goal.fill_links-requires-clause-once
-fill_links-requires-clause-once c = rw c.into_after-table.ensures.after ((sound-once c.args.plan.after c.requires.sound).parents)
+pub fill-requires-clause-once : goal.fill-requires-clause-once
+fill-requires-clause-once c = rw c.into_after-table.ensures.after ((sound-once c.args.plan.after c.requires.sound).parents)
 
-pub fill_links-requires-clause-link_room : goal.fill_links-requires-clause-link_room
-fill_links-requires-clause-link_room c =
+pub fill-requires-clause-link_room : goal.fill-requires-clause-link_room
+fill-requires-clause-link_room c =
     let same = ap (λ (g : Graph). g.room) c.self.view_is in
     let own = c.self.invariant.link_room in
     let room = c.requires.room in

@@ -1,38 +1,62 @@
 use Rattle.std.proofs.Common.{◌∙◌, ap, length, sym, subst, arith}
 use Rattle.plain_model.specs.Soundness.{IsSound}
+use Rattle.event_arena.specs.Needs.{need}
 use Rattle.event_arena.proofs.MeasureLemmas.{below-next, parents-need}
 use Rattle.event_arena.proofs.SoundLemmas.{sound-once}
+use Rattle.event_arena.proofs.WeightLemmas.{need-weight}
 use Rattle.event_arena.proofs.events.Events.from_plain.Goals as goal
 
 pub from_list-requires : goal.from_list-requires
 from_list-requires c = (sound-once c.args.list c.requires.sound).ids
 
-pub fill_links-requires-clause-once : goal.fill_links-requires-clause-once
-fill_links-requires-clause-once c = rw c.in_ok-table.ensures ((sound-once c.args.list c.requires.sound).parents)
+pub fill-requires-clause-once : goal.fill-requires-clause-once
+fill-requires-clause-once c = rw c.in_ok-table.ensures ((sound-once c.args.list c.requires.sound).parents)
 
-pub fill_links-requires-clause-link_room : goal.fill_links-requires-clause-link_room
-fill_links-requires-clause-link_room c =
+pub fill-requires-clause-mark_room : goal.fill-requires-clause-mark_room
+fill-requires-clause-mark_room c =
+    let weighed = need-weight c.in_ok-table.table in
+    let most = c.in-Some.ensures in
+    let room = c.in_ok-marks.ensures.capacity in
+    omega arith
+
+pub fill-requires-clause-place_room : goal.fill-requires-clause-place_room
+fill-requires-clause-place_room c =
+    let weighed = need-weight c.in_ok-table.table in
+    let most = c.in-Some.ensures in
+    let room = c.in_ok-reserve.ensures.ok in
+    omega arith
+
+pub returns-clause-room : goal.returns-clause-room
+returns-clause-room c =
+    let weighed = need-weight c.in_ok-table.table in
+    let most = c.in-Some.ensures in
+    let same = ap need c.in_ok-table.ensures in
+    omega arith
+
+pub fill-requires-clause-link_room : goal.fill-requires-clause-link_room
+fill-requires-clause-link_room c =
     let parents = parents-need c.in_ok-table.table in
-    let need = c.in-Some.ensures in
+    let weighed = need-weight c.in_ok-table.table in
+    let most = c.in-Some.ensures in
     let room = c.in_ok-reserve.ensures.ok in
     omega arith
 
 pub invariant_of-result : goal.invariant_of-result
 invariant_of-result c =
-    let links = c.fill_links.ensures in
-    let marks = c.fill_marks.ensures in
+    let filled = c.fill.ensures in
     let room = c.in_ok-reserve.ensures.ok in
     let spare = c.in_ok-marks.ensures.exact in
-    let need = c.in-Some.ensures in
+    let weighed = need-weight c.in_ok-table.table in
+    let most = c.in-Some.ensures in
     let empty = ap length (c.reserve.ensures.lists ∙ c.new-links.ensures) in
-    let slots = links.places in
+    let slots = filled.places in
     record {
       sound = subst IsSound (sym c.in_ok-table.ensures) c.requires.sound;
       spent = rw c.next_number-next_id.ensures.value (below-next c.in_ok-table.table);
-      marks = marks.index;
+      marks = filled.index;
       places = omega arith;
       slot_room = omega arith;
-      children = links.children;
+      children = filled.children;
       place_room = omega arith;
       link_room = omega arith;
       mark_room = omega arith;
