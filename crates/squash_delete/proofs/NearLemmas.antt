@@ -1,18 +1,20 @@
 -- Flags of what is near a set, and what becomes of the events that aren't.
-use Rattle.std.proofs.Common.{◌≡◌, ◌∙◌, ℕ, suc, ◌<◌, Bool, true, false, cond, not, ◌||◌, ◌&&◌, inl, inr, List, [], ◌∷◌, ◌++◌, Option, Some, None, refl, sym, ap, subst, get_or, take, arith, true≢false}
-use Rattle.std.proofs.lemmas.Bool.{cases_Bool, cases_eq, false_from_ne_true, or_from, or_left, or_parts, or_right}
+use Rattle.std.proofs.Common.{◌≡◌, ◌∙◌, ℕ, suc, Bool, true, false, cond, not, ◌||◌, ◌&&◌, inl, inr, List, [], ◌∷◌, ◌++◌, Option, Some, None, refl, sym, ap, subst, get_or, take, true≢false}
+use Rattle.std.proofs.lemmas.Bool.{cases_Bool, false_from_ne_true, or_from, or_left, or_parts, or_right}
+use Rattle.std.proofs.lemmas.List.Concat.{flat_map-cons}
 use Rattle.std.proofs.lemmas.List.Folds.{list_any-append}
 use Rattle.std.proofs.lemmas.Option.{none-some, same_Some}
 use Rattle.std.specs.List.{list_any}
 use Rattle.std.specs.Option.{option_map_or}
-use Rattle.std.specs.Prelude.{is_some, option_and_then, slice_get}
+use Rattle.std.specs.Prelude.{flat_map, is_some, option_and_then, slice_get}
 use Rattle.plain_model.specs.declared.id.AnyId.{AnyId}
 use Rattle.plain_model.specs.declared.id.AnyId.TheVariants as any
 use Rattle.plain_model.specs.declared.event.PlainEvent.{PlainEvent}
 use Rattle.plain_model.specs.declared.event.PlainEvent.TheVariants.{Blob, Commit, Tag, Reset, Pass}
-use Rattle.plain_model.specs.Lookups.{AreIdsBelow, event_parents, find_event, id_number, id_of, is_listed, same_id}
+use Rattle.plain_model.specs.Lookups.{event_parents, find_event, id_of, is_listed, same_id}
 use Rattle.plain_model.specs.Soundness.{IsSound}
-use Rattle.history_laws.proofs.Ids.{same_id-refl}
+use Rattle.history_laws.proofs.Ids.{same_id-refl, same_id-true}
+use Rattle.event_arena.specs.Pointers.{AreAmong, HasPointers, is_pointer}
 use Rattle.event_arena.proofs.ListLemmas.{take-item}
 use Rattle.event_arena.proofs.SoundLemmas.{sound-once}
 use Rattle.graph_walk.specs.Children.{children_of_all}
@@ -22,46 +24,31 @@ use Rattle.graph_walk.proofs.FlagLemmas.{flag_of}
 use Rattle.graph_walk.proofs.PlaceLemmas.{place_found}
 use Rattle.squash_laws.specs.Removed.{Takings, is_removed}
 use Rattle.squash_delete.specs.Leaving.{goes}
-use Rattle.squash_delete.specs.Near.{AreNear, HasAll, HasAllOn, is_near, is_on, on_flagged}
+use Rattle.squash_delete.specs.Near.{AreNear, is_near, is_on, on_flagged}
 use Rattle.squash_delete.specs.Targets.{lost_target, target_for}
 use Rattle.squash_delete.proofs.NodeLemmas.{found_at, target_there}
 
 -- ---- ids among others
 
-pub all_here : (ids : List AnyId) → HasAll ids ids
+pub all_here : (ids : List AnyId) → AreAmong ids ids
 all_here ids id h = h
 
-pub all_front : (xs ys : List AnyId) → HasAll xs (xs ++ ys)
+pub all_front : (xs ys : List AnyId) → AreAmong xs (xs ++ ys)
 all_front xs ys id h = list_any-append (same_id id) xs ys ∙ or_left (is_listed id xs) (is_listed id ys) h
 
-pub all_back : (xs ys : List AnyId) → HasAll ys (xs ++ ys)
+pub all_back : (xs ys : List AnyId) → AreAmong ys (xs ++ ys)
 all_back xs ys id h = list_any-append (same_id id) xs ys ∙ or_right (is_listed id xs) (is_listed id ys) h
 
--- one number more
-pub on_more : (flags : List Bool) (events : List PlainEvent) (n : ℕ) (ids : List AnyId) → HasAllOn flags events n ids →
-    HasAllOn flags events (suc n) ((ids ++ on_flagged flags events (any.Tag n)) ++ on_flagged flags events (any.Reset n))
-on_more flags events n ids h = record {
-  tag = λ m low id listed. elim (cases_eq m n) [
-    | inl is ↦ all_front (ids ++ tags) resets id (all_back ids tags id (subst (λ x. is_listed id (on_flagged flags events (any.Tag x)) ≡ true) is listed))
-    | inr other ↦ all_front (ids ++ tags) resets id (all_front ids tags id (h.tag m (below m low other) id listed))
-  ];
-  reset = λ m low id listed. elim (cases_eq m n) [
-    | inl is ↦ all_back (ids ++ tags) resets id (subst (λ x. is_listed id (on_flagged flags events (any.Reset x)) ≡ true) is listed)
-    | inr other ↦ all_front (ids ++ tags) resets id (all_front ids tags id (h.reset m (below m low other) id listed))
-  ];
-}
-  where
-    tags : List AnyId
-    tags = on_flagged flags events (any.Tag n)
-
-    resets : List AnyId
-    resets = on_flagged flags events (any.Reset n)
-
-    below : (m : ℕ) → m < suc n → (m ≡ n → ⊥) → m < n
-    below m low other = grind arith
-
-pub on_first : (flags : List Bool) (events : List PlainEvent) (ids : List AnyId) → HasAllOn flags events 0 ids
-on_first flags events ids = record { tag = λ m low. absurd (omega arith); reset = λ m low. absurd (omega arith) }
+-- what one of the ids gives is among what all of them give
+among_all : (f : AnyId → List AnyId) (ids : List AnyId) (id x : AnyId) → is_listed id ids ≡ true → is_listed x (f id) ≡ true →
+    is_listed x (flat_map f ids) ≡ true
+among_all f [] id x h own = absurd (true≢false (sym h))
+among_all f (y ∷ ids) id x h own = elim (cases_Bool (same_id id y)) [
+  | inl it ↦
+      ap (is_listed x) (flat_map-cons f y ids)
+      ∙ all_front (f y) (flat_map f ids) x (subst (λ z. is_listed x (f z) ≡ true) (same_id-true id y it) own)
+  | inr other ↦ ap (is_listed x) (flat_map-cons f y ids) ∙ all_back (f y) (flat_map f ids) x (among_all f ids id x (rw other at h) own)
+]
 
 -- ---- what is near
 
@@ -75,7 +62,7 @@ module _ (set : List AnyId) (events : List PlainEvent) (sound : IsSound events) 
           let a = found_at events sound t d found in
           flag_of flags events a.place t d (sound-once events sound).ids a.at a.own ∙ f.flag a.place d a.at ∙ ap (λ id. is_listed id set) (sym a.own)
 
-  -- one on a removed commit is found under its number
+  -- one on a removed commit is found under its id
   on_listed : (k t : ℕ) (e : PlainEvent) → slice_get events k ≡ Some e → target_for Some e ≡ Some t → is_removed set t ≡ true →
       is_listed (id_of e) (on_flagged flags events (id_of e)) ≡ true
   on_listed k t e at is gone =
@@ -85,22 +72,25 @@ module _ (set : List AnyId) (events : List PlainEvent) (sound : IsSound events) 
       ∙ ap (λ o. option_map_or (is_flagged_commit flags events) o false) is ∙ flag_is k t e at is ∙ gone in
       ap (λ b. is_listed (id_of e) (cond b (id_of e ∷ []) [])) on ∙ or_left (same_id (id_of e) (id_of e)) false (same_id-refl (id_of e))
 
-  on_is : (next k t : ℕ) (e : PlainEvent) (ids : List AnyId) → AreIdsBelow next events → HasAllOn flags events next ids →
-      slice_get events k ≡ Some e → target_for Some e ≡ Some t → is_removed set t ≡ true → is_listed (id_of e) ids ≡ true
-  on_is next k t e ids low all at is gone = by e at is (low (id_of e) (ap is_some (place_found events k e at (sound-once events sound).ids).1)) (on_listed k t e at is gone)
-    where
-      by : (e : PlainEvent) → slice_get events k ≡ Some e → target_for Some e ≡ Some t → id_number (id_of e) < next →
-          is_listed (id_of e) (on_flagged flags events (id_of e)) ≡ true → is_listed (id_of e) ids ≡ true
-      by (Tag id name target tagger comment mark) at is below own = all.tag id below (any.Tag id) own
-      by (Reset id branch target) at is below own = all.reset id below (any.Reset id) own
-      by (Blob id mark bytes) at is below own = absurd (none-some t is)
-      by (Commit id mark branch author committer encoding comment parents ops aliases) at is below own = absurd (none-some t is)
-      by (Pass id line) at is below own = absurd (none-some t is)
+  points : (t : ℕ) (e : PlainEvent) → target_for Some e ≡ Some t → is_pointer (id_of e) ≡ true
+  points t (Tag id name target tagger comment mark) is = refl
+  points t (Reset id branch target) is = refl
+  points t (Blob id mark bytes) is = absurd (none-some t is)
+  points t (Commit id mark branch author committer encoding comment parents ops aliases) is = absurd (none-some t is)
+  points t (Pass id line) is = absurd (none-some t is)
+
+  on_is : (k t : ℕ) (e : PlainEvent) (pointers ids : List AnyId) → HasPointers pointers events →
+      AreAmong (flat_map (on_flagged flags events) pointers) ids → slice_get events k ≡ Some e → target_for Some e ≡ Some t →
+      is_removed set t ≡ true → is_listed (id_of e) ids ≡ true
+  on_is k t e pointers ids all more at is gone =
+      let place = (place_found events k e at (sound-once events sound).ids).0 in
+      more (id_of e) (among_all (on_flagged flags events) pointers (id_of e) (id_of e) (all (id_of e) k (points t e is) place) (on_listed k t e at is gone))
 
   -- flags of all these are flags of what is near
-  pub near_flagged : (next : ℕ) (ids : List AnyId) (near : List Bool) → AreIdsBelow next events → FlagsOf events ids near →
-      HasAll (children_of_all events set) ids → HasAll set ids → HasAllOn flags events next ids → AreNear set events near
-  near_flagged next ids near low n children own on = record { count = n.count; apart = apart }
+  pub near_flagged : (pointers ids : List AnyId) (near : List Bool) → HasPointers pointers events → FlagsOf events ids near →
+      AreAmong (children_of_all events set) ids → AreAmong set ids → AreAmong (flat_map (on_flagged flags events) pointers) ids →
+      AreNear set events near
+  near_flagged pointers ids near all n children own on = record { count = n.count; apart = apart }
     where
       apart : (k : ℕ) (e : PlainEvent) → slice_get events k ≡ Some e → get_or near k false ≡ false → is_near set e ≡ false
       apart k e at off =
@@ -113,7 +103,7 @@ module _ (set : List AnyId) (events : List PlainEvent) (sound : IsSound events) 
         where
           by : (o : Option ℕ) → target_for Some e ≡ o → option_map_or (is_removed set) o false ≡ true → ⊥
           by None is t = true≢false (sym t)
-          by (Some c) is t = true≢false (sym (on_is next k c e ids low on at is t) ∙ (sym (n.flag k e at) ∙ off))
+          by (Some c) is t = true≢false (sym (on_is k c e pointers ids all on at is t) ∙ (sym (n.flag k e at) ∙ off))
 
 -- none among one event more
 pub none_so_far : (test : PlainEvent → Bool) (es : List PlainEvent) (k : ℕ) (e : PlainEvent) → slice_get es k ≡ Some e → list_any test (take k es) ≡ false → test e ≡ false →

@@ -1,9 +1,8 @@
 -- The events near a set: those of it, and those that refer to one of its commits. The others stay as they are.
-use Rattle.std.specs.Prelude.{ℕ, ◌≡◌, ◌<◌, Bool, true, false, ◌||◌, List, [], ◌∷◌, length, take, Some, slice_get, slice_index_or, if◌then◌else◌}
+use Rattle.std.specs.Prelude.{ℕ, ◌≡◌, Bool, true, false, ◌||◌, List, [], ◌∷◌, length, take, Some, slice_get, slice_index_or, if◌then◌else◌}
 use Rattle.std.specs.List.{list_any}
 use Rattle.std.specs.Option.{option_map_or}
 use Rattle.plain_model.specs.declared.id.AnyId.{AnyId}
-use Rattle.plain_model.specs.declared.id.AnyId.TheVariants as any
 use Rattle.plain_model.specs.declared.event.PlainEvent.{PlainEvent}
 use Rattle.plain_model.specs.Lookups.{event_parents, find_event, id_of, is_listed, place_of}
 use Rattle.edit_laws.specs.Settling.{is_ready}
@@ -33,15 +32,6 @@ pub record AreFlagged (set : List AnyId) (events : List PlainEvent) (flags near 
 abbrev pub on_flagged : List Bool → List PlainEvent → AnyId → List AnyId
 on_flagged flags events id =
     if option_map_or (is_on (is_flagged_commit flags events)) (find_event id events) false then id ∷ [] else []
-
--- the ids of one list are among those of another
-abbrev pub HasAll : List AnyId → List AnyId → Type 0
-HasAll few many = (id : AnyId) → is_listed id few ≡ true → is_listed id many ≡ true
-
--- the ids of all tags and resets on commits with a flag are among these, where their numbers are below
-pub record HasAllOn (flags : List Bool) (events : List PlainEvent) (below : ℕ) (ids : List AnyId) : Type 0 where
-  pub tag : (n : ℕ) → n < below → HasAll (on_flagged flags events (any.Tag n)) ids
-  pub reset : (n : ℕ) → n < below → HasAll (on_flagged flags events (any.Reset n)) ids
 
 -- what is left of each event near the set is after all that it refers to
 abbrev pub AreReadyNear : List AnyId → List PlainEvent → List PlainEvent → Type 0

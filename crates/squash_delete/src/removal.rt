@@ -5,6 +5,7 @@ ghost use Rattle.std.specs.Prelude.{
   ◌++◌,
   Some,
   false,
+  flat_map,
   length,
   slice_get,
   IfOk,
@@ -15,13 +16,13 @@ ghost use Rattle.graph_walk.specs.Flags.{FlagsOf, is_flagged_commit};
 ghost use Rattle.plain_model.specs.Lookups.{find_event, id_of, is_listed, place_of};
 ghost use Rattle.plain_model.specs.Soundness.{IsSound};
 ghost use Rattle.plain_model.specs.declared.id.AnyId.TheVariants.{Commit};
-ghost use Rattle.squash_delete.specs.Near.{AreNear, HasAll, HasAllOn, is_near, is_on, on_flagged};
+ghost use Rattle.squash_delete.specs.Near.{AreNear, is_near, is_on, on_flagged};
 ghost use Rattle.squash_laws.specs.Removed.{is_removed};
 
 use crate::targets::target_of;
 use event_arena::Events;
 use graph_walk::{children_of_all, flags_of};
-use plain_model::{AnyId, CommitId, IdList, NoMemory, PlainEvent, ResetId, TagId};
+use plain_model::{AnyId, CommitId, IdList, NoMemory, PlainEvent};
 use std::alloc::Global;
 use std::marker::Model;
 
@@ -63,15 +64,19 @@ fn push_on(events: &Events, flags: &[bool], id: &AnyId, list: &mut IdList) -> Re
     Ok(())
 }
 
-// Puts the ids of the tags and resets on commits with a flag at the end. They are found by their numbers: most events are
-// neither, and to look at each of them would cost more.
-fn push_all_on(events: &Events, flags: &[bool], list: &mut IdList) -> Result<(), NoMemory>
+// Puts those of the ids at the end that are of tags and resets on commits with a flag.
+fn push_all_on(
+    events: &Events,
+    flags: &[bool],
+    ids: &[AnyId],
+    list: &mut IdList,
+) -> Result<(), NoMemory>
     requires { length flags.now ≡ length events.now.list }
-    ensures { OnOk result (HasAll list.old list.new × HasAllOn flags.now events.now.list events.now.next_id list.new) }
+    ensures { OnOk result
+        (list.new ≡ list.old ++ flat_map (on_flagged flags.now events.now.list) ids.now) }
 {
-    for number in 0..events.next_id() {
-        push_on(events, flags, &AnyId::Tag(TagId::new(number)), list)?;
-        push_on(events, flags, &AnyId::Reset(ResetId::new(number)), list)?;
+    for id in ids {
+        push_on(events, flags, id, list)?;
     }
     Ok(())
 }
@@ -97,10 +102,10 @@ fn flags_near(
     ensures { IfOk result (λ near. AreNear set.now events.now.list near.items) }
 {
     let _count = events.count();
-    let _next = events.next_id();
+    let pointers = events.tags_and_resets()?;
     let mut ids = children_of_all(alloc, events, set)?;
     push_ids(set, &mut ids)?;
-    push_all_on(events, flags, &mut ids)?;
+    push_all_on(events, flags, pointers.as_slice(), &mut ids)?;
     flags_of(alloc, events, ids.as_slice())
 }
 

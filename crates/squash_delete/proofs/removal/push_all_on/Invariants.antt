@@ -1,8 +1,7 @@
-use Rattle.squash_delete.specs.Near.{HasAll, HasAllOn}
+use Rattle.std.proofs.Common.{◌≡◌, ◌++◌, take}
+use Rattle.std.specs.Prelude.{flat_map}
+use Rattle.squash_delete.specs.Near.{on_flagged}
 use Rattle.squash_delete.proofs.removal.push_all_on.Given as goal
 
-abbrev pub invariant-loop-number : goal.invariant-loop-number
-invariant-loop-number l = record {
-  old : HasAll l.initial.list l.list;
-  on : HasAllOn l.flags l.events.list l.number l.list;
-}
+abbrev pub invariant-loop-id : goal.invariant-loop-id
+invariant-loop-id l = l.list ≡ l.initial.list ++ flat_map (on_flagged l.flags l.events.list) (take l.id-index l.ids)
