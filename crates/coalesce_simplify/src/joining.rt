@@ -42,8 +42,10 @@ fn are_near(seconds: u64, one: &Signed, other: &Signed) -> bool
     } else {
         one.when.seconds - other.when.seconds
     };
-    one.person.name.as_slice() == other.person.name.as_slice()
-        && one.person.email.as_slice() == other.person.email.as_slice()
+    let person = one.person.as_ref();
+    let other_person = other.person.as_ref();
+    person.name.as_slice() == other_person.name.as_slice()
+        && person.email.as_slice() == other_person.email.as_slice()
         && apart <= seconds
 }
 

@@ -28,7 +28,7 @@ fn simplify_one(alloc: Global, plan: &mut Plan, event: &PlainEvent) -> Result<()
         return Ok(());
     };
     let found = simpler(alloc, ops.as_slice())?;
-    // Each setting copies the whole event, so none is set that stays as it is.
+    // Each setting copies the event, so none is set that stays as it is.
     match found {
         Some(left) => plan.set_ops(*id, left),
         None => Ok(()),

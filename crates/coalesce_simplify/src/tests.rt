@@ -8,7 +8,7 @@ use event_arena::{Events, Plan};
 use manifest_cache::Manifests;
 use plain_model::{
     AnyId, BlobId, CommitId, Content, EventList, FileOp, Items, Mark, Mode, NoMemory, OpList, Path,
-    Person, PlainEvent, Signed, TagId, Text, When,
+    Person, PlainEvent, Shared, Signed, TagId, Text, When,
 };
 use std::alloc::Global;
 use std::test::*;
@@ -29,10 +29,13 @@ fn someone_at(alloc: Global, seconds: u64) -> Result<Signed, Fail>
     ensures { IfOk result (λ made. made ≡ someone_at seconds) }
 {
     Ok(Signed {
-        person: Person {
-            name: text(alloc, b"A")?,
-            email: text(alloc, b"a@x")?,
-        },
+        person: Shared::new(
+            alloc,
+            Person {
+                name: text(alloc, b"A")?,
+                email: text(alloc, b"a@x")?,
+            },
+        )?,
         when: When {
             seconds,
             minus: false,
@@ -54,13 +57,13 @@ fn commit(
     Ok(PlainEvent::Commit {
         id: CommitId::new(id),
         mark: mark(id)?,
-        branch: text(alloc, b"refs/heads/master")?,
+        branch: Shared::new(alloc, text(alloc, b"refs/heads/master")?)?,
         author: someone_at(alloc, seconds)?,
         committer: someone_at(alloc, seconds)?,
         encoding: None,
         comment: text(alloc, comment)?,
         parents: Items::of(alloc, parents)?,
-        ops,
+        ops: Shared::new(alloc, ops)?,
         aliases: Items::new(alloc)?,
     })
 }
@@ -98,7 +101,7 @@ fn blob(alloc: Global) -> Result<PlainEvent, Fail>
     Ok(PlainEvent::Blob {
         id: BlobId::new(1),
         mark: mark(1)?,
-        bytes: text(alloc, b"1")?,
+        bytes: Shared::new(alloc, text(alloc, b"1")?)?,
     })
 }
 
@@ -118,7 +121,7 @@ fn tag(alloc: Global) -> Result<PlainEvent, Fail>
 fn list(alloc: Global) -> Result<EventList, Fail>
     ensures { IfOk result (λ list. list ≡ put_again) }
 {
-    let mut list = Items::new(alloc)?;
+    let mut list = EventList::new(alloc)?;
     list.push(blob(alloc)?)?;
     list.push(commit(alloc, 2, 200, b"w", &[], two_puts(alloc)?)?)?;
     list.push(commit(alloc, 3, 300, b"w", &[CommitId::new(2)], one_put(alloc)?)?)?;

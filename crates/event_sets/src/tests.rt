@@ -8,7 +8,7 @@ use crate::EventSet;
 use event_arena::Events;
 use plain_model::{
     AnyId, BlobId, CommitId, Content, EventList, FileOp, IdList, Items, Mark, Mode, NoMemory,
-    OpList, PassId, Path, Person, PlainEvent, ResetId, Signed, TagId, Text, When,
+    OpList, PassId, Path, Person, PlainEvent, ResetId, Shared, Signed, TagId, Text, When,
 };
 use selection_parser::{Function, KindSet};
 use std::alloc::Global;
@@ -30,10 +30,13 @@ fn someone(alloc: Global) -> Result<Signed, Fail>
     ensures { IfOk result (λ made. made ≡ someone) }
 {
     Ok(Signed {
-        person: Person {
-            name: text(alloc, b"A")?,
-            email: text(alloc, b"a@x")?,
-        },
+        person: Shared::new(
+            alloc,
+            Person {
+                name: text(alloc, b"A")?,
+                email: text(alloc, b"a@x")?,
+            },
+        )?,
         when: When {
             seconds: 0,
             minus: false,
@@ -48,7 +51,7 @@ fn blob(alloc: Global, number: u64, bytes: &[u8]) -> Result<PlainEvent, Fail>
     Ok(PlainEvent::Blob {
         id: BlobId::new(number),
         mark: mark(number)?,
-        bytes: text(alloc, bytes)?,
+        bytes: Shared::new(alloc, text(alloc, bytes)?)?,
     })
 }
 
@@ -58,13 +61,13 @@ fn commit(alloc: Global, number: u64, parents: &[CommitId], ops: OpList) -> Resu
     Ok(PlainEvent::Commit {
         id: CommitId::new(number),
         mark: mark(number)?,
-        branch: text(alloc, b"refs/heads/master")?,
+        branch: Shared::new(alloc, text(alloc, b"refs/heads/master")?)?,
         author: someone(alloc)?,
         committer: someone(alloc)?,
         encoding: None,
         comment: text(alloc, b"c")?,
         parents: Items::of(alloc, parents)?,
-        ops,
+        ops: Shared::new(alloc, ops)?,
         aliases: Items::new(alloc)?,
     })
 }
@@ -85,7 +88,7 @@ fn put_in(alloc: Global, blob: u64, path: &[u8]) -> Result<OpList, Fail>
 fn list(alloc: Global) -> Result<EventList, Fail>
     ensures { IfOk result (λ list. list ≡ forked) }
 {
-    let mut list = Items::new(alloc)?;
+    let mut list = EventList::new(alloc)?;
     list.push(blob(alloc, 1, b"x")?)?;
     list.push(blob(alloc, 2, b"y")?)?;
     list.push(commit(alloc, 3, &[], put_in(alloc, 1, b"f")?)?)?;
@@ -111,7 +114,7 @@ fn list(alloc: Global) -> Result<EventList, Fail>
     })?;
     list.push(PlainEvent::Reset {
         id: ResetId::new(9),
-        branch: text(alloc, b"side")?,
+        branch: Shared::new(alloc, text(alloc, b"side")?)?,
         target: Some(CommitId::new(6)),
     })?;
     Ok(list)

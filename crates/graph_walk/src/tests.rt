@@ -8,8 +8,8 @@ ghost use Rattle.plain_model.specs.declared.id.AnyId.TheVariants.{Commit};
 use crate::*;
 use event_arena::{Events, Plan};
 use plain_model::{
-    AnyId, CommitId, EventList, Halt, IdList, Items, Mark, NoMemory, Person, PlainEvent, Signed,
-    Text, When,
+    AnyId, CommitId, EventList, Halt, IdList, Items, Mark, NoMemory, Person, PlainEvent, Shared,
+    Signed, Text, When,
 };
 use std::alloc::Global;
 use std::test::*;
@@ -24,10 +24,13 @@ fn someone(alloc: Global) -> Result<Signed, Fail>
     ensures { IfOk result (λ made. made ≡ someone) }
 {
     Ok(Signed {
-        person: Person {
-            name: text(alloc, b"A")?,
-            email: text(alloc, b"a@x")?,
-        },
+        person: Shared::new(
+            alloc,
+            Person {
+                name: text(alloc, b"A")?,
+                email: text(alloc, b"a@x")?,
+            },
+        )?,
         when: When {
             seconds: 0,
             minus: false,
@@ -42,13 +45,13 @@ fn commit(alloc: Global, number: u64, parents: &[CommitId]) -> Result<PlainEvent
     Ok(PlainEvent::Commit {
         id: CommitId::new(number),
         mark: Mark::new(number).ok_or("mark")?,
-        branch: text(alloc, b"refs/heads/master")?,
+        branch: Shared::new(alloc, text(alloc, b"refs/heads/master")?)?,
         author: someone(alloc)?,
         committer: someone(alloc)?,
         encoding: None,
         comment: text(alloc, b"c")?,
         parents: Items::of(alloc, parents)?,
-        ops: Items::new(alloc)?,
+        ops: Shared::new(alloc, Items::new(alloc)?)?,
         aliases: Items::new(alloc)?,
     })
 }
@@ -57,7 +60,7 @@ fn commit(alloc: Global, number: u64, parents: &[CommitId]) -> Result<PlainEvent
 fn list(alloc: Global) -> Result<EventList, Fail>
     ensures { IfOk result (λ list. list ≡ merges) }
 {
-    let mut list = Items::new(alloc)?;
+    let mut list = EventList::new(alloc)?;
     list.push(commit(alloc, 1, &[])?)?;
     list.push(commit(alloc, 2, &[CommitId::new(1)])?)?;
     list.push(commit(alloc, 3, &[CommitId::new(1)])?)?;

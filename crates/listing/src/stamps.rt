@@ -125,7 +125,7 @@ fn push_stamp(committer: &Signed, into: &mut Text) -> Result<(), NoMemory>
 {
     push_date(committer.when.seconds, into)?;
     into.push(b'!')?;
-    into.push_all(committer.person.email.as_slice())
+    into.push_all(committer.person.as_ref().email.as_slice())
 }
 
 // Puts which one it is, where there are several.

@@ -16,7 +16,7 @@ use event_arena::Events;
 use manifest_cache::Manifests;
 use plain_model::{
     AnyId, BlobId, CommitId, Content, EventList, FileOp, Items, Mark, Mode, ObjectId, PassId, Path,
-    Person, PlainEvent, ResetId, Signed, TagId, Text, When,
+    Person, PlainEvent, ResetId, Shared, Signed, TagId, Text, When,
 };
 use std::alloc::Global;
 use std::test::*;
@@ -39,10 +39,13 @@ fn signed(alloc: Global, seconds: u64) -> Result<Signed, Fail>
     ensures { IfOk result (λ made. made ≡ by_ann seconds) }
 {
     Ok(Signed {
-        person: Person {
-            name: text(alloc, b"Ann")?,
-            email: text(alloc, b"ann@example.com")?,
-        },
+        person: Shared::new(
+            alloc,
+            Person {
+                name: text(alloc, b"Ann")?,
+                email: text(alloc, b"ann@example.com")?,
+            },
+        )?,
         when: When {
             seconds,
             minus: false,
@@ -96,13 +99,13 @@ fn commit(
     Ok(PlainEvent::Commit {
         id: CommitId::new(id),
         mark: mark(number)?,
-        branch: text(alloc, branch)?,
+        branch: Shared::new(alloc, text(alloc, branch)?)?,
         author: signed(alloc, seconds)?,
         committer: signed(alloc, seconds)?,
         encoding: None,
         comment: text(alloc, comment)?,
         parents: Items::of(alloc, parents)?,
-        ops,
+        ops: Shared::new(alloc, ops)?,
         aliases: Items::new(alloc)?,
     })
 }
@@ -123,13 +126,13 @@ fn plain_commit(
     Ok(PlainEvent::Commit {
         id: CommitId::new(id),
         mark: mark(number)?,
-        branch: text(alloc, branch)?,
+        branch: Shared::new(alloc, text(alloc, branch)?)?,
         author: signed(alloc, 5)?,
         committer: signed(alloc, seconds)?,
         encoding: None,
         comment: text(alloc, comment)?,
         parents: Items::of(alloc, parents)?,
-        ops: Items::new(alloc)?,
+        ops: Shared::new(alloc, Items::new(alloc)?)?,
         aliases: Items::of(alloc, aliases)?,
     })
 }
@@ -140,7 +143,7 @@ fn blob(alloc: Global, id: u64, number: u64, bytes: &[u8]) -> Result<PlainEvent,
     Ok(PlainEvent::Blob {
         id: BlobId::new(id),
         mark: mark(number)?,
-        bytes: text(alloc, bytes)?,
+        bytes: Shared::new(alloc, text(alloc, bytes)?)?,
     })
 }
 
@@ -154,7 +157,7 @@ fn reset(
 {
     Ok(PlainEvent::Reset {
         id: ResetId::new(id),
-        branch: text(alloc, branch)?,
+        branch: Shared::new(alloc, text(alloc, branch)?)?,
         target,
     })
 }
@@ -236,7 +239,7 @@ fn put_rarer(alloc: Global, list: &mut EventList) -> Result<(), Fail>
 fn exported_history(alloc: Global) -> Result<Events, Fail>
     ensures { IfOk result (λ events. events.list ≡ exported) }
 {
-    let mut list = Items::new(alloc)?;
+    let mut list = EventList::new(alloc)?;
     put_exported(alloc, &mut list)?;
     Ok(Events::from_plain(alloc, list)?)
 }
@@ -244,7 +247,7 @@ fn exported_history(alloc: Global) -> Result<Events, Fail>
 fn rarer_history(alloc: Global) -> Result<Events, Fail>
     ensures { IfOk result (λ events. events.list ≡ rarer) }
 {
-    let mut list = Items::new(alloc)?;
+    let mut list = EventList::new(alloc)?;
     put_rarer(alloc, &mut list)?;
     Ok(Events::from_plain(alloc, list)?)
 }

@@ -13,7 +13,7 @@ use event_arena::{Events, Plan};
 use path_tree::PathTree;
 use plain_model::{
     AnyId, BlobId, CommitId, Content, EventList, FileOp, Halt, Items, Mark, Mode, OpList,
-    ParentList, Path, Person, PlainEvent, Signed, Steps, Text, When,
+    ParentList, Path, Person, PlainEvent, Shared, Signed, Steps, Text, When,
 };
 use std::alloc::Global;
 use std::test::*;
@@ -38,7 +38,7 @@ fn who(alloc: Global) -> Result<Signed, Fail>
     let name = text(alloc, b"A")?;
     let email = text(alloc, b"a@x")?;
     Ok(Signed {
-        person: Person { name, email },
+        person: Shared::new(alloc, Person { name, email })?,
         when: When {
             seconds: 0,
             minus: false,
@@ -53,13 +53,13 @@ fn commit(alloc: Global, number: u64, parents: ParentList, ops: OpList) -> Resul
     Ok(PlainEvent::Commit {
         id: CommitId::new(number),
         mark: mark(number)?,
-        branch: text(alloc, b"refs/heads/master")?,
+        branch: Shared::new(alloc, text(alloc, b"refs/heads/master")?)?,
         author: who(alloc)?,
         committer: who(alloc)?,
         encoding: None,
         comment: text(alloc, b"c")?,
         parents,
-        ops,
+        ops: Shared::new(alloc, ops)?,
         aliases: Items::empty(alloc),
     })
 }
@@ -104,7 +104,7 @@ fn put_fork(alloc: Global, list: &mut EventList) -> Result<(), Fail>
     list.push(PlainEvent::Blob {
         id: BlobId::new(1),
         mark: mark(1)?,
-        bytes: text(alloc, b"1")?,
+        bytes: Shared::new(alloc, text(alloc, b"1")?)?,
     })?;
     list.push(commit(
         alloc,
@@ -142,7 +142,7 @@ fn put_fork(alloc: Global, list: &mut EventList) -> Result<(), Fail>
 fn forked(alloc: Global) -> Result<EventList, Fail>
     ensures { IfOk result (λ list. list ≡ fork) }
 {
-    let mut list = Items::new(alloc)?;
+    let mut list = EventList::new(alloc)?;
     put_fork(alloc, &mut list)?;
     Ok(list)
 }
@@ -350,7 +350,7 @@ fn put_link(alloc: Global, list: &mut EventList, commits: u64) -> Result<(), Fai
 
 // A line of 65 commits without operations, of the numbers 1 to 65.
 fn line(alloc: Global) -> Result<Events, Fail> {
-    let mut list = Items::empty(alloc);
+    let mut list = EventList::empty(alloc);
     for commits in 0..65 {
         put_link(alloc, &mut list, commits)?;
     }

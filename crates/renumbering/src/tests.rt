@@ -7,7 +7,7 @@ use crate::renumber;
 use event_arena::{Events, Plan};
 use plain_model::{
     AnyId, BlobId, CommitId, Content, EventList, FileOp, Items, Mark, Mode, NoMemory, OpList,
-    PassId, Path, Person, PlainEvent, ResetId, Signed, TagId, Text, When,
+    PassId, Path, Person, PlainEvent, ResetId, Shared, Signed, TagId, Text, When,
 };
 use std::alloc::Global;
 use std::test::*;
@@ -28,10 +28,13 @@ fn ann(alloc: Global) -> Result<Signed, Fail>
     ensures { IfOk result (λ made. made ≡ ann) }
 {
     Ok(Signed {
-        person: Person {
-            name: text(alloc, b"Ann")?,
-            email: text(alloc, b"a@x")?,
-        },
+        person: Shared::new(
+            alloc,
+            Person {
+                name: text(alloc, b"Ann")?,
+                email: text(alloc, b"a@x")?,
+            },
+        )?,
         when: When {
             seconds: 100,
             minus: false,
@@ -46,7 +49,7 @@ fn blob(alloc: Global, id: u64, mark_number: u64, bytes: &[u8]) -> Result<PlainE
     Ok(PlainEvent::Blob {
         id: BlobId::new(id),
         mark: mark(mark_number)?,
-        bytes: text(alloc, bytes)?,
+        bytes: Shared::new(alloc, text(alloc, bytes)?)?,
     })
 }
 
@@ -63,13 +66,13 @@ fn commit(
     Ok(PlainEvent::Commit {
         id: CommitId::new(id),
         mark: mark(mark_number)?,
-        branch: text(alloc, b"main")?,
+        branch: Shared::new(alloc, text(alloc, b"main")?)?,
         author: ann(alloc)?,
         committer: ann(alloc)?,
         encoding: None,
         comment: text(alloc, b"why")?,
         parents: Items::of(alloc, parents)?,
-        ops,
+        ops: Shared::new(alloc, ops)?,
         aliases: Items::of(alloc, aliases)?,
     })
 }
@@ -124,7 +127,7 @@ fn list(
 ) -> Result<EventList, Fail>
     ensures { IfOk result (λ list. list ≡ with_the_marks one two root alias tagged child) }
 {
-    let mut list = Items::new(alloc)?;
+    let mut list = EventList::new(alloc)?;
     list.push(blob(alloc, 1, one, b"x")?)?;
     list.push(blob(alloc, 2, two, b"y")?)?;
     list.push(commit(alloc, 3, root, &[mark(alias)?], &[], root_ops(alloc)?)?)?;
@@ -144,7 +147,7 @@ fn list(
     )?)?;
     list.push(PlainEvent::Reset {
         id: ResetId::new(8),
-        branch: text(alloc, b"side")?,
+        branch: Shared::new(alloc, text(alloc, b"side")?)?,
         target: Some(CommitId::new(7)),
     })?;
     Ok(list)

@@ -8,7 +8,7 @@ use event_arena::{Events, Plan};
 use manifest_cache::Manifests;
 use plain_model::{
     AnyId, BlobId, CommitId, Content, EventList, FileOp, Items, Mark, Mode, NoMemory, Path, Person,
-    PlainEvent, RawContent, RawOp, Signed, Text, When,
+    PlainEvent, RawContent, RawOp, Shared, Signed, Text, When,
 };
 use reparent_laws::Removal;
 use std::alloc::Global;
@@ -36,10 +36,13 @@ fn someone_at(alloc: Global, seconds: u64) -> Result<Signed, Fail>
     ensures { IfOk result (λ made. made ≡ someone_at seconds) }
 {
     Ok(Signed {
-        person: Person {
-            name: text(alloc, b"A")?,
-            email: text(alloc, b"a@x")?,
-        },
+        person: Shared::new(
+            alloc,
+            Person {
+                name: text(alloc, b"A")?,
+                email: text(alloc, b"a@x")?,
+            },
+        )?,
         when: When {
             seconds,
             minus: false,
@@ -76,13 +79,13 @@ fn commit(
     Ok(PlainEvent::Commit {
         id: CommitId::new(id),
         mark: mark(id)?,
-        branch: text(alloc, branch)?,
+        branch: Shared::new(alloc, text(alloc, branch)?)?,
         author: someone_at(alloc, seconds)?,
         committer: someone_at(alloc, seconds)?,
         encoding: None,
         comment: text(alloc, comment)?,
         parents: Items::of(alloc, parents)?,
-        ops,
+        ops: Shared::new(alloc, ops)?,
         aliases: Items::new(alloc)?,
     })
 }
@@ -93,7 +96,7 @@ fn blob(alloc: Global) -> Result<PlainEvent, Fail>
     Ok(PlainEvent::Blob {
         id: BlobId::new(1),
         mark: mark(1)?,
-        bytes: text(alloc, b"1")?,
+        bytes: Shared::new(alloc, text(alloc, b"1")?)?,
     })
 }
 
@@ -103,7 +106,7 @@ fn list(alloc: Global) -> Result<EventList, Fail>
 {
     let master: &[u8] = b"refs/heads/master";
     let both = [CommitId::new(3), CommitId::new(4)];
-    let mut list = Items::new(alloc)?;
+    let mut list = EventList::new(alloc)?;
     list.push(blob(alloc)?)?;
     list.push(commit(alloc, master, 2, 200, b"c2", &[], b"f")?)?;
     list.push(commit(alloc, master, 3, 300, b"c3", &[CommitId::new(2)], b"g")?)?;

@@ -15,8 +15,8 @@ ghost use Rattle.sample_history.specs.Sample.{
 };
 
 use plain_model::{
-    BlobId, CommitId, Content, EventList, FileOp, Items, Mark, Mode, NoMemory, OpList, ParentList,
-    Path, Person, PlainEvent, Signed, Text, When,
+    BlobId, CommitId, Content, Copied, EventList, FileOp, Items, Mark, Mode, NoMemory, OpList,
+    ParentList, Path, Person, PlainEvent, Shared, Signed, Text, When,
 };
 use std::alloc::Global;
 
@@ -63,10 +63,13 @@ fn signed_at(alloc: Global, seconds: u64) -> Result<Signed, NoMemory>
     ensures { IfOk result (λ signed. signed ≡ signed_at seconds) }
 {
     Ok(Signed {
-        person: Person {
-            name: Items::of(alloc, b"S")?,
-            email: Items::of(alloc, b"s@example.com")?,
-        },
+        person: Shared::new(
+            alloc,
+            Person {
+                name: Items::of(alloc, b"S")?,
+                email: Items::of(alloc, b"s@example.com")?,
+            },
+        )?,
         when: When {
             seconds,
             minus: false,
@@ -119,7 +122,7 @@ pub fn blob_of(alloc: Global, number: u64, drawn: u64) -> Result<PlainEvent, NoM
     Ok(PlainEvent::Blob {
         id: BlobId::new(own),
         mark: Mark::new(own).unwrap(),
-        bytes: numbered_line(alloc, b"", drawn)?,
+        bytes: Shared::new(alloc, numbered_line(alloc, b"", drawn)?)?,
     })
 }
 
@@ -129,16 +132,17 @@ pub fn commit_of(alloc: Global, number: u64, drawn: u64) -> Result<PlainEvent, N
     ensures { IfOk result (λ event. event ≡ commit_of number drawn) }
 {
     let own = commit_number(number);
+    let committer = signed_at(alloc, 60 * number)?;
     Ok(PlainEvent::Commit {
         id: CommitId::new(own),
         mark: Mark::new(own).unwrap(),
-        branch: Items::of(alloc, b"refs/heads/master")?,
-        author: signed_at(alloc, 60 * number)?,
-        committer: signed_at(alloc, 60 * number)?,
+        branch: Shared::new(alloc, Items::of(alloc, b"refs/heads/master")?)?,
+        author: committer.copied(alloc)?,
+        committer,
         encoding: None,
         comment: numbered_line(alloc, b"commit ", number)?,
         parents: parents_of(alloc, number, drawn)?,
-        ops: ops_of(alloc, number, drawn)?,
+        ops: Shared::new(alloc, ops_of(alloc, number, drawn)?)?,
         aliases: Items::new(alloc)?,
     })
 }

@@ -6,7 +6,8 @@ use std::test::*;
 fn three_commits_are_made(rt: HostRuntime) -> Result<(), Fail> {
     let list = sample_events(rt.alloc(), 3, 17)?;
     assert_eq!(rt; list.as_slice().len(), 6);
-    let Some(PlainEvent::Commit { parents, ops, .. }) = list.as_slice().last() else {
+    let last = list.as_slice().last().ok_or("no event")?;
+    let PlainEvent::Commit { parents, ops, .. } = last.as_ref() else {
         return Err(Fail::from("no commit"));
     };
     assert_eq!(rt; parents.as_slice().len(), 2);

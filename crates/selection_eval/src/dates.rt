@@ -121,7 +121,7 @@ impl<'t> EventTest for Stamped<'t> {
         match event {
             PlainEvent::Commit { committer, .. } => {
                 let shows = self.moment.shows(committer)?;
-                Ok(shows && are_equal(committer.person.email.as_slice(), self.email))
+                Ok(shows && are_equal(committer.person.as_ref().email.as_slice(), self.email))
             }
             _ => Ok(false),
         }

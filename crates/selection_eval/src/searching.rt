@@ -76,7 +76,7 @@ fn is_in_tagger(
     ensures same { searcher.new ≡ searcher.old }
 {
     match tagger {
-        Some(signed) => is_in_person(searcher, wanted, &signed.person, text),
+        Some(signed) => is_in_person(searcher, wanted, signed.person.as_ref(), text),
         None => Ok(false),
     }
 }
@@ -100,8 +100,13 @@ fn is_in_commit(
 {
     let open = is_open(fields);
     let in_comment = is_in(searcher, open || fields.comments, comment);
-    let in_author = is_in_person(searcher, open || fields.authors, &author.person, text)?;
-    let in_committer = is_in_person(searcher, open, &committer.person, text)?;
+    let in_author = is_in_person(
+        searcher,
+        open || fields.authors,
+        author.person.as_ref(),
+        text,
+    )?;
+    let in_committer = is_in_person(searcher, open, committer.person.as_ref(), text)?;
     let in_branch = is_in(searcher, fields.branches, branch);
     Ok(in_comment || in_author || in_committer || in_branch)
 }

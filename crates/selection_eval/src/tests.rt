@@ -10,7 +10,7 @@ use event_arena::Events;
 use manifest_cache::Manifests;
 use plain_model::{
     AnyId, BlobId, CommitId, Content, EventList, FileOp, Halt, Items, Mark, Mode, ObjectId, Path,
-    Person, PlainEvent, ResetId, Signed, TagId, Text, When,
+    Person, PlainEvent, ResetId, Shared, Signed, TagId, Text, When,
 };
 use selection_parser::{Selection, parse};
 use std::alloc::Global;
@@ -34,10 +34,13 @@ fn signed(alloc: Global, seconds: u64) -> Result<Signed, Fail>
     ensures { IfOk result (λ made. made ≡ signed seconds) }
 {
     Ok(Signed {
-        person: Person {
-            name: text(alloc, b"Ann")?,
-            email: text(alloc, b"ann@example.com")?,
-        },
+        person: Shared::new(
+            alloc,
+            Person {
+                name: text(alloc, b"Ann")?,
+                email: text(alloc, b"ann@example.com")?,
+            },
+        )?,
         when: When {
             seconds,
             minus: false,
@@ -91,13 +94,13 @@ fn commit(
     Ok(PlainEvent::Commit {
         id: CommitId::new(id),
         mark: mark(number)?,
-        branch: text(alloc, branch)?,
+        branch: Shared::new(alloc, text(alloc, branch)?)?,
         author: signed(alloc, seconds)?,
         committer: signed(alloc, seconds)?,
         encoding: None,
         comment: text(alloc, comment)?,
         parents: Items::of(alloc, parents)?,
-        ops,
+        ops: Shared::new(alloc, ops)?,
         aliases: Items::new(alloc)?,
     })
 }
@@ -108,7 +111,7 @@ fn blob(alloc: Global, id: u64, number: u64, bytes: &[u8]) -> Result<PlainEvent,
     Ok(PlainEvent::Blob {
         id: BlobId::new(id),
         mark: mark(number)?,
-        bytes: text(alloc, bytes)?,
+        bytes: Shared::new(alloc, text(alloc, bytes)?)?,
     })
 }
 
@@ -122,7 +125,7 @@ fn reset(
 {
     Ok(PlainEvent::Reset {
         id: ResetId::new(id),
-        branch: text(alloc, branch)?,
+        branch: Shared::new(alloc, text(alloc, branch)?)?,
         target,
     })
 }
@@ -180,7 +183,7 @@ fn put_exported(alloc: Global, list: &mut EventList) -> Result<(), Fail>
 fn exported_history(alloc: Global) -> Result<Events, Fail>
     ensures { IfOk result (λ events. events.list ≡ exported) }
 {
-    let mut list = Items::new(alloc)?;
+    let mut list = EventList::new(alloc)?;
     put_exported(alloc, &mut list)?;
     Ok(Events::from_plain(alloc, list)?)
 }

@@ -25,7 +25,7 @@ use crate::touching::first_touch;
 use event_arena::{Events, Plan};
 use plain_model::{
     AnyId, CommitId, Copied, Fault, Halt, Mark, MarkList, NoMemory, OpList, ParentList, Path,
-    PlainEvent, Text,
+    PlainEvent, Shared, Text,
 };
 use plan_limits::limit_passed;
 use plan_steps::{ops_of, the_commit};
@@ -76,7 +76,7 @@ fn cut(
         encoding: encoding.copied(alloc)?,
         comment: comment.copied(alloc)?,
         parents: ParentList::of(alloc, &[commit])?,
-        ops: OpList::of(alloc, second)?,
+        ops: Shared::new(alloc, OpList::of(alloc, second)?)?,
         aliases: MarkList::of(alloc, &[])?,
     };
     plan.set_ops(commit, OpList::of(alloc, first)?)?;

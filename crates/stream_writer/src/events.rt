@@ -17,10 +17,14 @@ use crate::marks::commit_mark;
 use crate::operations::{push_ops, push_parents};
 use branch_tips::Tips;
 use event_arena::Events;
-use plain_model::{CommitId, FileOp, Mark, NoMemory, PlainEvent, Signed, Text};
+use plain_model::{CommitId, FileOp, Mark, NoMemory, PlainEvent, Shared, Signed, Text};
 use stream_fields::write_data;
 
-fn push_encoding(out: &mut Text, history: &Events, encoding: &Option<Text>) -> Result<(), NoMemory>
+fn push_encoding(
+    out: &mut Text,
+    history: &Events,
+    encoding: &Option<Shared<Text>>,
+) -> Result<(), NoMemory>
     ensures { OnOk result (out.new ≡ out.old ++ encoding_text history.now.list encoding.now) }
 {
     match encoding {
@@ -114,7 +118,7 @@ fn push_head(
 fn push_body(
     out: &mut Text,
     history: &Events,
-    encoding: &Option<Text>,
+    encoding: &Option<Shared<Text>>,
     comment: &[u8],
     parents: &[CommitId],
     ops: &[FileOp],

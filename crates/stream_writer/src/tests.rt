@@ -20,7 +20,7 @@ use crate::*;
 use event_arena::Events;
 use plain_model::{
     BlobId, CommitId, Content, EventList, FileOp, Items, Mark, Mode, NumberList, ObjectId, OpList,
-    PassId, Path, Person, PlainEvent, ResetId, Signed, TagId, Text, When,
+    PassId, Path, Person, PlainEvent, ResetId, Shared, Signed, TagId, Text, When,
 };
 use std::alloc::Global;
 use std::test::*;
@@ -50,10 +50,13 @@ fn signed(alloc: Global, seconds: u64) -> Result<Signed, Fail>
     ensures { IfOk result (λ made. made ≡ signed seconds) }
 {
     Ok(Signed {
-        person: Person {
-            name: text(alloc, b"A")?,
-            email: text(alloc, b"a@x")?,
-        },
+        person: Shared::new(
+            alloc,
+            Person {
+                name: text(alloc, b"A")?,
+                email: text(alloc, b"a@x")?,
+            },
+        )?,
         when: When {
             seconds,
             minus: false,
@@ -66,10 +69,13 @@ fn nobody(alloc: Global) -> Result<Signed, Fail>
     ensures { IfOk result (λ made. made ≡ nobody) }
 {
     Ok(Signed {
-        person: Person {
-            name: Items::new(alloc)?,
-            email: Items::new(alloc)?,
-        },
+        person: Shared::new(
+            alloc,
+            Person {
+                name: Items::new(alloc)?,
+                email: Items::new(alloc)?,
+            },
+        )?,
         when: When {
             seconds: 250000000000,
             minus: true,
@@ -78,13 +84,13 @@ fn nobody(alloc: Global) -> Result<Signed, Fail>
     })
 }
 
-fn blob(id: u64, number: u64, bytes: Text) -> Result<PlainEvent, Fail>
+fn blob(alloc: Global, id: u64, number: u64, bytes: Text) -> Result<PlainEvent, Fail>
     ensures { IfOk result (λ event. event ≡ a.Blob id number bytes) }
 {
     Ok(PlainEvent::Blob {
         id: BlobId::new(id),
         mark: mark(number)?,
-        bytes,
+        bytes: Shared::new(alloc, bytes)?,
     })
 }
 
@@ -95,13 +101,13 @@ fn root(alloc: Global, id: u64, comment: &[u8], ops: OpList) -> Result<PlainEven
     Ok(PlainEvent::Commit {
         id: CommitId::new(id),
         mark: mark(id)?,
-        branch: text(alloc, b"main")?,
+        branch: Shared::new(alloc, text(alloc, b"main")?)?,
         author: signed(alloc, 100)?,
         committer: signed(alloc, 100)?,
         encoding: None,
         comment: text(alloc, comment)?,
         parents: Items::new(alloc)?,
-        ops,
+        ops: Shared::new(alloc, ops)?,
         aliases: Items::new(alloc)?,
     })
 }
@@ -116,7 +122,7 @@ fn reset(
 {
     Ok(PlainEvent::Reset {
         id: ResetId::new(id),
-        branch: text(alloc, branch)?,
+        branch: Shared::new(alloc, text(alloc, branch)?)?,
         target,
     })
 }
@@ -218,13 +224,13 @@ fn side(alloc: Global) -> Result<PlainEvent, Fail>
     Ok(PlainEvent::Commit {
         id: CommitId::new(70),
         mark: mark(2)?,
-        branch: text(alloc, b"side")?,
+        branch: Shared::new(alloc, text(alloc, b"side")?)?,
         author: nobody(alloc)?,
         committer: signed(alloc, 0)?,
-        encoding: Some(text(alloc, b"latin1")?),
+        encoding: Some(Shared::new(alloc, text(alloc, b"latin1")?)?),
         comment: text(alloc, b"\xe9\n")?,
         parents: Items::of(alloc, &parents)?,
-        ops: moves(alloc)?,
+        ops: Shared::new(alloc, moves(alloc)?)?,
         aliases: Items::of(alloc, &aliases)?,
     })
 }
@@ -237,13 +243,13 @@ fn merge(alloc: Global) -> Result<PlainEvent, Fail>
     Ok(PlainEvent::Commit {
         id: CommitId::new(3),
         mark: mark(3)?,
-        branch: text(alloc, b"main")?,
+        branch: Shared::new(alloc, text(alloc, b"main")?)?,
         author: signed(alloc, 300)?,
         committer: signed(alloc, 300)?,
         encoding: None,
         comment: text(alloc, b"c\n")?,
         parents: Items::of(alloc, &parents)?,
-        ops: Items::of(alloc, &ops)?,
+        ops: Shared::new(alloc, Items::of(alloc, &ops)?)?,
         aliases: Items::new(alloc)?,
     })
 }
@@ -253,8 +259,8 @@ fn put_front(alloc: Global, list: &mut EventList) -> Result<(), Fail>
     ensures { OnOk result (list.new ≡ front) }
 {
     list.push(pass(alloc, 1, b"feature done")?)?;
-    list.push(blob(3, 4294967295, Items::new(alloc)?)?)?;
-    list.push(blob(4, 90, text(alloc, b"two\n\n")?)?)?;
+    list.push(blob(alloc, 3, 4294967295, Items::new(alloc)?)?)?;
+    list.push(blob(alloc, 4, 90, text(alloc, b"two\n\n")?)?)?;
     list.push(root(alloc, 1, b"", puts(alloc)?)?)?;
     Ok(())
 }
@@ -288,7 +294,7 @@ fn put_names(alloc: Global, list: &mut EventList) -> Result<(), Fail>
 fn list(alloc: Global) -> Result<EventList, Fail>
     ensures { IfOk result (λ list. list ≡ each_kind) }
 {
-    let mut list = Items::new(alloc)?;
+    let mut list = EventList::new(alloc)?;
     put_front(alloc, &mut list)?;
     put_commits(alloc, &mut list)?;
     put_names(alloc, &mut list)?;
@@ -417,10 +423,10 @@ fn repeated(alloc: Global, byte: u8, count: u64) -> Result<Text, Fail> {
 fn blob_list(alloc: Global, first: Text, second: Text, third: Text) -> Result<EventList, Fail>
     ensures { IfOk result (λ list. list ≡ three_blobs first second third) }
 {
-    let mut list = Items::new(alloc)?;
-    list.push(blob(1, 1, first)?)?;
-    list.push(blob(2, 2, second)?)?;
-    list.push(blob(3, 3, third)?)?;
+    let mut list = EventList::new(alloc)?;
+    list.push(blob(alloc, 1, 1, first)?)?;
+    list.push(blob(alloc, 2, 2, second)?)?;
+    list.push(blob(alloc, 3, 3, third)?)?;
     Ok(list)
 }
 

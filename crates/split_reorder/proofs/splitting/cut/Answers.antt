@@ -68,10 +68,10 @@ returns c =
     let encoding : c.in_ok-copied-4.field-0 ≡ w.encoding = c.in_ok-copied-4.ensures in
     let comment : c.in_ok-copied-5.field-0 ≡ w.comment = c.in_ok-copied-5.ensures in
     let parents : c.in_ok-of.field-0 ≡ c.args.commit ∷ [] = c.in_ok-of.ensures in
-    let second : c.in_ok-of-2.field-0 ≡ drop kept w.ops = c.in_ok-of-2.ensures ∙ c.split_at.ensures.back ∙ ap (drop kept) c.as_slice.ensures in
+    let second : c.in_ok-new.field-0 ≡ drop kept w.ops = c.in_ok-new.ensures ∙ c.in_ok-of-2.ensures ∙ c.split_at.ensures.back ∙ ap (drop kept) c.as_slice.ensures in
     let none : c.in_ok-of-3.field-0 ≡ [] = c.in_ok-of-3.ensures in
     let first : c.in_ok-of-4.field-0 ≡ take kept w.ops = c.in_ok-of-4.ensures ∙ c.split_at.ensures.front ∙ ap (take kept) c.as_slice.ensures in
-    let made = Commit c.args.copy c.args.mark c.in_ok-copied.field-0 c.in_ok-copied-2.field-0 c.in_ok-copied-3.field-0 c.in_ok-copied-4.field-0 c.in_ok-copied-5.field-0 c.in_ok-of.field-0 c.in_ok-of-2.field-0 c.in_ok-of-3.field-0 in
+    let made = Commit c.args.copy c.args.mark c.in_ok-copied.field-0 c.in_ok-copied-2.field-0 c.in_ok-copied-3.field-0 c.in_ok-copied-4.field-0 c.in_ok-copied-5.field-0 c.in_ok-of.field-0 c.in_ok-new.field-0 c.in_ok-of-3.field-0 in
     let moved : plan.after ≡ map (put_onto c.args.commit c.args.copy) events = c.requires.moved in
     on_ok c.insert_after.result _ _ (λ is.
     is ∙ ap (λ (p : Change). record p { after = put_after own made p.after }) c.in_ok-set_ops.ensures.ok
