@@ -5,6 +5,7 @@ pub mod JudgedLemmas
 pub mod LeavingLemmas
 pub mod MovingLemmas
 pub mod NearLemmas
+pub mod NearPlaces
 pub mod NodeLemmas
 pub mod Passes
 pub mod SettlingLemmas

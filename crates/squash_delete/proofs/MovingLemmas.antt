@@ -1,5 +1,5 @@
 -- How a plan goes on while commits take over what they do, and tags and resets move.
-use Rattle.std.proofs.Common.{◌≡◌, ◌∙◌, ℕ, zero, suc, ◌+◌, ◌≤◌, ◌<◌, Bool, true, false, cond, not, ◌||◌, ◌&&◌, List, [], ◌∷◌, ◌++◌, Option, Some, None, refl, sym, ap, subst, length, drop, take, map, filter, flat_map, append-nil, arith, true≢false, length-append}
+use Rattle.std.proofs.Common.{◌≡◌, ◌∙◌, ℕ, zero, suc, ◌+◌, ◌-◌, ◌≤◌, ◌<◌, Bool, true, false, cond, not, ◌||◌, ◌&&◌, List, [], ◌∷◌, ◌++◌, Option, Some, None, refl, sym, ap, subst, length, drop, take, map, filter, flat_map, append-nil, arith, true≢false, length-append}
 use Rattle.std.proofs.lemmas.Bool.{and_parts}
 use Rattle.std.proofs.lemmas.Bool.Decides.{nat_tests}
 use Rattle.std.proofs.lemmas.Option.{none-some, same_Some}
@@ -56,6 +56,18 @@ module _ (f : PlainEvent → ℕ) (count : List PlainEvent → ℕ) (counted : (
       let old = counted (take k es) in
       let new = counted (take (suc k) es) in
       omega arith
+
+  -- there are no fewer among more events
+  pub counted_later : (es : List PlainEvent) (a b : ℕ) → a ≤ b → b ≤ length es → count (take a es) ≤ count (take b es)
+  counted_later es a b low within = go (b - a) a (omega arith)
+    where
+      go : (n a : ℕ) → n + a ≡ b → count (take a es) ≤ count (take b es)
+      go zero a is = let same : a ≡ b = omega arith in subst (λ x. count (take a es) ≤ count (take x es)) same (omega arith)
+      go (suc n) a is =
+          let item = item_at es a (omega arith) in
+          let one = counted_more es a (count (take a es)) 0 item.0 item.1 (omega arith) (omega arith) in
+          let rest = go n (suc a) (omega arith) in
+          omega arith
 
   pub counted_passed : (most : ℕ) (es : List PlainEvent) (k total more : ℕ) (e : PlainEvent) → slice_get es k ≡ Some e → total ≤ count (take k es) → more ≤ f e →
       most < total + more → most < count es

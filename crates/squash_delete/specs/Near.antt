@@ -1,5 +1,5 @@
 -- The events near a set: those of it, and those that refer to one of its commits. The others stay as they are.
-use Rattle.std.specs.Prelude.{ℕ, ◌≡◌, Bool, true, false, ◌||◌, List, [], ◌∷◌, length, take, Some, slice_get, slice_index_or, if◌then◌else◌}
+use Rattle.std.specs.Prelude.{ℕ, ◌≡◌, ◌<◌, ◌≤◌, Bool, true, false, ◌||◌, List, [], ◌∷◌, length, take, Some, slice_get, slice_index_or, if◌then◌else◌}
 use Rattle.std.specs.List.{list_any}
 use Rattle.std.specs.Option.{option_map_or}
 use Rattle.plain_model.specs.declared.id.AnyId.{AnyId}
@@ -23,10 +23,35 @@ pub record AreNear (set : List AnyId) (events : List PlainEvent) (near : List Bo
   pub count : length near ≡ length events
   pub apart : (k : ℕ) (e : PlainEvent) → slice_get events k ≡ Some e → slice_index_or near k false ≡ false → is_near set e ≡ false
 
--- flags of the set, and of what is near
-pub record AreFlagged (set : List AnyId) (events : List PlainEvent) (flags near : List Bool) : Type 0 where
+-- the places rise
+abbrev pub AreRising : List ℕ → Type 0
+AreRising places = (i j : ℕ) → i ≤ j → j < length places → slice_index_or places i 0 ≤ slice_index_or places j 0
+
+-- the place is one of them
+abbrev pub IsOneOf : List ℕ → ℕ → Type 0
+IsOneOf places k = (i : ℕ) × (i < length places) × (slice_index_or places i 0 ≡ k)
+
+-- those that have a flag, and no others
+pub record ArePlacesOf (flags : List Bool) (places : List ℕ) : Type 0 where
+  pub rising : AreRising places
+  pub flagged : (i : ℕ) → i < length places → slice_index_or flags (slice_index_or places i 0) false ≡ true
+  pub all : (k : ℕ) → slice_index_or flags k false ≡ true → IsOneOf places k
+
+-- where an event is at none of the places, it isn't near
+pub record ArePlacesNear (set : List AnyId) (events : List PlainEvent) (places : List ℕ) : Type 0 where
+  pub rising : AreRising places
+  pub within : (i : ℕ) → i < length places → slice_index_or places i 0 < length events
+  pub apart : (k : ℕ) (e : PlainEvent) → slice_get events k ≡ Some e → ¬ IsOneOf places k → is_near set e ≡ false
+
+-- flags of the set, and the places of what is near
+pub record AreFlagged (set : List AnyId) (events : List PlainEvent) (flags : List Bool) (places : List ℕ) : Type 0 where
   pub own : FlagsOf events set flags
-  pub around : AreNear set events near
+  pub around : ArePlacesNear set events places
+
+-- no event of these places is near
+abbrev pub NoneNear : List AnyId → List PlainEvent → ℕ → ℕ → Type 0
+NoneNear set events from to =
+    (k : ℕ) (e : PlainEvent) → from ≤ k → k < to → slice_get events k ≡ Some e → is_near set e ≡ false
 
 -- the id, if it is that of a tag or a reset on a commit with a flag
 abbrev pub on_flagged : List Bool → List PlainEvent → AnyId → List AnyId

@@ -54,6 +54,13 @@ module _ (set : List AnyId) (events : List PlainEvent) where
       (par : List ℕ → List ℕ) (tags : Lean) (event : PlainEvent) → slice_get events place ≡ Some event →
       GoesOn par (takes set events (record { push = to; tags = tags })) place event old new count
 
+  -- nothing is pushed so to an event of these places
+  abbrev pub NoneTakes : Push → ℕ → ℕ → Type 0
+  NoneTakes to from until =
+      (par : List ℕ → List ℕ) (tags : Lean) →
+      taken_to set par (takes set events (record { push = to; tags = tags })) from events
+      ≡ taken_to set par (takes set events (record { push = to; tags = tags })) until events
+
   -- all have what they take over, or there are too many operations
   abbrev pub Ends : Takings → (List ℕ → List ℕ) → Bool → Change → Change → Bool → Type 0
   Ends taking par bounded start new true = new ≡ record start { after = map (with_takings par taking) (staying set taking events) }

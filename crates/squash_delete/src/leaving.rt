@@ -39,9 +39,6 @@ fn goes(removal: &Removal, targets: &[Option<CommitId>], place: usize) -> bool
     ensures { (takes : Takings) (event : _) → AreMoves removal.now.set takes.target removal.now.events targets.now →
         slice_get removal.now.events place ≡ Some event → result ≡ goes removal.now.set takes event }
 {
-    if !removal.is_near(place) {
-        return false;
-    }
     match removal.nth(place) {
         PlainEvent::Blob { .. } => false,
         _ => removal.has_at(place) || is_lost(removal, targets, place),
@@ -59,10 +56,13 @@ pub fn leaving(
         ids ≡ map id_of (filter (goes removal.now.set takes) removal.now.events)) }
 {
     let mut ids = IdList::new(alloc)?;
-    for place in 0..removal.count() {
+    let count = removal.count();
+    let mut place = removal.next_near(0);
+    while place < count {
         if goes(removal, targets, place) {
             ids.push(removal.nth(place).id())?;
         }
+        place = removal.next_near(place + 1);
     }
     Ok(ids)
 }

@@ -1,10 +1,10 @@
 //! What becomes of the events that stay, in a plan: what commits take over, and where tags and resets go.
-ghost use Rattle.std.specs.Prelude.{◌≡◌, ◌<◌, length, map, IfOk, IsSome, IsTrue, MatchOption, OnOk};
+ghost use Rattle.std.specs.Prelude.{◌≡◌, ◌<◌, ◌≤◌, length, map, IfOk, IsSome, IsTrue, MatchOption, OnOk};
 ghost use Rattle.event_arena.specs.Changes.{changed, has_target, with_comment, with_ops, with_target};
 ghost use Rattle.plain_model.specs.Lookups.{find_event, id_of};
 ghost use Rattle.plain_model.specs.declared.id.AnyId.TheVariants.{Commit};
 ghost use Rattle.squash_delete.specs.Leaving.{event_after, staying, with_takings};
-ghost use Rattle.squash_delete.specs.Sources.{AreSources, HasTakenOver, MovesOn, TakesFrom, TakesOver, push_of};
+ghost use Rattle.squash_delete.specs.Sources.{AreSources, HasTakenOver, MovesOn, NoneTakes, TakesFrom, TakesOver, push_of};
 ghost use Rattle.squash_delete.specs.Targets.{AreMoves};
 ghost use Rattle.squash_laws.specs.Removed.{Takings};
 ghost use Rattle.squash_laws.specs.declared.policy.Push.TheVariants.{Discard};
@@ -95,8 +95,7 @@ fn find_sources(alloc: Global, removal: &Removal, push: Push) -> Result<Option<S
     }
 }
 
-// Lets the event at a place take over what its sources have for it; answers how many operations it has then, or fewer: one
-// that takes over nothing isn't looked at.
+// Lets the event at a place take over what its sources have for it; answers how many operations it has then, or fewer.
 fn take_from(
     alloc: Global,
     removal: &Removal,
@@ -115,9 +114,6 @@ fn take_from(
     }
     match sources {
         Sources::Before(table) => {
-            if !removal.is_near(place) {
-                return Ok(0);
-            }
             let parents = event_parents(removal.nth(place));
             let before = carried(alloc, removal, table, parents)?;
             let anew = begins_anew(removal, table, parents);
@@ -136,6 +132,21 @@ fn take_from(
     }
 }
 
+// The next place, this one or a later one, of an event that may take over something; the end, where there is none. What is
+// pushed forward goes to near events alone.
+fn next_taking(removal: &Removal, sources: &Sources, place: usize) -> usize
+    requires { place ≤ length removal.now.events }
+    ensures later { place ≤ result }
+    ensures within { result ≤ length removal.now.events }
+    ensures apart { NoneTakes removal.now.set removal.now.events (push_of sources.now) place result }
+{
+    let _count = removal.count();
+    match sources {
+        Sources::Before(_) => removal.next_near(place),
+        Sources::After(_) => place,
+    }
+}
+
 // Lets all events take over what their sources have for them. Where that is bounded, it ends as soon as there are more
 // operations than a history may have, and answers false.
 fn take_all(
@@ -149,8 +160,10 @@ fn take_all(
     ensures { IfOk result (λ whole.
         HasTakenOver removal.now.set removal.now.events (push_of sources.now) bounded plan.old plan.new whole) }
 {
+    let end = removal.count();
     let mut total: u64 = 0;
-    for place in 0..removal.count() {
+    let mut place = next_taking(removal, sources, 0);
+    while place < end {
         let count = take_from(alloc, removal, plan, place, sources)?;
         if bounded {
             if MAX_OPERATIONS - total < count {
@@ -158,6 +171,7 @@ fn take_all(
             }
             total += count;
         }
+        place = next_taking(removal, sources, place + 1);
     }
     Ok(true)
 }
@@ -229,8 +243,11 @@ pub fn move_all(
           after = map (event_after par takes) (staying removal.now.set takes removal.now.events);
         }) }
 {
-    for place in 0..removal.count() {
+    let count = removal.count();
+    let mut place = removal.next_near(0);
+    while place < count {
         move_at(removal, plan, targets, place)?;
+        place = removal.next_near(place + 1);
     }
     Ok(())
 }

@@ -2,9 +2,9 @@
 ghost use Rattle.std.specs.Prelude.{
   ◌≡◌,
   ◌<◌,
+  ◌≤◌,
   ◌++◌,
   Some,
-  false,
   flat_map,
   length,
   slice_get,
@@ -16,7 +16,7 @@ ghost use Rattle.graph_walk.specs.Flags.{FlagsOf, is_flagged_commit};
 ghost use Rattle.plain_model.specs.Lookups.{find_event, id_of, is_listed, place_of};
 ghost use Rattle.plain_model.specs.Soundness.{IsSound};
 ghost use Rattle.plain_model.specs.declared.id.AnyId.TheVariants.{Commit};
-ghost use Rattle.squash_delete.specs.Near.{AreNear, is_near, is_on, on_flagged};
+ghost use Rattle.squash_delete.specs.Near.{AreNear, ArePlacesNear, ArePlacesOf, NoneNear, is_on, on_flagged};
 ghost use Rattle.squash_laws.specs.Removed.{is_removed};
 
 use crate::targets::target_of;
@@ -109,15 +109,42 @@ fn flags_near(
     flags_of(alloc, events, ids.as_slice())
 }
 
-/// A history and a set of its events, with a flag at the place of each event that is one of the set, and a flag at the
-/// places near it: of the set, of children of its commits, and of tags and resets on them. All others stay as they are, and
-/// aren't looked at.
+// The places that have a flag, in order.
+fn places_of(alloc: Global, flags: &[bool]) -> Result<Vec<usize>, NoMemory>
+    ensures { IfOk result (λ places. ArePlacesOf flags.now places.items) }
+{
+    let mut places = Vec::new(alloc);
+    for place in 0..flags.len() {
+        if flags[place] {
+            places.push(place)?;
+        }
+    }
+    Ok(places)
+}
+
+// The places of the events with these ids, and of those that refer to one of them, in order.
+fn places_near(
+    alloc: Global,
+    events: &Events,
+    set: &[AnyId],
+    flags: &[bool],
+) -> Result<Vec<usize>, NoMemory>
+    requires { FlagsOf events.now.list set.now flags.now }
+    ensures { IfOk result (λ places. ArePlacesNear set.now events.now.list places.items) }
+{
+    let near = flags_near(alloc, events, set, flags)?;
+    places_of(alloc, &near)
+}
+
+/// A history and a set of its events, with a flag at the place of each event that is one of the set, and the places near it,
+/// in order: of the set, of children of its commits, and of tags and resets on them. All others stay as they are, and aren't
+/// looked at.
 #[derive(Drop)]
 pub struct Removal<'a> {
     events: &'a Events,
     set: IdList,
     flags: Vec<bool>,
-    near: Vec<bool>,
+    near: Vec<usize>,
 }
 
 impl<'a> Model for Removal<'a> {
@@ -137,7 +164,7 @@ impl<'a> Removal<'a> {
         ensures set { IfOk result (λ made. made.set ≡ set.now) }
     {
         let flags = flags_of(alloc, events, set)?;
-        let near = flags_near(alloc, events, set, &flags)?;
+        let near = places_near(alloc, events, set, &flags)?;
         let set = IdList::of(alloc, set)?;
         Ok(Removal {
             events,
@@ -187,13 +214,19 @@ impl<'a> Removal<'a> {
         self.flags[place]
     }
 
-    /// Whether the event at a place may be one of the set or refer to one. Where the answer is no, it stays as it is.
-    pub fn is_near(&self, place: usize) -> bool
-        requires { place < length self.now.events }
-        ensures { (event : _) → slice_get self.now.events place ≡ Some event →
-            result ≡ false → is_near self.now.set event ≡ false }
+    /// The next place, this one or a later one, of an event that may be one of the set or refer to one; the end, where there
+    /// is none. Those between stay as they are.
+    pub fn next_near(&self, place: usize) -> usize
+        requires { place ≤ length self.now.events }
+        ensures later { place ≤ result }
+        ensures within { result ≤ length self.now.events }
+        ensures apart { NoneNear self.now.set self.now.events place result }
     {
-        self.near[place]
+        match self.near.binary_search(&place) {
+            Ok(_) => place,
+            Err(index) if index < self.near.len() => self.near[index],
+            Err(_) => self.events.count(),
+        }
     }
 
     /// The place of a commit.

@@ -4,7 +4,7 @@ ghost use Rattle.edit_laws.specs.Parts.{AreComplete};
 ghost use Rattle.edit_laws.specs.Settling.{is_ready, settle};
 ghost use Rattle.graph_walk.specs.Outcome.{IsCauseOf};
 ghost use Rattle.plain_model.specs.Lookups.{id_of, place_of};
-ghost use Rattle.squash_delete.specs.Near.{AreReadyNear, is_near};
+ghost use Rattle.squash_delete.specs.Near.{AreReadyNear};
 ghost use Rattle.squash_laws.specs.Removed.{without_set};
 ghost use Rattle.squash_laws.specs.Squash.{takes};
 
@@ -16,16 +16,13 @@ use plain_model::Halt;
 use squash_laws::{Policy, Push};
 use std::alloc::Global;
 
-// Whether what is left of the event at a place is after all that it refers to, if that event is near.
+// Whether what is left of the event at a place is after all that it refers to.
 fn is_settled_at(removal: &Removal, plan: &Plan, place: usize) -> bool
     requires { place < length removal.now.events }
-    ensures { (event left : _) (at : _) → slice_get removal.now.events place ≡ Some event → is_near removal.now.set event ≡ true →
+    ensures { (event left : _) (at : _) → slice_get removal.now.events place ≡ Some event →
         place_of (id_of event) plan.now.after ≡ Some at → slice_get plan.now.after at ≡ Some left →
         result ≡ true → is_ready (take at plan.now.after) left ≡ true }
 {
-    if !removal.is_near(place) {
-        return true;
-    }
     let _count = removal.count();
     match plan.place(removal.nth(place).id()) {
         Some(at) => is_ready_at(plan, at),
@@ -37,10 +34,13 @@ fn is_settled_at(removal: &Removal, plan: &Plan, place: usize) -> bool
 fn are_near_settled(removal: &Removal, plan: &Plan) -> bool
     ensures { result ≡ true → AreReadyNear removal.now.set removal.now.events plan.now.after }
 {
-    for place in 0..removal.count() {
+    let count = removal.count();
+    let mut place = removal.next_near(0);
+    while place < count {
         if !is_settled_at(removal, plan, place) {
             return false;
         }
+        place = removal.next_near(place + 1);
     }
     true
 }

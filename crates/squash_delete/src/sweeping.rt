@@ -74,10 +74,13 @@ fn named_by_removed(alloc: Global, removal: &Removal, plan: &Plan) -> Result<Vec
         (filter (λ event. is_listed (id_of event) removal.now.set) removal.now.events) flags.items) }
 {
     let mut flags = vec![in alloc; false; plan.count()]?;
-    for place in 0..removal.count() {
+    let count = removal.count();
+    let mut place = removal.next_near(0);
+    while place < count {
         if removal.has_at(place) {
             flag_blobs(plan, event_ops(removal.nth(place)), &mut flags);
         }
+        place = removal.next_near(place + 1);
     }
     Ok(flags)
 }
@@ -97,12 +100,12 @@ fn flag_event(plan: &Plan, id: AnyId, flags: &mut [bool])
 fn named_near(alloc: Global, removal: &Removal, plan: &Plan) -> Result<Vec<bool>, NoMemory>
     ensures { IfOk result (λ flags. FlagsSome plan.now.after flags.items) }
 {
-    let _count = removal.count();
     let mut flags = vec![in alloc; false; plan.count()]?;
-    for place in 0..removal.count() {
-        if removal.is_near(place) {
-            flag_event(plan, removal.nth(place).id(), &mut flags);
-        }
+    let count = removal.count();
+    let mut place = removal.next_near(0);
+    while place < count {
+        flag_event(plan, removal.nth(place).id(), &mut flags);
+        place = removal.next_near(place + 1);
     }
     Ok(flags)
 }

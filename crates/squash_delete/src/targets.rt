@@ -57,9 +57,6 @@ pub fn lost_at(removal: &Removal, place: usize) -> Option<CommitId>
     ensures { (event : _) → slice_get removal.now.events place ≡ Some event →
         result ≡ lost_target removal.now.set event }
 {
-    if !removal.is_near(place) {
-        return None;
-    }
     let _count = removal.count();
     let target = target_of(removal.nth(place))?;
     if removal.has(target) {
@@ -73,10 +70,13 @@ pub fn lost_at(removal: &Removal, place: usize) -> Option<CommitId>
 fn is_any_lost(removal: &Removal) -> bool
     ensures { result ≡ list_any (λ e. is_some (lost_target removal.now.set e)) removal.now.events }
 {
-    for place in 0..removal.count() {
+    let count = removal.count();
+    let mut place = removal.next_near(0);
+    while place < count {
         if lost_at(removal, place).is_some() {
             return true;
         }
+        place = removal.next_near(place + 1);
     }
     false
 }

@@ -1,11 +1,6 @@
 use Rattle.std.proofs.Common.{◌∙◌, sym}
-use Rattle.squash_delete.proofs.NearLemmas.{apart_stays, is_apart, lost_goes}
+use Rattle.squash_delete.proofs.NearLemmas.{lost_goes}
 use Rattle.squash_delete.proofs.leaving.goes.Goals as goal
-
-pub returns-then-not-is_near : goal.returns-then-not-is_near
-returns-then-not-is_near c takes event t at =
-    let set = c.args.removal.now.set in
-    sym (apart_stays set takes t.stays event (is_apart set event (c.is_near.ensures event at c.if-not-is_near.true)))
 
 pub returns-else-has_at : goal.returns-else-has_at
 returns-else-has_at c takes event t at =

@@ -1,4 +1,4 @@
-use Rattle.std.proofs.Common.{◌≡◌, filter, map, take}
+use Rattle.std.proofs.Common.{◌≡◌, ◌≤◌, ◌-◌, filter, length, map, take}
 use Rattle.plain_model.specs.Lookups.{id_of}
 use Rattle.squash_delete.specs.Leaving.{goes}
 use Rattle.squash_delete.specs.Targets.{AreMoves}
@@ -6,5 +6,11 @@ use Rattle.squash_laws.specs.Removed.{Takings}
 use Rattle.squash_delete.proofs.leaving.leaving.Given as goal
 
 abbrev pub invariant-loop-place : goal.invariant-loop-place
-invariant-loop-place l = (takes : Takings) → AreMoves l.removal.set takes.target l.removal.events l.targets →
-    l.ids ≡ map id_of (filter (goes l.removal.set takes) (take l.place l.removal.events))
+invariant-loop-place l = record {
+  within : l.place ≤ length l.removal.events;
+  going : (takes : Takings) → AreMoves l.removal.set takes.target l.removal.events l.targets →
+      l.ids ≡ map id_of (filter (goes l.removal.set takes) (take l.place l.removal.events));
+}
+
+abbrev pub decreases-loop-place : goal.decreases-loop-place
+decreases-loop-place l = length l.removal.events - l.place

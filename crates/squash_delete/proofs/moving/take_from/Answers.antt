@@ -13,8 +13,7 @@ use Rattle.squash_laws.specs.declared.policy.Push.TheVariants as push
 use Rattle.squash_delete.specs.Sources.{AreSources, TakesFrom, push_of}
 use Rattle.squash_delete.specs.declared.moving.Sources.{Sources}
 use Rattle.squash_delete.proofs.ChainLemmas.{all_before}
-use Rattle.squash_delete.proofs.MovingLemmas.{apart_taken, back_taken, forward_taken, gone_taken, le_is}
-use Rattle.squash_delete.proofs.NearLemmas.{is_apart}
+use Rattle.squash_delete.proofs.MovingLemmas.{back_taken, forward_taken, gone_taken, le_is}
 use Rattle.squash_delete.proofs.NodeLemmas.{parents_there}
 use Rattle.squash_delete.proofs.WayLemmas.{removed_at}
 use Rattle.squash_delete.proofs.moving.take_from.Goals as goal
@@ -25,17 +24,6 @@ returns-then-has_at c par tags event at start was =
     let set = c.args.removal.now.set in
     let n = gone_taken set events c.count-count.ensures.sound par (takes set events (record { push = push_of c.args.sources.now; tags = tags })) c.args.place event at (sym (c.has_at.ensures event at) ∙ c.if-has_at.true) in
     (was ∙ ap (λ (es : List PlainEvent). record start { after = es }) n.0, le_is _ _ n.1)
-
-pub returns-then-not-is_near : goal.returns-then-not-is_near
-returns-then-not-is_near c =
-    let events = c.args.removal.now.events in
-    let set = c.args.removal.now.set in
-    subst (λ (s : Sources). TakesFrom set events (push_of s) c.args.place c.args.plan.now c.args.plan.now 0) (sym c.in-Before.is)
-    (λ par tags event at start was. (
-      was ∙ ap (λ (es : List PlainEvent). record start { after = es })
-          (apart_taken set events c.count-count.ensures.sound par tags c.args.place event at (is_apart set event (c.is_near.ensures event at c.if-not-is_near.true)).parents),
-      omega arith,
-    ))
 
 pub carried-requires-clause-before : goal.carried-requires-clause-before
 carried-requires-clause-before c =

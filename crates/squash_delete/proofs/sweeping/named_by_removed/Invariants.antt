@@ -1,7 +1,13 @@
-use Rattle.std.proofs.Common.{filter, take}
+use Rattle.std.proofs.Common.{◌≤◌, ◌-◌, filter, length, take}
 use Rattle.plain_model.specs.Lookups.{id_of, is_listed}
 use Rattle.squash_delete.specs.Flags.{FlagsNamed}
 use Rattle.squash_delete.proofs.sweeping.named_by_removed.Given as goal
 
 abbrev pub invariant-loop-place : goal.invariant-loop-place
-invariant-loop-place l = FlagsNamed l.plan.after (filter (λ e. is_listed (id_of e) l.removal.set) (take l.place l.removal.events)) l.flags.items
+invariant-loop-place l = record {
+  within : l.place ≤ length l.removal.events;
+  named : FlagsNamed l.plan.after (filter (λ e. is_listed (id_of e) l.removal.set) (take l.place l.removal.events)) l.flags.items;
+}
+
+abbrev pub decreases-loop-place : goal.decreases-loop-place
+decreases-loop-place l = length l.removal.events - l.place

@@ -1,5 +1,12 @@
+use Rattle.std.proofs.Common.{◌≤◌, ◌-◌, length}
 use Rattle.squash_delete.specs.Flags.{FlagsSome}
 use Rattle.squash_delete.proofs.sweeping.named_near.Given as goal
 
 abbrev pub invariant-loop-place : goal.invariant-loop-place
-invariant-loop-place l = FlagsSome l.plan.after l.flags.items
+invariant-loop-place l = record {
+  within : l.place ≤ length l.removal.events;
+  some : FlagsSome l.plan.after l.flags.items;
+}
+
+abbrev pub decreases-loop-place : goal.decreases-loop-place
+decreases-loop-place l = length l.removal.events - l.place
