@@ -1,5 +1,6 @@
 pub mod Answered
 pub mod ChainLemmas
+pub mod EntryLemmas
 pub mod HangLemmas
 pub mod JudgedLemmas
 pub mod LeavingLemmas

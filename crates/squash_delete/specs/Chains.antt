@@ -1,6 +1,7 @@
 -- The removed commits before a commit, by first parents, of which those without operations and comment are passed over.
-use Rattle.std.specs.Prelude.{ℕ, ◌≡◌, ◌≤◌, false, List, [], ◌∷◌, ◌++◌, length, map, flat_map, take, Option, Some, None, unwrap_or}
+use Rattle.std.specs.Prelude.{ℕ, suc, ◌≡◌, ◌<◌, ◌≤◌, ◌==◌, false, List, [], ◌∷◌, ◌++◌, length, map, flat_map, take, Option, Some, None, unwrap_or, slice_get, slice_index_or, if◌then◌else◌}
 use Rattle.std.specs.List.{AllByRecursion}
+use Rattle.std.specs.List.Sorted.{IsNonDecreasingBy}
 use Rattle.std.specs.Option.{option_map_or}
 use Rattle.plain_model.specs.declared.id.AnyId.{AnyId}
 use Rattle.plain_model.specs.declared.id.AnyId.TheVariants as any
@@ -16,8 +17,8 @@ use Rattle.manifest_cache.specs.Walks.{commit_id, ops_at}
 use Rattle.squash_laws.specs.Comments.{comment_of, joined}
 use Rattle.squash_laws.specs.Removed.{is_removed}
 use Rattle.squash_laws.specs.Squash.{comments_of, is_from_root, is_none, links}
+use Rattle.squash_delete.specs.declared.chains.Entry.{Entry}
 use Rattle.squash_delete.specs.declared.chains.Link.{Link}
-use Rattle.squash_delete.specs.Tables.{IsTableTo}
 
 -- the parents of the commit with the id
 abbrev pub parents_at : List PlainEvent → ℕ → List ℕ
@@ -34,6 +35,27 @@ AreBefore events k commits = AllByRecursion (IsCommitOf (take k events)) commits
 -- nothing is noted of a commit that stays
 abbrev pub no_link : Link
 no_link = record { nearest = None; from_root = false; is_over = false }
+
+-- what entries note at a place
+abbrev pub noted_at : List Entry → ℕ → Link
+noted_at [] k = no_link
+noted_at (entry ∷ entries) k = if entry.place == k then entry.link else noted_at entries k
+
+-- what is noted of the first events, so many of them
+pub record Noted : Type 0 where
+  pub count : ℕ
+  pub entries : List Entry
+
+-- the places of entries rise, and are among so many
+pub record AreEntries (count : ℕ) (entries : List Entry) : Type 0 where
+  pub rising : IsNonDecreasingBy (λ (entry : Entry). entry.place) entries
+  pub below : (i : ℕ) (default : Entry) → i < length entries → (slice_index_or entries i default).place < count
+
+-- a link is noted of one event more
+pub record NotesNext (old : Noted) (link : Link) (new : Noted) : Type 0 where
+  pub count : new.count ≡ suc old.count
+  pub next : noted_at new.entries old.count ≡ link
+  pub same : (k : ℕ) → k < old.count → noted_at new.entries k ≡ noted_at old.entries k
 
 module _ (set : List AnyId) (events : List PlainEvent) where
   -- what a removed commit brings along: first what those before it bring
@@ -62,8 +84,8 @@ module _ (set : List AnyId) (events : List PlainEvent) where
   LinkIs e link = (c : ℕ) → commit_id e ≡ Some c → Notes c link
 
   -- notes of the first commits
-  abbrev pub AreLinks : List Link → Type 0
-  AreLinks table = IsTableTo no_link LinkIs events (length table) table
+  abbrev pub AreLinks : Noted → Type 0
+  AreLinks noted = (k : ℕ) (e : PlainEvent) → slice_get events k ≡ Some e → k < noted.count → LinkIs e (noted_at noted.entries k)
 
   -- these commits, the oldest first, have the operations and comments of the removed ones before a commit with these parents
   pub record Carry (parents commits : List ℕ) : Type 0 where

@@ -28,7 +28,7 @@ count_ops events = length (ops_along (nodes events))
 module _ (set : List AnyId) (events : List PlainEvent) where
   -- the table is one of this history
   abbrev pub AreSources : Sources → Type 0
-  AreSources (Before table) = (length table.items ≡ length events) × AreLinks set events table.items
+  AreSources (Before table) = (table.count ≡ length events) × AreLinks set events table
   AreSources (After rows) = AreHung set events rows.items
 
   -- an event that is no removed commit

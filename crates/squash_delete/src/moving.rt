@@ -9,7 +9,7 @@ ghost use Rattle.squash_delete.specs.Targets.{AreMoves};
 ghost use Rattle.squash_laws.specs.Removed.{Takings};
 ghost use Rattle.squash_laws.specs.declared.policy.Push.TheVariants.{Discard};
 
-use crate::chains::{Link, begins_anew, carried, links};
+use crate::chains::{LinkTable, begins_anew, carried, links};
 use crate::hangings::{Hangings, hangings};
 use crate::removal::Removal;
 use crate::taking::{Taking, comment_taken, ops_taken};
@@ -79,7 +79,7 @@ fn take(
 /// them.
 #[derive(Drop)]
 pub enum Sources {
-    Before(Vec<Link>),
+    Before(LinkTable),
     After(Hangings),
 }
 

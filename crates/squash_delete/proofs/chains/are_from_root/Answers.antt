@@ -1,11 +1,11 @@
-use Rattle.std.proofs.Common.{◌∙◌, length, sym, take}
+use Rattle.std.proofs.Common.{◌∙◌, sym, take}
 use Rattle.plain_model.specs.Soundness.{IsCommitOf}
 use Rattle.squash_delete.proofs.ChainLemmas.{first_of, root_none, root_some}
 use Rattle.squash_delete.proofs.chains.are_from_root.Goals as goal
 
 pub link_of-requires-clause-earlier : goal.link_of-requires-clause-earlier
 link_of-requires-clause-earlier c =
-    first_of (IsCommitOf (take (length c.args.table.now) c.args.removal.now.events)) c.args.parents.now c.in-Some.parent.now (sym c.in-Some.ensures.value) c.requires.before
+    first_of (IsCommitOf (take c.args.table.now.count c.args.removal.now.events)) c.args.parents.now c.in-Some.parent.now (sym c.in-Some.ensures.value) c.requires.before
 
 pub returns-in-Some : goal.returns-in-Some
 returns-in-Some c =

@@ -1,4 +1,4 @@
-use Rattle.std.proofs.Common.{length, subst, sym}
+use Rattle.std.proofs.Common.{subst, sym}
 use Rattle.squash_delete.proofs.ChainLemmas.{IsOnTheWay, way_begins}
 use Rattle.squash_delete.proofs.chains.carried.Goals as goal
 
@@ -8,4 +8,4 @@ loop-at-init c =
     let set = c.args.removal.now.set in
     let ps = c.args.parents.now in
     subst (IsOnTheWay set events ps c.nearest-at.result) (sym c.new-commits.ensures.items)
-    (way_begins set events (length c.args.table.now) ps c.nearest-at.result (c.nearest-at.ensures (length c.args.table.now) c.requires.before))
+    (way_begins set events c.args.table.now.count ps c.nearest-at.result (c.nearest-at.ensures c.args.table.now.count c.requires.before))

@@ -1,4 +1,4 @@
-use Rattle.std.proofs.Common.{length, subst, sym, take}
+use Rattle.std.proofs.Common.{subst, sym, take}
 use Rattle.plain_model.specs.Soundness.{IsCommitOf}
 use Rattle.event_arena.proofs.SoundLemmas.{sound-once}
 use Rattle.squash_delete.specs.Chains.{IsNearest, depth}
@@ -13,7 +13,7 @@ returns-in_err-parent c most before =
 
 pub link_of-requires-clause-earlier : goal.link_of-requires-clause-earlier
 link_of-requires-clause-earlier c =
-    first_of (IsCommitOf (take (length c.args.table.now) c.args.removal.now.events)) c.args.parents.now c.in_ok-parent.parent.now (sym c.in_ok-parent.ensures.value) c.requires.before
+    first_of (IsCommitOf (take c.args.table.now.count c.args.removal.now.events)) c.args.parents.now c.in_ok-parent.parent.now (sym c.in_ok-parent.ensures.value) c.requires.before
 
 pub returns : goal.returns
 returns c most before =

@@ -1,4 +1,4 @@
-use Rattle.std.proofs.Common.{◌≡◌, ◌∙◌, ◌-◌, [], Some, None, length, ap, refl, subst, sym, arith}
+use Rattle.std.proofs.Common.{◌≡◌, ◌∙◌, ◌-◌, [], Some, None, ap, refl, subst, sym, arith}
 use Rattle.std.specs.List.{AllByRecursion}
 use Rattle.std.specs.Option.{option_map_or}
 use Rattle.std.specs.Prelude.{IsSome}
@@ -18,7 +18,7 @@ nearest-requires-clause-before c =
     let e = c.in-Some.event.now in
     let found : find_event (any.Commit c.args.commit) events ≡ Some e = sym (c.in-Some.ensures ∙ ap (find_event (any.Commit c.args.commit)) c.events.ensures) in
     let a = found_at events sound c.args.commit e found in
-    all_before events (length c.args.table.now) (let count = c.requires.count in omega arith) c.event_parents.result.now
+    all_before events c.args.table.now.count (let count = c.requires.count in omega arith) c.event_parents.result.now
     (subst (AllByRecursion (λ p. IsSome (find_event (any.Commit p) events))) (sym c.event_parents.ensures) (parents_there events sound a.place e a.at))
 
 pub returns-in-Some : goal.returns-in-Some

@@ -1,4 +1,4 @@
-use Rattle.std.proofs.Common.{◌≡◌, ◌∙◌, [], List, length, get_or, arith, ap, subst, sym}
+use Rattle.std.proofs.Common.{◌≡◌, ◌∙◌, [], List, get_or, arith, ap, subst, sym}
 use Rattle.std.proofs.lemmas.List.{get_or_read}
 use Rattle.std.specs.List.{AllByRecursion}
 use Rattle.std.specs.Prelude.{IsSome}
@@ -29,16 +29,16 @@ pub carried-requires-clause-before : goal.carried-requires-clause-before
 carried-requires-clause-before c =
     let events = c.args.removal.now.events in
     let src = subst (AreSources c.args.removal.now.set events) c.in-Before.is c.requires.sources in
-    let whole = ap length c.deref.ensures.value ∙ src.0 in
-    all_before events (length c.deref.result.now) (omega arith) c.event_parents-parents.result.now
+    let whole = src.0 in
+    all_before events c.in-Before.table.count (omega arith) c.event_parents-parents.result.now
     (subst (AllByRecursion (λ p. IsSome (find_event (any.Commit p) events))) (sym c.event_parents-parents.ensures) (parents_there events c.count-count.ensures.sound c.args.place c.nth.result.now c.nth.ensures.event))
 
 pub begins_anew-anew-requires-clause-before : goal.begins_anew-anew-requires-clause-before
 begins_anew-anew-requires-clause-before c =
     let events = c.args.removal.now.events in
     let src = subst (AreSources c.args.removal.now.set events) c.in-Before.is c.requires.sources in
-    let whole = ap length c.deref-in-Before.ensures.value ∙ src.0 in
-    all_before events (length c.deref-in-Before.result.now) (omega arith) c.event_parents-parents.result.now
+    let whole = src.0 in
+    all_before events c.in-Before.table.count (omega arith) c.event_parents-parents.result.now
     (subst (AllByRecursion (λ p. IsSome (find_event (any.Commit p) events))) (sym c.event_parents-parents.ensures) (parents_there events c.count-count.ensures.sound c.args.place c.nth.result.now c.nth.ensures.event))
 
 pub returns-in_ok-before-in-Before : goal.returns-in_ok-before-in-Before
@@ -53,7 +53,7 @@ returns-in_ok-before-in-Before c =
     (λ own is. sym (removed_at set own event c.has_at.result is (c.has_at.ensures event at)) ∙ c.if-has_at.false)
     (forward_taken set events tags c.new.result event c.in_ok-before-in-Before.before.items c.event_parents-parents.result.now c.begins_anew-anew.result
     c.in_ok-before-in-Before.ensures c.begins_anew-anew.ensures (c.event_parents-parents.ensures ∙ ap event_parents (sym same))
-    c.new.ensures.anew (c.new.ensures.before ∙ c.deref-in-Before-2.ensures.value) c.new.ensures.after)
+    c.new.ensures.anew (c.new.ensures.before ∙ c.deref.ensures.value) c.new.ensures.after)
     start was)) c.take.ensures
 
 pub returns-in-After : goal.returns-in-After
