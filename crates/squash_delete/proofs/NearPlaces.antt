@@ -16,14 +16,14 @@ use Rattle.edit_laws.specs.Settling.{is_ready}
 use Rattle.event_arena.specs.Graphs.{Change}
 use Rattle.graph_walk.proofs.PlaceLemmas.{item_at}
 use Rattle.squash_laws.specs.Removed.{Takings}
-use Rattle.squash_delete.specs.Flags.{FlagsNamed}
+use Rattle.squash_delete.specs.Flags.{FlagsAll, FlagsNamed}
 use Rattle.squash_delete.specs.Leaving.{goes, staying, with_takings}
 use Rattle.squash_delete.specs.Near.{AreNear, ArePlacesNear, ArePlacesOf, AreRising, IsOneOf, NoneNear, is_near}
 use Rattle.squash_delete.specs.Passes.{moved_to}
 use Rattle.squash_delete.specs.Targets.{AreMoves, lost_target}
 use Rattle.squash_delete.proofs.MovingLemmas.{apart_moved}
 use Rattle.squash_delete.proofs.NearLemmas.{apart_stays, is_apart, none_so_far}
-use Rattle.squash_delete.proofs.SweepLemmas.{filtered_same, passing_item}
+use Rattle.squash_delete.proofs.SweepLemmas.{filter_out, filtered_same, passing_item}
 
 -- ---- places that aren't near
 
@@ -232,3 +232,10 @@ module _ (set : List AnyId) (events : List PlainEvent) where
   named_over after flags a b low within none =
       over_apart (λ k. FlagsNamed after (filter (λ x. is_listed (id_of x) set) (take k events)) flags) set events a b low within none (λ k e at far so.
       filtered_same (λ x. is_listed (id_of x) set) after events k e flags at (is_apart set e far).own so)
+
+  pub flagged_over : (after : List PlainEvent) (flags : List Bool) (a b : ℕ) → a ≤ b → b ≤ length events → NoneNear set events a b →
+      FlagsAll after (filter (λ x. is_listed (id_of x) set) (take a events)) flags →
+      FlagsAll after (filter (λ x. is_listed (id_of x) set) (take b events)) flags
+  flagged_over after flags a b low within none =
+      over_apart (λ k. FlagsAll after (filter (λ x. is_listed (id_of x) set) (take k events)) flags) set events a b low within none (λ k e at far so.
+      subst (λ es. FlagsAll after es flags) (sym (filter_out (λ x. is_listed (id_of x) set) events k e at (is_apart set e far).own)) so)

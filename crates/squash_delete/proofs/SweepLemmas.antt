@@ -21,7 +21,7 @@ use Rattle.event_arena.proofs.SpentLemmas.{absent-cons}
 use Rattle.edit_laws.specs.Sweeping.{is_left_over, is_named, swept}
 use Rattle.graph_walk.proofs.FlagLemmas.{no_flag}
 use Rattle.graph_walk.proofs.PlaceLemmas.{one_place, place_found, place_within}
-use Rattle.squash_delete.specs.Flags.{AreCandidates, FlagsAdd, FlagsNamed, FlagsSome, KeepNames, event_blobs}
+use Rattle.squash_delete.specs.Flags.{AreCandidates, FlagsAdd, FlagsAll, FlagsIds, FlagsNamed, FlagsSome, KeepNames, event_blobs}
 use Rattle.squash_delete.proofs.Passes.{filter_append}
 
 -- ---- flags that are added
@@ -212,17 +212,57 @@ removed_candidates ids old new flags keep f = record {
       ];
 }
 
--- where each of them is named after, none is left over
-pub none_over : (old new : List PlainEvent) (before near : List Bool) → AreCandidates old new before → FlagsSome new near →
-    ((k : ℕ) → get_or before k false ≡ true → get_or near k false ≡ true) → swept old new ≡ new
-none_over old new before near b s all = kept new (λ k e at. false_from_ne_true (is_left_over old new e) (λ t.
-    true≢false (sym (s.flag k e at (all k (b.over k e at t))) ∙ (over_parts old new e t).1)))
+-- where each of them has a flag, and what has one is named after, none is left over
+pub none_over : (ids : List AnyId) (old new : List PlainEvent) (near : List Bool) → KeepNames ids old new →
+    FlagsAll new (filter (λ e. is_listed (id_of e) ids) old) near → FlagsSome new near → swept old new ≡ new
+none_over ids old new near keep all some = kept new (λ k e at. false_from_ne_true (is_left_over old new e) (λ t.
+    let parts = over_parts old new e t in
+    elim (any_either (λ d. is_listed (id_of e) (event_blobs d)) (λ d. is_listed (id_of d) ids) old parts.0) [
+      | inl named ↦ true≢false (sym (some.flag k e at (all k e at named)) ∙ parts.1)
+      | inr o ↦ true≢false (sym (keep o.place o.event (id_of e) o.at o.out o.passes) ∙ parts.1)
+    ]))
   where
     kept : (es : List PlainEvent) → ((k : ℕ) (e : PlainEvent) → slice_get es k ≡ Some e → is_left_over old new e ≡ false) → filter (λ e. not (is_left_over old new e)) es ≡ es
     kept [] h = refl
     kept (e ∷ es) h =
         ap (λ b. cond (not b) (e ∷ filter (λ x. not (is_left_over old new x)) es) (filter (λ x. not (is_left_over old new x)) es)) (h 0 e refl)
         ∙ ap (λ xs. e ∷ xs) (kept es (λ k d at. h (suc k) d at))
+
+-- ---- flags of all that is named
+
+pub flags_none : (events : List PlainEvent) (flags : List Bool) → FlagsAll events [] flags
+flags_none events flags k e at named = absurd (true≢false (sym named))
+
+-- an id more, whose event has a flag, if it is there
+pub ids_push : (events : List PlainEvent) (ids : List AnyId) (own : AnyId) (flags : List Bool) → AreDistinct events → FlagsIds events ids flags →
+    ((k : ℕ) → place_of own events ≡ Some k → get_or flags k false ≡ true) → FlagsIds events (ids ++ own ∷ []) flags
+ids_push events ids own flags once so is k e at listed = elim (or_cases (is_listed (id_of e) ids) (is_listed (id_of e) (own ∷ [])) (sym (list_any-append (same_id (id_of e)) ids (own ∷ [])) ∙ listed)) [
+  | inl before ↦ so k e at before
+  | inr now ↦
+      let same = same_id-true (id_of e) own (sym (or-false (same_id (id_of e) own)) ∙ now) in
+      is k (ap (λ id. place_of id events) (sym same) ∙ (place_found events k e at once).0)
+]
+
+-- an event more, which passes or doesn't
+pub filter_in : (p : PlainEvent → Bool) (es : List PlainEvent) (k : ℕ) (e : PlainEvent) → slice_get es k ≡ Some e → p e ≡ true →
+    filter p (take (suc k) es) ≡ filter p (take k es) ++ e ∷ []
+filter_in p es k e at it =
+    ap (filter p) (take-item es k e at) ∙ filter_append p (take k es) (e ∷ []) ∙ ap (λ b. filter p (take k es) ++ cond b (e ∷ []) []) it
+
+pub filter_out : (p : PlainEvent → Bool) (es : List PlainEvent) (k : ℕ) (e : PlainEvent) → slice_get es k ≡ Some e → p e ≡ false →
+    filter p (take (suc k) es) ≡ filter p (take k es)
+filter_out p es k e at out =
+    ap (filter p) (take-item es k e at) ∙ filter_append p (take k es) (e ∷ []) ∙ ap (λ b. filter p (take k es) ++ cond b (e ∷ []) []) out
+    ∙ append-nil (filter p (take k es))
+
+pub flags_push : (events named : List PlainEvent) (d : PlainEvent) (flags : List Bool) → FlagsAll events named flags → FlagsIds events (event_blobs d) flags →
+    FlagsAll events (named ++ d ∷ []) flags
+flags_push events named d flags so own k e at listed =
+    elim (or_cases (list_any (λ x. is_listed (id_of e) (event_blobs x)) named) (list_any (λ x. is_listed (id_of e) (event_blobs x)) (d ∷ []))
+    (sym (list_any-append (λ x. is_listed (id_of e) (event_blobs x)) named (d ∷ [])) ∙ listed)) [
+      | inl before ↦ so k e at before
+      | inr now ↦ own k e at (sym (or-false (is_listed (id_of e) (event_blobs d))) ∙ now)
+    ]
 
 -- ---- flags of some of what is named
 
@@ -255,7 +295,7 @@ filtered_more p events named j d old new at it f a = record {
   count = a.count ∙ f.count;
   flag = λ k e here.
       a.more k e here ∙ ap (λ b. b || is_listed (id_of e) (event_blobs d)) (f.flag k e here)
-      ∙ sym (ap (list_any (λ x. is_listed (id_of e) (event_blobs x))) (ap (filter p) (take-item named j d at) ∙ filter_append p (take j named) (d ∷ []) ∙ ap (λ b. filter p (take j named) ++ cond b (d ∷ []) []) it)
+      ∙ sym (ap (list_any (λ x. is_listed (id_of e) (event_blobs x))) (filter_in p named j d at it)
       ∙ list_any-append (λ x. is_listed (id_of e) (event_blobs x)) (filter p (take j named)) (d ∷ [])
       ∙ ap (λ b. list_any (λ x. is_listed (id_of e) (event_blobs x)) (filter p (take j named)) || b) (or-false (is_listed (id_of e) (event_blobs d))));
 }
@@ -264,7 +304,7 @@ pub filtered_same : (p : PlainEvent → Bool) (events named : List PlainEvent) (
     FlagsNamed events (filter p (take j named)) flags → FlagsNamed events (filter p (take (suc j) named)) flags
 filtered_same p events named j d flags at out f =
     subst (λ es. FlagsNamed events es flags)
-    (sym (ap (filter p) (take-item named j d at) ∙ filter_append p (take j named) (d ∷ []) ∙ ap (λ b. filter p (take j named) ++ cond b (d ∷ []) []) out ∙ append-nil (filter p (take j named)))) f
+    (sym (filter_out p named j d at out)) f
 
 -- ---- without them
 

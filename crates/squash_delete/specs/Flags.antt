@@ -29,6 +29,17 @@ pub record FlagsSome (events : List PlainEvent) (flags : List Bool) : Type 0 whe
   pub flag : (k : ℕ) (e : PlainEvent) → slice_get events k ≡ Some e → slice_index_or flags k false ≡ true →
       list_any (λ d. is_listed (id_of e) (event_blobs d)) events ≡ true
 
+-- each event with one of these ids has a flag
+abbrev pub FlagsIds : List PlainEvent → List AnyId → List Bool → Type 0
+FlagsIds events ids flags =
+    (k : ℕ) (e : PlainEvent) → slice_get events k ≡ Some e → is_listed (id_of e) ids ≡ true → slice_index_or flags k false ≡ true
+
+-- each event that operations of a list name has one
+abbrev pub FlagsAll : List PlainEvent → List PlainEvent → List Bool → Type 0
+FlagsAll events named flags =
+    (k : ℕ) (e : PlainEvent) → slice_get events k ≡ Some e → list_any (λ d. is_listed (id_of e) (event_blobs d)) named ≡ true →
+    slice_index_or flags k false ≡ true
+
 -- what has a flag was named before, and each blob that is left over has one
 pub record AreCandidates (old new : List PlainEvent) (flags : List Bool) : Type 0 where
   pub count : length flags ≡ length new

@@ -21,7 +21,7 @@ ghost use Rattle.std.specs.Prelude.{
 };
 ghost use Rattle.edit_laws.specs.Sweeping.{is_left_over, swept};
 ghost use Rattle.plain_model.specs.Lookups.{id_of, is_listed, op_blobs};
-ghost use Rattle.squash_delete.specs.Flags.{AreCandidates, FlagsAdd, FlagsNamed, FlagsSome, KeepNames, event_blobs};
+ghost use Rattle.squash_delete.specs.Flags.{AreCandidates, FlagsAdd, FlagsAll, FlagsIds, FlagsNamed, FlagsSome, KeepNames};
 
 use crate::removal::Removal;
 use event_arena::Plan;
@@ -110,15 +110,37 @@ fn named_near(alloc: Global, removal: &Removal, plan: &Plan) -> Result<Vec<bool>
     Ok(flags)
 }
 
-// Whether each place that has one flag has the other.
-fn are_all_among(few: &[bool], many: &[bool]) -> bool
-    requires { length few.now ≡ length many.now }
-    ensures { result ≡ true → (k : _) → slice_index_or few.now k false ≡ true → slice_index_or many.now k false ≡ true }
+// Whether the blobs that operations name have flags, where the list after has them.
+fn are_flagged(plan: &Plan, ops: &[FileOp], flags: &[bool]) -> bool
+    requires { length flags.now ≡ length plan.now.after }
+    ensures { result ≡ true → FlagsIds plan.now.after (flat_map op_blobs ops.now) flags.now }
 {
-    for place in 0..few.len() {
-        if few[place] && !many[place] {
+    let _count = plan.count();
+    for op in ops {
+        if let Some(id) = blob_of(op) {
+            if let Some(place) = plan.place(id) {
+                if !flags[place] {
+                    return false;
+                }
+            }
+        }
+    }
+    true
+}
+
+// Whether the blobs that operations of removed commits named have flags, where the list after has them.
+fn are_all_flagged(removal: &Removal, plan: &Plan, flags: &[bool]) -> bool
+    requires { length flags.now ≡ length plan.now.after }
+    ensures { result ≡ true → FlagsAll plan.now.after
+        (filter (λ event. is_listed (id_of event) removal.now.set) removal.now.events) flags.now }
+{
+    let count = removal.count();
+    let mut place = removal.next_near(0);
+    while place < count {
+        if removal.has_at(place) && !are_flagged(plan, event_ops(removal.nth(place)), flags) {
             return false;
         }
+        place = removal.next_near(place + 1);
     }
     true
 }
@@ -204,10 +226,10 @@ pub fn sweep_removed(alloc: Global, removal: &Removal, plan: &mut Plan) -> Resul
     }) }
     ensures err { OnErr result (plan.new ≡ plan.old) }
 {
-    let before = named_by_removed(alloc, removal, plan)?;
     let near = named_near(alloc, removal, plan)?;
-    if are_all_among(&before, &near) {
+    if are_all_flagged(removal, plan, &near) {
         return Ok(());
     }
+    let before = named_by_removed(alloc, removal, plan)?;
     sweep_some(alloc, plan, &before)
 }

@@ -1,22 +1,26 @@
-use Rattle.std.proofs.Common.{◌≡◌, List, ap, false, get_or, subst, sym, true}
+use Rattle.std.proofs.Common.{◌≡◌, List, ap, filter, length, subst, sym}
 use Rattle.plain_model.specs.declared.event.PlainEvent.{PlainEvent}
-use Rattle.squash_delete.specs.Flags.{AreCandidates}
+use Rattle.plain_model.specs.Lookups.{id_of, is_listed}
+use Rattle.edit_laws.specs.Sweeping.{swept}
+use Rattle.squash_delete.specs.Flags.{AreCandidates, FlagsAll}
 use Rattle.squash_delete.proofs.SweepLemmas.{none_over, removed_candidates}
 use Rattle.squash_delete.proofs.sweeping.sweep_removed.Goals as goal
 
-pub returns-then-are_all_among-clause-swept : goal.returns-then-are_all_among-clause-swept
-returns-then-are_all_among-clause-swept c =
+pub are_all_flagged-requires : goal.are_all_flagged-requires
+are_all_flagged-requires c = subst (λ flags. length flags ≡ length c.args.plan.now.after) (sym c.deref.ensures.value) c.in_ok-near.ensures.count
+
+pub returns-then-are_all_flagged-clause-swept : goal.returns-then-are_all_flagged-clause-swept
+returns-then-are_all_flagged-clause-swept c =
     let p = c.args.plan.now in
-    let some = subst (λ es. AreCandidates es p.after c.in_ok-before.before.items) (sym c.requires.before)
-    (removed_candidates c.args.removal.now.set c.args.removal.now.events p.after c.in_ok-before.before.items c.requires.kept c.in_ok-before.ensures) in
+    let set = c.args.removal.now.set in
+    let events = c.args.removal.now.events in
+    let all = subst (FlagsAll p.after (filter (λ e. is_listed (id_of e) set) events)) c.deref.ensures.value (c.are_all_flagged.ensures c.if-are_all_flagged.true) in
     ap (λ (es : List PlainEvent). record p { after = es })
-    (sym (none_over p.before p.after c.in_ok-before.before.items c.in_ok-near.near.items some c.in_ok-near.ensures (λ k on.
-    subst (λ fs. get_or fs k false ≡ true) c.deref-2.ensures.value
-    (c.are_all_among.ensures c.if-are_all_among.true k (subst (λ fs. get_or fs k false ≡ true) (sym c.deref.ensures.value) on)))))
+    (sym (subst (λ es. swept es p.after ≡ p.after) (sym c.requires.before) (none_over set events p.after c.in_ok-near.near.items c.requires.kept all c.in_ok-near.ensures)))
 
 pub sweep_some-requires : goal.sweep_some-requires
 sweep_some-requires c =
     let p = c.args.plan.now in
-    subst (AreCandidates p.before p.after) (sym c.deref-3.ensures.value)
+    subst (AreCandidates p.before p.after) (sym c.deref-2.ensures.value)
     (subst (λ es. AreCandidates es p.after c.in_ok-before.before.items) (sym c.requires.before)
     (removed_candidates c.args.removal.now.set c.args.removal.now.events p.after c.in_ok-before.before.items c.requires.kept c.in_ok-before.ensures))
