@@ -43,10 +43,6 @@ module _ {X : Type 0} (p : X → Bool) where
 
 -- ---- none and all
 
-pub passing-none : (es : List PlainEvent) → passing (λ e. false) es ≡ []
-passing-none [] = refl
-passing-none (e ∷ es) = passing-none es
-
 pub passing-all : (es : List PlainEvent) → passing (λ e. true) es ≡ map id_of es
 passing-all [] = refl
 passing-all (e ∷ es) = ap (λ ids. id_of e ∷ ids) (passing-all es)
@@ -54,10 +50,6 @@ passing-all (e ∷ es) = ap (λ ids. id_of e ∷ ids) (passing-all es)
 pub all-bits : (es : List PlainEvent) → replicate (length es) true ≡ map (λ e. true) es
 all-bits [] = refl
 all-bits (e ∷ es) = ap (λ bits. true ∷ bits) (all-bits es)
-
-pub no-bit-bits : (es : List PlainEvent) → bits_of es [] ≡ map (λ e. false) es
-no-bit-bits [] = refl
-no-bit-bits (e ∷ es) = ap (λ bits. false ∷ bits) (no-bit-bits es)
 
 -- ---- two sets
 

@@ -20,7 +20,7 @@ ghost use Rattle.event_sets.specs.Sets.{common, live, numbered, passing, range, 
 ghost use Rattle.plain_model.specs.declared.event.PlainEvent.{PlainEvent};
 ghost use Rattle.plain_model.specs.Lookups.{find_event, find_mark, id_of, is_listed};
 
-use crate::bits::{bits_of, both, is_any_set, is_set, no_bits, others, picked};
+use crate::bits::{bits_of, both, is_any_set, is_set, others, picked};
 use event_arena::Events;
 use plain_model::{AnyId, IdList, Mark, NoMemory};
 use std::alloc::Global;
@@ -84,8 +84,7 @@ impl<'e> EventSet<'e> {
         ensures events { IfOk result (λ set. set.events ≡ events.now.list) }
         ensures ids { IfOk result (λ set. set.ids ≡ []) }
     {
-        let bits = no_bits(alloc, events)?;
-        Ok(EventSet::of_bits(events, bits))
+        EventSet::of_order(alloc, events, IdList::empty(alloc))
     }
 
     /// All events, ascending.
@@ -198,7 +197,11 @@ impl<'e> EventSet<'e> {
         ensures empty { OnTrue result (self.now.ids ≡ []) }
         ensures filled { OnFalse result (self.now.ids ≢ []) }
     {
-        !is_any_set(self.bits())
+        let bits = self.bits();
+        match &self.order {
+            None => !is_any_set(bits),
+            Some(order) => order.as_slice().is_empty(),
+        }
     }
 
     /// Its list.
