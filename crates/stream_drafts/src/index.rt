@@ -60,9 +60,11 @@ fn note_blob_mark(blobs: &mut HashMap<u64, BlobId>, mark: Mark, id: BlobId)
     ensures { (n : ℕ) → get nat_eq blobs.new n ≡
         first_of (get nat_eq blobs.old n) (if mark == n then Some id else None) }
 {
-    if !blobs.contains_key(&mark.number()) {
-        let noted: Result<_, _> = blobs.insert(mark.number(), id);
-        let _ = noted.unwrap();
+    // Mostly the mark is new, so that one search does.
+    let noted: Result<_, _> = blobs.insert(mark.number(), id);
+    if let Some(first) = noted.unwrap() {
+        let kept: Result<_, _> = blobs.insert(mark.number(), first);
+        let _ = kept.unwrap();
     }
 }
 
@@ -73,9 +75,11 @@ pub fn note_commit_mark(commits: &mut HashMap<u64, CommitId>, mark: Mark, id: Co
         first_of (get nat_eq commits.old n) (if mark == n then Some id else None) }
     ensures fits { IsMark mark }
 {
-    if !commits.contains_key(&mark.number()) {
-        let noted: Result<_, _> = commits.insert(mark.number(), id);
-        let _ = noted.unwrap();
+    // Mostly the mark is new, so that one search does.
+    let noted: Result<_, _> = commits.insert(mark.number(), id);
+    if let Some(first) = noted.unwrap() {
+        let kept: Result<_, _> = commits.insert(mark.number(), first);
+        let _ = kept.unwrap();
     }
 }
 
