@@ -66,11 +66,15 @@ impl Tips {
         Ok(list)
     }
 
-    /// The branch is on the commit from now on.
+    /// The branch is on the commit from now on. Only a branch without a tip takes memory.
     pub fn set(&mut self, branch: &[u8], tip: CommitId) -> Result<(), NoMemory>
         ensures ok { OnOk result (self.new ≡ put branch.now tip self.old) }
         ensures err { OnErr result (self.new ≡ self.old) }
     {
+        if let Some(known) = self.by_branch.get_mut(branch) {
+            *known = tip;
+            return Ok(());
+        }
         let branch = Vec::from_slice(self.alloc, branch)?;
         self.by_branch.insert(branch, tip)?;
         Ok(())
