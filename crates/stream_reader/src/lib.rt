@@ -2,6 +2,7 @@
 #![tactic(auto)]
 
 mod fault;
+mod first_bytes;
 mod place;
 mod reader;
 

@@ -51,6 +51,7 @@ ghost use Rattle.stream_reader.specs.Reading.{
 };
 
 use crate::fault::ReadFault;
+use crate::first_bytes::word_of;
 use crate::place::Place;
 use plain_model::{EventList, Items, Text, Why};
 use production_laws::what_is_given_is_spelled;
@@ -259,7 +260,7 @@ impl StreamReader {
                 begun: Items::empty(self.alloc),
             });
         }
-        let word = Word::of(line);
+        let word = word_of(line);
         self.standing = match self.standing.after(word) {
             Ok(after) => after,
             Err(why) => {
