@@ -6,7 +6,7 @@ ghost use Rattle.surgeon_store.specs.Outside.{alone};
 ghost use Rattle.surgeon_store.specs.Promises.{PromisesBeginRead};
 ghost use Rattle.surgeon_store.specs.Disk.{DiskState, untouched, disk_store_of};
 
-use crate::outside::{CreateFault, Failed, OpenFault, Sink, Store, WriteFault};
+use crate::outside::{CreateFault, Failed, Made, OpenFault, Sink, Store, WriteFault};
 use crate::target::{MAX_TURNS, Target, write_some};
 use crate::trouble::{Doing, Trouble};
 use plain_model::{Items, NoMemory, Text};
@@ -103,11 +103,11 @@ impl<'a, R: Files> DiskStore<'a, R> {
     }
 
     // The file that is written is in its place, where it is whole; none is written then.
-    fn let_go(&mut self) -> io::Result<()>
+    fn let_go(&mut self, made: Made) -> io::Result<()>
         ensures { self.new ≡ self.old }
     {
         match self.target.take() {
-            Some(target) => target.finish(self.rt),
+            Some(target) => target.finish(self.rt, made),
             None => Ok(()),
         }
     }
@@ -170,7 +170,7 @@ impl<'a, R: Files> Store for DiskStore<'a, R> {
 
     fn begin_write(&mut self, name: &str) -> Result<(), CreateFault> {
         self.writing = None;
-        let _ = self.let_go();
+        let _ = self.let_go(Made::Part);
         let kept = match Items::of(self.alloc, name.as_bytes()) {
             Ok(kept) => kept,
             Err(NoMemory) => return Err(CreateFault::Memory),
@@ -214,9 +214,9 @@ impl<'a, R: Files> Store for DiskStore<'a, R> {
         }
     }
 
-    fn finish_write(&mut self) -> Result<(), Failed> {
+    fn finish_write(&mut self, made: Made) -> Result<(), Failed> {
         let name = self.writing.take();
-        match self.let_go() {
+        match self.let_go(made) {
             Ok(()) => Ok(()),
             Err(error) => {
                 raise(&mut self.write_faults);

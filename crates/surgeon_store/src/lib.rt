@@ -19,7 +19,7 @@ pub use disk::{DiskStore, StdSink};
 pub use entry::{FileEntry, FileList};
 pub use memory::{MemorySink, MemoryStore};
 pub use output::Output;
-pub use outside::{CreateFault, Failed, OpenFault, Sink, Store, WriteFault};
+pub use outside::{CreateFault, Failed, Made, OpenFault, Sink, Store, WriteFault};
 pub use store_sink::StoreSink;
 pub use sure::{SureSink, SureStore};
 pub use trouble::{Doing, Trouble};

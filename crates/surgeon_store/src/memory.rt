@@ -26,7 +26,7 @@ ghost use Rattle.surgeon_store.specs.Promises.{
 };
 
 use crate::entry::FileList;
-use crate::outside::{CreateFault, Failed, OpenFault, Sink, Store, WriteFault};
+use crate::outside::{CreateFault, Failed, Made, OpenFault, Sink, Store, WriteFault};
 use crate::sure::{SureSink, SureStore};
 use plain_model::{NoMemory, NumberList, Text};
 use std::alloc::Global;
@@ -173,7 +173,7 @@ impl Store for MemoryStore {
         self.files.write(piece)
     }
 
-    fn finish_write(&mut self) -> Result<(), Failed>
+    fn finish_write(&mut self, _made: Made) -> Result<(), Failed>
         ensures store { PromisesFinishWrite (failing_store_of self.old) result
             (failing_store_of self.new) }
         ensures counts { Counts self.old.calls self.new.calls }

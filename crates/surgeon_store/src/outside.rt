@@ -41,6 +41,13 @@ pub enum WriteFault {
     Memory,
 }
 
+/// What was put into a file whose writing ends.
+#[derive(Clone, Copy, Debug, PartialEq, Eq)]
+pub enum Made {
+    Whole,
+    Part,
+}
+
 /// Files by their names, of which one is read and one written at a time. Each fault and each miss raises a
 /// count, which stops at 2^64 - 1. (own)
 pub trait Store {
@@ -88,8 +95,9 @@ pub trait Store {
             → Rose (state self.old).write_faults (state self.new).write_faults }
         ensures frame { Writes (state self.old) (state self.new) };
 
-    /// Ends the writing of a file; refused or not, none is written afterwards.
-    fn finish_write(&mut self) -> Result<(), Failed>
+    /// Ends the writing of a file. Where only a part of it was put, a store that can leaves what was there before. Refused
+    /// or not, none is written afterwards.
+    fn finish_write(&mut self, made: Made) -> Result<(), Failed>
         ensures ends { (state self.new).writing ≡ None }
         ensures files { (state self.new).files ≡ (state self.old).files }
         ensures failed { OnErr result

@@ -29,7 +29,7 @@ ghost use Rattle.surgeon_store.specs.Memory.{
 };
 
 use crate::entry::{FileEntry, FileList};
-use crate::outside::{CreateFault, Failed, OpenFault, Sink, Store, WriteFault};
+use crate::outside::{CreateFault, Failed, Made, OpenFault, Sink, Store, WriteFault};
 use plain_model::{Items, NoMemory, Text};
 use std::alloc::Global;
 use std::marker::Model;
@@ -209,7 +209,7 @@ impl Store for SureStore {
         }
     }
 
-    fn finish_write(&mut self) -> Result<(), Failed> {
+    fn finish_write(&mut self, _made: Made) -> Result<(), Failed> {
         self.end_writing();
         Ok(())
     }

@@ -2,6 +2,7 @@
 //! of its bytes, so this module is trusted where others are proved.
 ghost use Rattle.std.specs.Prelude.{◌≡◌, ◌≤◌, ◌<◌, length, IfOk};
 
+use crate::outside::Made;
 use std::alloc::Global;
 use std::fs::{OpenFile, OpenOptions, Permissions};
 use std::io::{ErrorKind, Write};
@@ -43,6 +44,11 @@ impl Change {
             drop_new(rt, &self.new);
         }
         placed
+    }
+
+    // There is no new file.
+    fn give_up<R: Files>(&self, rt: &R) {
+        drop_new(rt, &self.new);
     }
 }
 
@@ -194,16 +200,23 @@ impl<F: Write + OpenFile> Target<F> {
         answer
     }
 
-    /// What is written is in its place, where it is whole. Else the older file is left as it was, and no other.
-    pub(crate) fn finish<R: Files<File = F>>(self, rt: &R) -> io::Result<()> {
+    /// What is written is in its place, where all of it was put and the system has it. Else the older file is left as it
+    /// was, and no other: memory can run out between two pieces, which is no fault of the file.
+    pub(crate) fn finish<R: Files<File = F>>(self, rt: &R, made: Made) -> io::Result<()> {
         let Target {
             mut file,
             change,
             fault,
         } = self;
-        let settled = match fault {
-            None => settle(&mut file),
-            Some(error) => Err(error),
+        let settled = match (fault, made) {
+            (Some(error), _) => Err(error),
+            (None, Made::Whole) => settle(&mut file),
+            (None, Made::Part) => {
+                if let Some(change) = change {
+                    change.give_up(rt);
+                }
+                return Ok(());
+            }
         };
         match change {
             Some(change) => change.carry_out(rt, settled),

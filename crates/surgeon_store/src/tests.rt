@@ -70,7 +70,7 @@ fn files_in_memory_are_read_and_written(rt: HostRuntime) -> Result<(), Fail> {
     assert!(rt; reads(&mut store, b"first a"));
     assert_eq!(rt; store.begin_read("c"), Err(OpenFault::Absent));
     assert!(rt; writes(&mut store, "b", b"new ", b"b"));
-    assert_eq!(rt; store.finish_write(), Ok(()));
+    assert_eq!(rt; store.finish_write(Made::Whole), Ok(()));
     assert_eq!(rt; store.begin_read("b"), Ok(()));
     assert!(rt; reads(&mut store, b"new b"));
     assert!(rt; writes(&mut store, "c", b"", b""));
@@ -108,7 +108,7 @@ fn refusals<S: Store>(store: &mut S) -> [bool; 11] {
     refused[7] = store.write(b"new").is_err();
     refused[8] = store.write(b" or not").is_err();
     refused[9] = store.write(b" b").is_err();
-    refused[10] = store.finish_write().is_err();
+    refused[10] = store.finish_write(Made::Whole).is_err();
     refused
 }
 
@@ -148,7 +148,7 @@ fn files_of_the_system_are_read_and_written(rt: HostRuntime) -> Result<(), Fail>
 
     assert_eq!(rt; store.begin_read(path.as_str()), Err(OpenFault::Absent));
     assert!(rt; writes(&mut store, path.as_str(), b"writ", b"ten"));
-    assert_eq!(rt; store.finish_write(), Ok(()));
+    assert_eq!(rt; store.finish_write(Made::Whole), Ok(()));
     assert_eq!(rt; store.begin_read(path.as_str()), Ok(()));
     assert!(rt; reads(&mut store, b"written"));
     fs::remove_file(&rt, path.as_str())?;

@@ -33,7 +33,7 @@ ghost use Rattle.surgeon_store.specs.WholeFiles.{
 ghost use Rattle.surgeon_store.specs.declared.whole_files.ReadEnd.TheVariants as ended;
 
 use crate::output::Output;
-use crate::outside::{CreateFault, Failed, OpenFault, Store};
+use crate::outside::{CreateFault, Failed, Made, OpenFault, Store};
 use crate::store_sink::StoreSink;
 use crate::writing::WriteEnd;
 use plain_model::{Fault, Halt, Items, NoMemory, Text};
@@ -209,11 +209,15 @@ pub fn write_file<S: Store, B: Output>(
         Err(CreateFault::Failed) => return Err(WriteEnd::SinkFault),
         Err(CreateFault::Memory) => return Err(WriteEnd::Memory),
     }
-    let written = write_begun(store, output);
-    let finished = store.finish_write();
-    written?;
-    match finished {
-        Ok(()) => Ok(()),
-        Err(Failed) => Err(WriteEnd::SinkFault),
+    match write_begun(store, output) {
+        Ok(()) => match store.finish_write(Made::Whole) {
+            Ok(()) => Ok(()),
+            Err(Failed) => Err(WriteEnd::SinkFault),
+        },
+        Err(end) => {
+            // Why a part is all there is has been said.
+            let _ = store.finish_write(Made::Part);
+            Err(end)
+        }
     }
 }
