@@ -35,7 +35,7 @@ passed_over P a b low step at = go (b - a) a (omega arith) step at
     go zero a is step at = let same : a ≡ b = omega arith in subst P same at
     go (suc n) a is step at = go n (suc a) (omega arith) (λ k low high. step k (omega arith) high) (step a (omega arith) (omega arith) at)
 
--- as one that isn't near leaves it
+-- so what each event that isn't near leaves as it is stays as it is
 pub over_apart : (P : ℕ → Type 0) (set : List AnyId) (events : List PlainEvent) (a b : ℕ) → a ≤ b → b ≤ length events → NoneNear set events a b →
     ((k : ℕ) (e : PlainEvent) → slice_get events k ≡ Some e → is_near set e ≡ false → P k → P (suc k)) → P a → P b
 over_apart P set events a b low within none step at =
@@ -91,9 +91,9 @@ places_more to flags places on p = record {
     front : (i : ℕ) → i < length places → get_or (places ++ to ∷ []) i 0 ≡ get_or places i 0
     front i low = get_or_append_left places (to ∷ []) 0 i low
 
-    rising : (i j : ℕ) → i ≤ j → j < length (places ++ to ∷ []) → (i ≡ length places) ⊎ (i ≡ length places → ⊥) → (j ≡ length places) ⊎ (j ≡ length places → ⊥) →
-        get_or (places ++ to ∷ []) i 0 ≤ get_or (places ++ to ∷ []) j 0
-    rising i j low high (inl i_last) (inl j_last) = let a = last i i_last in let b = last j j_last in omega arith
+    rising : (i j : ℕ) → i < j → j < length (places ++ to ∷ []) → (i ≡ length places) ⊎ (i ≡ length places → ⊥) → (j ≡ length places) ⊎ (j ≡ length places → ⊥) →
+        get_or (places ++ to ∷ []) i 0 < get_or (places ++ to ∷ []) j 0
+    rising i j low high (inl i_last) (inl j_last) = absurd (omega arith)
     rising i j low high (inl i_last) (inr other) = let long = whole in absurd (omega arith)
     rising i j low high (inr i_front) (inl j_last) =
         let long = whole in
@@ -161,10 +161,20 @@ between set events places i from to p before after k e low high at =
 
 -- ---- halving
 
+-- a later place is no earlier
+pub no_earlier : (places : List ℕ) → AreRising places → (i j : ℕ) → i ≤ j → j < length places → get_or places i 0 ≤ get_or places j 0
+no_earlier places rising i j low high = elim (cases_eq i j) [
+  | inl same ↦ le_same i j same
+  | inr other ↦ let up = rising i j (omega arith) high in omega arith
+]
+  where
+    le_same : (i j : ℕ) → i ≡ j → get_or places i 0 ≤ get_or places j 0
+    le_same i j same = subst (λ k. get_or places i 0 ≤ get_or places k 0) same (omega arith)
+
 -- where a place isn't found, those before are earlier, and the others later
 pub gap : (places : List ℕ) (place : ℕ) (r : Result ℕ ℕ) (i : ℕ) → AreRising places → IsBinarySearchResult (λ y. nat_cmp y place) places r → r ≡ Err i →
     ((j : ℕ) → j < i → get_or places j 0 < place) × ((j : ℕ) → i ≤ j → j < length places → place < get_or places j 0)
-gap places place r i rising found is = let s = rw is at (searched places place r found rising) in (s.1, s.2)
+gap places place r i rising found is = let s = rw is at (searched places place r found (no_earlier places rising)) in (s.1, s.2)
 
 -- ---- what near events alone change
 

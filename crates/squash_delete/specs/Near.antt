@@ -23,21 +23,21 @@ pub record AreNear (set : List AnyId) (events : List PlainEvent) (near : List Bo
   pub count : length near ≡ length events
   pub apart : (k : ℕ) (e : PlainEvent) → slice_get events k ≡ Some e → slice_index_or near k false ≡ false → is_near set e ≡ false
 
--- the places rise
+-- each place is before the next one
 abbrev pub AreRising : List ℕ → Type 0
-AreRising places = (i j : ℕ) → i ≤ j → j < length places → slice_index_or places i 0 ≤ slice_index_or places j 0
+AreRising places = (i j : ℕ) → i < j → j < length places → slice_index_or places i 0 < slice_index_or places j 0
 
 -- the place is one of them
 abbrev pub IsOneOf : List ℕ → ℕ → Type 0
 IsOneOf places k = (i : ℕ) × (i < length places) × (slice_index_or places i 0 ≡ k)
 
--- those that have a flag, and no others
+-- they are those that have a flag, in order
 pub record ArePlacesOf (flags : List Bool) (places : List ℕ) : Type 0 where
   pub rising : AreRising places
   pub flagged : (i : ℕ) → i < length places → slice_index_or flags (slice_index_or places i 0) false ≡ true
   pub all : (k : ℕ) → slice_index_or flags k false ≡ true → IsOneOf places k
 
--- where an event is at none of the places, it isn't near
+-- places of a history in order, at which all near events are
 pub record ArePlacesNear (set : List AnyId) (events : List PlainEvent) (places : List ℕ) : Type 0 where
   pub rising : AreRising places
   pub within : (i : ℕ) → i < length places → slice_index_or places i 0 < length events

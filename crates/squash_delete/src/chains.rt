@@ -8,6 +8,7 @@ ghost use Rattle.std.specs.Prelude.{
   ◌^◌,
   ◌&&◌,
   ◌||◌,
+  [],
   Some,
   length,
   not,
@@ -61,14 +62,14 @@ fn no_link() -> Link
     }
 }
 
-// What is noted of the commit at a place.
+// What is noted of the event at a place.
 #[derive(Clone, Copy)]
 struct Entry {
     place: usize,
     link: Link,
 }
 
-/// What is noted of the first events of a history: of few of them something, in the order of their places, and nothing of the
+/// What is noted of the first events of a history, so many of them: an entry for each near one, in order, and nothing of the
 /// others.
 #[derive(Drop)]
 pub struct LinkTable {
@@ -87,9 +88,10 @@ impl Model for LinkTable {
 }
 
 impl LinkTable {
-    // Nothing is noted of no events.
+    // Nothing is noted yet.
     fn none(alloc: Global) -> LinkTable
-        ensures { result.count ≡ 0 }
+        ensures count { result.count ≡ 0 }
+        ensures entries { result.entries ≡ [] }
     {
         LinkTable {
             count: 0,

@@ -11,7 +11,7 @@ loop-place-init c =
     let set = c.args.removal.now.set in
     let near = c.next_near-place.ensures in
     let pass = c.pass_to.ensures in
-    let start = c.none-table.ensures in
+    let start = c.none-table.ensures.count in
     record {
       within = near.within;
       count = pass.count;

@@ -2,7 +2,7 @@ use Rattle.std.proofs.Common.{◌<◌, ◌≤◌, length, arith, subst}
 use Rattle.std.proofs.lemmas.List.{get_or_read}
 use Rattle.squash_delete.specs.Near.{NoneNear}
 use Rattle.squash_delete.specs.Removing.{Removing}
-use Rattle.squash_delete.proofs.NearPlaces.{between, gap}
+use Rattle.squash_delete.proofs.NearPlaces.{between, gap, no_earlier}
 use Rattle.squash_delete.proofs.removal.Removal.next_near.Goals as goal
 
 pub returns-in-Err-clause-later : goal.returns-in-Err-clause-later
@@ -25,7 +25,7 @@ returns-in-Err-clause-apart c =
     let read = get_or_read places i c.index.result.now low c.index.ensures 0 in
     subst (λ (r : Removing). NoneNear r.set r.events c.args.place c.index.result.now) c.self.view_is
     (between c.self.inside.set c.self.inside.events.now.list places i c.args.place c.index.result.now near g.0
-    (λ j from under. let up = near.rising i j from under in omega arith))
+    (λ j from under. let up = no_earlier places near.rising i j from under in omega arith))
 
 pub returns-in-Err-2-clause-apart : goal.returns-in-Err-2-clause-apart
 returns-in-Err-2-clause-apart c =
