@@ -1,6 +1,6 @@
 -- Changes that keep the ids of a list distinct.
-use Rattle.std.proofs.Common.{◌≡◌, ◌∙◌, ℕ, suc, Bool, false, inl, inr, List, [], ◌∷◌, ◌++◌, Option, Some, None, refl, ap, sym, subst, filter, take, drop}
-use Rattle.std.proofs.lemmas.Bool.{cases_Bool}
+use Rattle.std.proofs.Common.{◌≡◌, ◌∙◌, ℕ, suc, Bool, true, false, ◌||◌, inl, inr, List, [], ◌∷◌, ◌++◌, Option, Some, None, refl, ap, sym, subst, filter, take, drop}
+use Rattle.std.proofs.lemmas.Bool.{cases_Bool, or_left}
 use Rattle.std.proofs.lemmas.List.{take-append-drop}
 use Rattle.std.proofs.lemmas.Map.Keys.{IsDistinct-IsPermutation}
 use Rattle.std.specs.List.{AllByRecursion, IsDistinct}
@@ -8,8 +8,8 @@ use Rattle.std.specs.Prelude.{map, option_to_list, slice_get}
 use Rattle.plain_model.specs.declared.id.AnyId.{AnyId}
 use Rattle.plain_model.specs.declared.event.PlainEvent.{PlainEvent}
 use Rattle.plain_model.specs.Lookups.{find_event, id_of, is_listed, same_id}
-use Rattle.history_laws.proofs.Ids.{same_id-comm}
-use Rattle.event_arena.specs.Changes.{IsOrderOf, changed, in_order, put_after, without}
+use Rattle.history_laws.proofs.Ids.{same_id-comm, same_id-true}
+use Rattle.event_arena.specs.Changes.{IsOrderOf, changed, in_order, put_after, without, without_all}
 use Rattle.event_arena.specs.Once.{AreDistinct}
 use Rattle.event_arena.proofs.ChangeLemmas.{AreListedOnce, once-distinct, order-misses}
 use Rattle.event_arena.proofs.ListLemmas.{drop-item}
@@ -96,3 +96,22 @@ listed-distinct (x ∷ order) es listed = by (find_event x es) refl (listed-dist
 
 pub distinct-in_order : (order : List AnyId) (es : List PlainEvent) → AreDistinct es → IsOrderOf order es → AreDistinct (in_order order es)
 distinct-in_order order es once p = listed-distinct order es (order-once es order once p)
+
+-- one id that is taken away is the one of all that are
+pub without-one : (x : AnyId) (es : List PlainEvent) → AreDistinct es → without_all (x ∷ []) es ≡ without x es
+without-one x [] once = refl
+without-one x (e ∷ es) once = elim (cases_Bool (same_id x (id_of e))) [
+  | inl it ↦
+      let gone : is_listed (id_of e) (x ∷ []) ≡ true = or_left (same_id (id_of e) x) false (same_id-comm (id_of e) x ∙ it) in
+      rw (it, gone) (none-gone es (ap (λ i. find_event i es) (same_id-true x (id_of e) it) ∙ once.0))
+  | inr no_it ↦
+      let stays : is_listed (id_of e) (x ∷ []) ≡ false = ap (λ b. b || false) (same_id-comm (id_of e) x ∙ no_it) in
+      rw (no_it, stays) (ap (λ ys. e ∷ ys) (without-one x es once.1))
+]
+  where
+    none-gone : (es : List PlainEvent) → find_event x es ≡ None → without_all (x ∷ []) es ≡ es
+    none-gone [] absent = refl
+    none-gone (y ∷ es) absent =
+        let rest = absent-cons x y es absent in
+        let stays : is_listed (id_of y) (x ∷ []) ≡ false = ap (λ b. b || false) (same_id-comm (id_of y) x ∙ rest.0) in
+        rw stays (ap (λ ys. y ∷ ys) (none-gone es rest.1))

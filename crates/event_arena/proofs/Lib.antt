@@ -7,6 +7,7 @@ pub mod ListLemmas
 pub mod MarkLemmas
 pub mod MeasureLemmas
 pub mod OnceLemmas
+pub mod OrderLemmas
 pub mod PlaceLemmas
 pub mod PointerLemmas
 pub mod RowLemmas

@@ -3,13 +3,13 @@ use Rattle.std.proofs.Common.{◌≡◌, ◌∙◌, ℕ, zero, suc, ◌<◌, tru
 use Rattle.std.proofs.Math.ListN.{set}
 use Rattle.std.proofs.lemmas.Bool.{cases_Bool}
 use Rattle.std.proofs.lemmas.Option.{none-some, same_Some}
-use Rattle.std.specs.List.{insert, remove}
+use Rattle.std.specs.List.{insert}
 use Rattle.std.specs.Prelude.{IsSome, option_map, slice_get}
 use Rattle.plain_model.specs.declared.id.AnyId.{AnyId}
 use Rattle.plain_model.specs.declared.event.PlainEvent.{PlainEvent}
 use Rattle.plain_model.specs.Lookups.{find_event, id_of, place_of, same_id}
 use Rattle.history_laws.proofs.Ids.{same_id-refl, same_id-true}
-use Rattle.event_arena.specs.Changes.{changed, put_after, without}
+use Rattle.event_arena.specs.Changes.{changed, put_after}
 use Rattle.event_arena.specs.Rows.{IsNoted, IsPlaced, noted}
 use Rattle.event_arena.specs.declared.places.Places.{Places}
 use Rattle.event_arena.proofs.SpentLemmas.{cons-absent}
@@ -127,30 +127,6 @@ put-insert id new (x ∷ es) (suc k) p = elim (cases_Bool (same_id id (id_of x))
   where
     down : (j k : ℕ) → suc j ≡ suc k → j ≡ k
     down j k h = omega arith
-
-pub put-remove : (id : AnyId) (es : List PlainEvent) (k : ℕ) → place_of id es ≡ Some k → remove es k ≡ without id es
-put-remove id [] k p = absurd (none-some k p)
-put-remove id (x ∷ es) zero p = elim (cases_Bool (same_id id (id_of x))) [
-  | inl it ↦ rw it refl
-  | inr no_it ↦ let later = some_suc (place_of id es) 0 (rw no_it at p) in let bad : suc later.0 ≡ 0 = later.2 in absurd (omega arith)
-]
-put-remove id (x ∷ es) (suc k) p = elim (cases_Bool (same_id id (id_of x))) [
-  | inl it ↦ let bad : 0 ≡ suc k = same_Some 0 (suc k) (rw it at p) in absurd (omega arith)
-  | inr no_it ↦
-      let later = some_suc (place_of id es) (suc k) (rw no_it at p) in
-      rw no_it (ap (λ ys. x ∷ ys) (put-remove id es k (later.1 ∙ ap Some (down later.0 k later.2))))
-]
-  where
-    down : (j k : ℕ) → suc j ≡ suc k → j ≡ k
-    down j k h = omega arith
-
--- what isn't there can't be taken away
-pub remove-none : (id : AnyId) (es : List PlainEvent) → place_of id es ≡ None → es ≡ without id es
-remove-none id [] h = refl
-remove-none id (e ∷ es) h = elim (cases_Bool (same_id id (id_of e))) [
-  | inl it ↦ absurd (none-some 0 (sym h ∙ rw it refl))
-  | inr no_it ↦ rw no_it (ap (λ xs. e ∷ xs) (remove-none id es (no_suc (place_of id es) (rw no_it at h))))
-]
 
 -- ---- noted places
 

@@ -5,6 +5,7 @@ pub mod Families
 pub mod Graphs
 pub mod Indexed
 pub mod Indices
+pub mod LinkPlaces
 pub mod Needs
 pub mod Numbers
 pub mod Once

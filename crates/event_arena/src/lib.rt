@@ -1,5 +1,5 @@
 //! The event graph under stable ids: histories whose events are found by id, number and mark, and plans that change them.
-//! Read in this order: `places`, `weight`, `table`, `links`, `index` (the parts), `events` (a history), `field`, `plan` (a change of one).
+//! Read in this order: `places`, `weight`, `store`, `table`, `links`, `index` (the parts), `events` (a history), `field`, `plan` (a change of one).
 #![tactic(auto)]
 
 mod events;
@@ -9,6 +9,7 @@ mod links;
 mod measure;
 mod places;
 mod plan;
+mod store;
 mod table;
 mod weight;
 

@@ -11,25 +11,66 @@ ghost use Rattle.std.specs.Prelude.{
   length,
   slice_index_or,
   slice_set,
+  None,
   OnOk,
 };
+ghost use Rattle.event_arena.specs.LinkPlaces.{last_of};
 
 use plain_model::{CommitId, NoMemory};
 use std::alloc::Global;
 use std::marker::Model;
 
+/// The place of a link, or none. It is kept as the number of links up to that one, so that it takes half the room of an
+/// option.
+#[derive(Clone, Copy)]
+pub struct LinkAt {
+    count: usize,
+}
+
+impl Model for LinkAt {
+    ghost use Rattle.std.specs.Prelude.{ℕ, Option};
+    ghost use Rattle.event_arena.specs.LinkPlaces.{count_to, last_of};
+
+    ghost Value = { Option ℕ };
+
+    ghost view = { λ l. last_of l.count };
+
+    ghost inverse = { λ place. record { count = count_to place } };
+}
+
+impl LinkAt {
+    fn none() -> LinkAt
+        ensures { result ≡ None }
+    {
+        LinkAt { count: 0 }
+    }
+
+    // The last of so many links.
+    fn last_of(count: usize) -> LinkAt
+        ensures { result ≡ last_of count }
+    {
+        LinkAt { count }
+    }
+
+    fn place(self) -> Option<usize>
+        ensures { result ≡ self }
+    {
+        self.count.checked_sub(1)
+    }
+}
+
 /// A child, and the place of the link to the next child of the same commit. That link is older.
 #[derive(Clone, Copy)]
 pub struct Link {
     child: CommitId,
-    next: Option<usize>,
+    next: LinkAt,
 }
 
 /// For each place of a list the children of the commit there, and room for more places and children.
 #[derive(Drop)]
 pub struct Links {
     // For each place its youngest link.
-    heads: Vec<Option<usize>>,
+    heads: Vec<LinkAt>,
     links: Vec<Link>,
 }
 
@@ -96,7 +137,7 @@ impl Links {
         ensures place_room { self.new.place_room ≡ self.old.place_room }
         ensures link_room { self.new.link_room ≡ self.old.link_room }
     {
-        self.heads.push_reserved(None);
+        self.heads.push_reserved(LinkAt::none());
     }
 
     /// Puts a child before the others of a place.
@@ -110,9 +151,8 @@ impl Links {
         ensures link_room { self.new.link_room ≡ self.old.link_room }
     {
         let next = self.heads[place];
-        let at = self.links.len();
         self.links.push_reserved(Link { child, next });
-        self.heads[place] = Some(at);
+        self.heads[place] = LinkAt::last_of(self.links.len());
     }
 
     /// The children of a place, the youngest link first.
@@ -131,7 +171,7 @@ impl Links {
         ensures { result ≡ [] }
     {
         Children {
-            at: None,
+            at: LinkAt::none(),
             links: self.links.as_slice(),
         }
     }
@@ -141,7 +181,7 @@ impl Links {
 #[derive(Drop)]
 pub struct Children<'a> {
     links: &'a [Link],
-    at: Option<usize>,
+    at: LinkAt,
 }
 
 impl<'a> Model for Children<'a> {
@@ -164,7 +204,7 @@ impl<'a> Iterator for Children<'a> {
     ghost remaining = { item_count (λ left. left) };
 
     fn next(&mut self) -> Option<CommitId> {
-        match self.at {
+        match self.at.place() {
             Some(place) => {
                 let link = self.links[place];
                 self.at = link.next;

@@ -7,34 +7,38 @@ ghost use Rattle.plain_model.specs.declared.id.AnyId.{AnyId};
 use plain_model::{AnyId, IdList, NoMemory, ResetId, TagId};
 use std::alloc::{AllocError, Global};
 
-/// For each id the place that was noted for it last, or 0. Ids of each kind have numbers of their own.
+/// For each id the place that was noted for it last, or 0. Ids of each kind have numbers of their own. A place that wants more
+/// than 32 bits counts as out of memory.
 #[derive(Drop)]
 pub struct Places {
     alloc: Global,
-    blobs: Vec<usize>,
-    commits: Vec<usize>,
-    tags: Vec<usize>,
-    resets: Vec<usize>,
-    passes: Vec<usize>,
+    blobs: Vec<u32>,
+    commits: Vec<u32>,
+    tags: Vec<u32>,
+    resets: Vec<u32>,
+    passes: Vec<u32>,
 }
 
 // The place under a number.
-fn noted_at(places: &Vec<usize>, number: u64) -> usize
+fn noted_at(places: &Vec<u32>, number: u64) -> usize
     ensures { result ≡ slice_index_or places.now.items number 0 }
 {
     let number = number as usize;
     if number < places.len() {
-        places[number]
+        places[number] as usize
     } else {
         0
     }
 }
 
 // Notes a place under a number.
-fn note_at(places: &mut Vec<usize>, number: u64, place: usize) -> Result<(), NoMemory>
+fn note_at(places: &mut Vec<u32>, number: u64, place: usize) -> Result<(), NoMemory>
     ensures ok { OnOk result (IsNotedAt number place places.old.items places.new.items) }
     ensures err { OnErr result (places.new.items ≡ places.old.items) }
 {
+    let Ok(place) = u32::try_from(place) else {
+        return Err(NoMemory);
+    };
     let number = number as usize;
     if number >= places.len() {
         let Some(count) = number.checked_add(1) else {

@@ -97,7 +97,7 @@ impl Plan {
         ensures next { IfOk result (λ plan. plan.next ≡ events.now.next_id) }
     {
         let before = events.share(alloc)?;
-        let after = events.share(alloc)?;
+        let after = before.renewed(alloc)?;
         let next = events.next_id();
         Ok(Plan {
             before,

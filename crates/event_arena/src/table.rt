@@ -32,7 +32,7 @@ ghost use Rattle.event_arena.specs.Changes.{
 ghost use Rattle.event_arena.specs.Numbers.{numbered};
 ghost use Rattle.event_arena.specs.Once.{AreDistinct};
 ghost use Rattle.event_arena.specs.Pointers.{HasPointers};
-ghost use Rattle.event_arena.specs.Rows.{IsNoted, IsPlaced, IsTable, events_of, noted};
+ghost use Rattle.event_arena.specs.Rows.{AreRows, IsNoted, events_of, in_rows, noted};
 ghost use Rattle.event_arena.specs.Spent.{AddsNone, AddsOnly};
 ghost use Rattle.event_arena.specs.Weights.{weight_of};
 ghost use Rattle.plain_model.specs.Lookups.{
@@ -47,6 +47,7 @@ ghost use Rattle.plain_model.specs.Lookups.{
 
 use crate::field::{Field, with_field};
 use crate::places::Places;
+use crate::store::{Row, Store};
 use crate::weight::{heavier, lighter};
 use plain_model::{AnyId, EventList, IdList, Items, NoMemory, PlainEvent, Shared};
 use std::alloc::Global;
@@ -54,12 +55,14 @@ use std::marker::Model;
 use std::rc::Rc;
 
 /// A list of events, no two with one id. Tables share all that they hold, rows and places and events, until one of them
-/// changes it.
+/// changes it. Rows alone answer what is asked of ids and their order, so that events are read only for what they say.
 #[derive(Drop)]
 pub struct EventTable {
     alloc: Global,
-    rows: Rc<Vec<Rc<PlainEvent>>>,
-    // A place counts for an id only where the event there has that very id. So places of events that are gone may stay.
+    rows: Rc<Vec<Row>>,
+    // May have events that no row names any more: `renewed` leaves them behind.
+    store: Store,
+    // A place counts for an id only where the row there has that very id. So places of events that are gone may stay.
     places: Rc<Places>,
     // A bound of what the events weigh, kept up with each change, so that the room that they need is known without a walk.
     weight: Option<usize>,
@@ -68,43 +71,62 @@ pub struct EventTable {
 impl Model for EventTable {
     ghost use Rattle.std.specs.Prelude.{List};
     ghost use Rattle.plain_model.specs.declared.event.PlainEvent.{PlainEvent};
-    ghost use Rattle.event_arena.specs.Rows.{events_of, IsTable};
+    ghost use Rattle.event_arena.specs.Rows.{in_rows, IsTable};
 
     ghost Value = { List PlainEvent };
 
-    ghost view = { λ t. events_of t.rows.value.items };
+    ghost view = { λ t. in_rows t.store t.rows.value.items };
 
-    ghost invariant = { λ t. IsTable t.places.value t.weight (events_of t.rows.value.items) };
+    ghost invariant = { λ t. IsTable t.store t.rows.value.items t.places.value t.weight (in_rows t.store t.rows.value.items) };
 }
 
 impl EventTable {
-    // The table of these rows.
-    fn of_rows(alloc: Global, rows: Vec<Rc<PlainEvent>>) -> Result<EventTable, NoMemory>
-        requires { AreDistinct (events_of rows.items) }
-        ensures { IfOk result (λ table. table ≡ events_of rows.items) }
+    // The table of these rows of a store.
+    fn of_rows(
+        alloc: Global,
+        store: Store,
+        rows: Vec<Row>,
+        weight: Option<usize>,
+    ) -> Result<EventTable, NoMemory>
+        requires { AreRows store rows.items weight (in_rows store rows.items) }
+        ensures { IfOk result (λ table. table ≡ in_rows store rows.items) }
     {
-        let (places, weight) = noted_rows(alloc, rows.as_slice())?;
-        let places = Rc::new(alloc, places)?;
+        let mut places = Places::new(alloc);
+        for place in 0..rows.len() {
+            places.note(rows[place].id, place)?;
+        }
         let rows = Rc::new(alloc, rows)?;
+        let places = Rc::new(alloc, places)?;
         Ok(EventTable {
             alloc,
             rows,
+            store,
             places,
             weight,
         })
     }
 
-    /// The table of a list whose ids are distinct.
+    /// The table of a list whose ids are distinct, with a store of just its events.
     pub fn from_list(alloc: Global, list: EventList) -> Result<EventTable, NoMemory>
         requires { AreDistinct list }
         ensures { IfOk result (λ table. table ≡ list) }
     {
         let events = list.into_rows();
+        let mut stored = Vec::with_capacity(alloc, events.len())?;
         let mut rows = Vec::with_capacity(alloc, events.len())?;
+        let mut weight: Option<usize> = Some(0);
         for event in events {
-            rows.push(event.into_rc())?;
+            let shared = event.into_rc();
+            let at = stored.len();
+            weight = heavier(weight, shared.as_ref());
+            rows.push(Row {
+                id: shared.as_ref().id(),
+                at,
+            })?;
+            stored.push(shared)?;
         }
-        EventTable::of_rows(alloc, rows)
+        let store = Store::new(alloc, stored)?;
+        EventTable::of_rows(alloc, store, rows, weight)
     }
 
     /// The list, over the same events.
@@ -123,14 +145,28 @@ impl EventTable {
         ensures { IfOk result (λ table. table ≡ self.now) }
     {
         let rows = self.rows.clone()?;
+        let store = self.store.share()?;
         let places = self.places.clone()?;
         let weight = self.weight;
         Ok(EventTable {
             alloc,
             rows,
+            store,
             places,
             weight,
         })
+    }
+
+    /// An equal table that is to be changed: over the same rows, or with a store of its own where too much of this one has
+    /// gone out of use.
+    pub fn renewed(&self, alloc: Global) -> Result<EventTable, NoMemory>
+        ensures { IfOk result (λ table. table ≡ self.now) }
+    {
+        let count = self.count();
+        if !self.store.is_worn(count) {
+            return self.share(alloc);
+        }
+        EventTable::from_list(alloc, self.to_list()?)
     }
 
     /// A bound of what the events weigh. `None` where none is known below 2^64.
@@ -152,7 +188,7 @@ impl EventTable {
         requires { place < length self.now }
         ensures { slice_get self.now place ≡ Some result.now.value }
     {
-        &self.rows.as_ref()[place]
+        self.store.event(self.rows.as_ref()[place].at)
     }
 
     /// The event before which so many are.
@@ -196,7 +232,7 @@ impl EventTable {
         if place >= self.count() {
             return None;
         }
-        if has_id(self.nth(place), &id) {
+        if has_id(&self.rows.as_ref()[place], &id) {
             Some(place)
         } else {
             None
@@ -248,23 +284,29 @@ impl EventTable {
         let place = self.count();
         let id = event.id();
         let weight = heavier(self.weight, &event);
-        let row = Rc::new(self.alloc, event)?;
+        let event = Rc::new(self.alloc, event)?;
         note_place(&mut self.places, id, place)?;
-        push_row(&mut self.rows, row)?;
+        let Row { id, at } = self.store.push(event)?;
+        push_row(&mut self.rows, id, at)?;
         self.weight = weight;
         Ok(())
     }
 
-    // The rows with another right after the one with the id.
-    fn rows_with(&self, id: AnyId, row: Rc<PlainEvent>) -> Result<Vec<Rc<PlainEvent>>, NoMemory>
-        requires { IsSome (find_event id self.now) }
-        ensures { IfOk result (λ rows. events_of rows.items ≡ put_after id row.value self.now) }
+    // The table with an event right after the one with the id.
+    fn table_with(&self, id: AnyId, event: PlainEvent) -> Result<EventTable, NoMemory>
+        requires there { IsSome (find_event id self.now) }
+        requires unknown { find_event (id_of event) self.now ≡ None }
+        ensures { IfOk result (λ table. table ≡ put_after id event self.now) }
     {
         let _count = self.count();
         let place = self.place(id).unwrap();
+        let weight = heavier(self.weight, &event);
+        let event = Rc::new(self.alloc, event)?;
+        let mut store = self.store.share()?;
+        let row = store.push(event)?;
         let mut rows = self.rows.as_ref().clone()?;
         rows.insert(place + 1, row)?;
-        Ok(rows)
+        EventTable::of_rows(self.alloc, store, rows, weight)
     }
 
     /// Puts an event right after the one with the id.
@@ -275,10 +317,7 @@ impl EventTable {
         ensures err { OnErr result (self.new ≡ self.old) }
         ensures adds { AddsOnly (id_of event) self.old self.new }
     {
-        let _count = self.count();
-        let row = Rc::new(self.alloc, event)?;
-        let rows = self.rows_with(id, row)?;
-        *self = EventTable::of_rows(self.alloc, rows)?;
+        *self = self.table_with(id, event)?;
         Ok(())
     }
 
@@ -294,21 +333,11 @@ impl EventTable {
         let event = with_field(self.alloc, old, field)?;
         let others = lighter(self.weight, old);
         let weight = heavier(others, &event);
-        let row = Rc::new(self.alloc, event)?;
+        let shared = Rc::new(self.alloc, event)?;
+        let row = self.store.push(shared)?;
         put_row(&mut self.rows, place, row)?;
         self.weight = weight;
         Ok(())
-    }
-
-    // The rows but for the one with the id.
-    fn rows_but(&self, id: AnyId) -> Result<Vec<Rc<PlainEvent>>, NoMemory>
-        ensures { IfOk result (λ rows. events_of rows.items ≡ without id self.now) }
-    {
-        let mut rows = self.rows.as_ref().clone()?;
-        if let Some(place) = self.place(id) {
-            let _ = rows.remove(place);
-        }
-        Ok(rows)
     }
 
     /// Takes the event with the id away. The later ones move up, which costs a move of each.
@@ -318,8 +347,7 @@ impl EventTable {
         ensures adds { AddsNone self.old self.new }
     {
         let _count = self.count();
-        let rows = self.rows_but(id)?;
-        *self = EventTable::of_rows(self.alloc, rows)?;
+        *self = self.table_without(&[id])?;
         Ok(())
     }
 
@@ -337,33 +365,31 @@ impl EventTable {
         Ok(listed)
     }
 
-    // Places to note others in. Most stay as they were, and those of events that are gone may stay.
-    fn noted_places(&self) -> Result<Places, NoMemory> {
-        Ok(self.places.as_ref().clone()?)
-    }
-
-    // The table without the events with these ids. Of those that stay only the ids are looked at.
+    // The table without the events with these ids. At those that stay it doesn't look.
     fn table_without(&self, ids: &[AnyId]) -> Result<EventTable, NoMemory>
         ensures { IfOk result (λ table. table ≡ without_all ids.now self.now) }
     {
         let gone = self.listed(ids)?;
-        let mut rows = Vec::new(self.alloc);
-        let mut places = self.noted_places()?;
+        let mut rows = Vec::with_capacity(self.alloc, self.count())?;
+        // Most places stay as they were, and those of events that go may stay.
+        let mut places = self.places.as_ref().clone()?;
         let mut weight = self.weight;
         for place in 0..self.count() {
-            let row = self.row(place);
             if gone[place] {
-                weight = lighter(weight, row.as_ref());
+                weight = lighter(weight, self.nth(place));
             } else {
-                places.note(row.as_ref().id(), rows.len())?;
-                rows.push(row.clone()?)?;
+                let row = self.rows.as_ref()[place];
+                places.note(row.id, rows.len())?;
+                rows.push(row)?;
             }
         }
         let rows = Rc::new(self.alloc, rows)?;
         let places = Rc::new(self.alloc, places)?;
+        let store = self.store.share()?;
         Ok(EventTable {
             alloc: self.alloc,
             rows,
+            store,
             places,
             weight,
         })
@@ -379,17 +405,20 @@ impl EventTable {
         Ok(())
     }
 
-    // The rows of these ids, in their order.
-    fn rows_of(&self, ids: &[AnyId]) -> Result<Vec<Rc<PlainEvent>>, NoMemory>
-        ensures { IfOk result (λ rows. events_of rows.items ≡ in_order ids.now self.now) }
+    // The table in another order, in which only the rows move.
+    fn table_in(&self, order: &[AnyId]) -> Result<EventTable, NoMemory>
+        requires { IsOrderOf order.now self.now }
+        ensures { IfOk result (λ table. table ≡ in_order order.now self.now) }
     {
-        let mut rows = Vec::with_capacity(self.alloc, ids.len())?;
-        for id in ids {
+        let _count = self.count();
+        let mut rows = Vec::with_capacity(self.alloc, order.len())?;
+        for id in order {
             if let Some(place) = self.place(*id) {
-                rows.push(self.row(place).clone()?)?;
+                rows.push(self.rows.as_ref()[place])?;
             }
         }
-        Ok(rows)
+        let store = self.store.share()?;
+        EventTable::of_rows(self.alloc, store, rows, self.weight)
     }
 
     /// Puts the events in another order.
@@ -399,34 +428,15 @@ impl EventTable {
         ensures err { OnErr result (self.new ≡ self.old) }
         ensures adds { AddsNone self.old self.new }
     {
-        let _count = self.count();
-        let rows = self.rows_of(order)?;
-        *self = EventTable::of_rows(self.alloc, rows)?;
+        *self = self.table_in(order)?;
         Ok(())
     }
 }
 
-fn has_id(event: &PlainEvent, id: &AnyId) -> bool
-    ensures { result ≡ same_id (id_of event.now) id.now }
+fn has_id(row: &Row, id: &AnyId) -> bool
+    ensures { result ≡ same_id row.now.id id.now }
 {
-    event.id() == *id
-}
-
-// The places of these rows, and a bound of what they weigh.
-fn noted_rows(alloc: Global, rows: &[Rc<PlainEvent>]) -> Result<(Places, Option<usize>), NoMemory>
-    requires { AreDistinct (events_of rows.now) }
-    ensures places { IfOk result (λ noted. IsPlaced noted.0 (events_of rows.now)) }
-    ensures weight { IfOk result
-        (λ noted. IfSome noted.1 (λ most. weight_of (events_of rows.now) ≤ most)) }
-{
-    let mut places = Places::new(alloc);
-    let mut weight: Option<usize> = Some(0);
-    for place in 0..rows.len() {
-        let event = rows[place].as_ref();
-        places.note(event.id(), place)?;
-        weight = heavier(weight, event);
-    }
-    Ok((places, weight))
+    row.id == *id
 }
 
 // Notes a place; in a copy, where the places have another owner.
@@ -439,23 +449,19 @@ fn note_place(places: &mut Rc<Places>, id: AnyId, place: usize) -> Result<(), No
 }
 
 // Puts a row at the end; of a copy, where the rows have another owner.
-fn push_row(rows: &mut Rc<Vec<Rc<PlainEvent>>>, row: Rc<PlainEvent>) -> Result<(), NoMemory>
-    ensures ok { OnOk result (events_of rows.new.value.items ≡ events_of rows.old.value.items ++ row.value ∷ []) }
-    ensures err { OnErr result (events_of rows.new.value.items ≡ events_of rows.old.value.items) }
+fn push_row(rows: &mut Rc<Vec<Row>>, id: AnyId, at: usize) -> Result<(), NoMemory>
+    ensures ok { OnOk result (rows.new.value.items ≡ rows.old.value.items ++ record { id = id; at = at } ∷ []) }
+    ensures err { OnErr result (rows.new.value.items ≡ rows.old.value.items) }
 {
-    Rc::make_mut(rows)?.push(row)?;
+    Rc::make_mut(rows)?.push(Row { id, at })?;
     Ok(())
 }
 
 // Puts a row in the place of another; in a copy, where the rows have another owner.
-fn put_row(
-    rows: &mut Rc<Vec<Rc<PlainEvent>>>,
-    place: usize,
-    row: Rc<PlainEvent>,
-) -> Result<(), NoMemory>
-    requires { place < length (events_of rows.old.value.items) }
-    ensures ok { OnOk result (events_of rows.new.value.items ≡ slice_set (events_of rows.old.value.items) place row.value) }
-    ensures err { OnErr result (events_of rows.new.value.items ≡ events_of rows.old.value.items) }
+fn put_row(rows: &mut Rc<Vec<Row>>, place: usize, row: Row) -> Result<(), NoMemory>
+    requires { place < length rows.old.value.items }
+    ensures ok { OnOk result (rows.new.value.items ≡ slice_set rows.old.value.items place row) }
+    ensures err { OnErr result (rows.new.value.items ≡ rows.old.value.items) }
 {
     let rows = Rc::make_mut(rows)?;
     rows[place] = row;

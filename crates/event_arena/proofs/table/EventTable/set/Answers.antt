@@ -1,44 +1,91 @@
-use Rattle.std.proofs.Common.{◌≡◌, ◌∙◌, ◌+◌, ◌-◌, Some, ap, arith, subst, sym}
+use Rattle.std.proofs.Common.{◌≡◌, ◌∙◌, ◌∷◌, ◌++◌, ◌+◌, ◌-◌, [], Some, ap, arith, length, subst, sym}
 use Rattle.std.proofs.Math.ListN.{set}
+use Rattle.std.proofs.lemmas.Result.{MatchResult-from_err}
 use Rattle.std.specs.Prelude.{slice_get}
 use Rattle.plain_model.specs.Lookups.{place_of}
 use Rattle.event_arena.specs.Changes.{changed, with_field}
-use Rattle.event_arena.specs.Rows.{events_of}
+use Rattle.event_arena.specs.Rows.{NameAll, in_rows}
 use Rattle.event_arena.specs.Spent.{AddsNone}
 use Rattle.event_arena.specs.Weights.{event_weight, weight_of}
 use Rattle.event_arena.proofs.ChangeLemmas.{id-with_field}
 use Rattle.event_arena.proofs.DistinctLemmas.{distinct-changed}
-use Rattle.event_arena.proofs.PlaceLemmas.{found-place, placed-changed, put-set}
+use Rattle.event_arena.proofs.PlaceLemmas.{found-place, place-within, placed-changed, put-set}
+use Rattle.event_arena.proofs.RowLemmas.{names-are, names-length, names-more, names-new, names-set, rows-more, table-of}
 use Rattle.event_arena.proofs.SpentLemmas.{adds-changed}
 use Rattle.event_arena.proofs.WeightLemmas.{bound-less, weight-part, weight-set}
 use Rattle.event_arena.proofs.table.EventTable.set.Goals as goal
-use Rattle.event_arena.proofs.table.EventTable.set.Goals.{After-weight-1}
+use Rattle.event_arena.proofs.table.EventTable.set.Goals.{After-weight-1, In_err-put_row}
 
 pub unwrap-place-requires : goal.unwrap-place-requires
 unwrap-place-requires c = rw c.place.ensures.place (found-place c.args.id c.args.self.now c.requires)
 
+pub put_row-requires : goal.put_row-requires
+put_row-requires c =
+    let stored = c.self.inside.store in
+    let rows = c.self.inside.rows.value.items in
+    let within = place-within c.args.self.now c.unwrap-place.result c.nth-old.result.now c.nth-old.ensures.event in
+    let long = names-length stored rows (in_rows stored rows) c.self.invariant.listed.named in
+    let same = ap length c.self.view_is in
+    omega arith
+
+pub invariant_of-self-in_err-put_row : goal.invariant_of-self-in_err-put_row
+invariant_of-self-in_err-put_row c =
+    let stored = c.self.inside.store in
+    let rows = c.self.inside.rows.value.items in
+    let more = c.in_ok-shared.shared.value ∷ [] in
+    rw (c.in_err-put_row.ensures.err, c.in_ok-row.ensures.ok) (table-of (stored ++ more) rows c.self.inside.places.value c.self.inside.weight (in_rows stored rows) (record {
+      listed = rows-more stored more rows c.self.inside.weight (in_rows stored rows) c.self.invariant.listed;
+      placed = c.self.invariant.placed;
+    }))
+
+-- one event more in the store, which no row names
+same : (c : In_err-put_row) → in_rows c.push.new.self c.put_row.new.rows.value.items ≡ c.args.self.now
+same c =
+    let stored = c.self.inside.store in
+    let rows = c.self.inside.rows.value.items in
+    let more = c.in_ok-shared.shared.value ∷ [] in
+    let old = in_rows stored rows in
+    rw (c.in_err-put_row.ensures.err, c.in_ok-row.ensures.ok) (names-are (stored ++ more) rows old (names-more stored more rows old c.self.invariant.listed.named) ∙ c.self.view_is)
+
+pub returns-in_err-put_row-clause-err : goal.returns-in_err-put_row-clause-err
+returns-in_err-put_row-clause-err c =
+    MatchResult-from_err c.from_residual-in_err-put_row.result _ _ c.from_residual-in_err-put_row.ensures.0 (λ _. same c.before)
+
+pub returns-in_err-put_row-clause-adds : goal.returns-in_err-put_row-clause-adds
+returns-in_err-put_row-clause-adds c = subst (AddsNone c.args.self.now) (sym (same c.before)) (λ id absent. absent)
+
 -- the event that is there
-there : (c : After-weight-1) → slice_get (events_of c.self.inside.rows.value.items) c.unwrap-place.result ≡ Some c.nth-old.result.now
+there : (c : After-weight-1) → slice_get (in_rows c.self.inside.store c.self.inside.rows.value.items) c.unwrap-place.result ≡ Some c.nth-old.result.now
 there c = subst (λ xs. slice_get xs c.unwrap-place.result ≡ Some c.nth-old.result.now) (sym c.self.view_is) c.nth-old.ensures.event
 
 -- one with the value in its place
-swapped : (c : After-weight-1) → set (events_of c.self.inside.rows.value.items) c.unwrap-place.result (with_field c.args.field c.nth-old.result.now)
-    ≡ changed c.args.id (with_field c.args.field) (events_of c.self.inside.rows.value.items)
+swapped : (c : After-weight-1) → set (in_rows c.self.inside.store c.self.inside.rows.value.items) c.unwrap-place.result (with_field c.args.field c.nth-old.result.now)
+    ≡ changed c.args.id (with_field c.args.field) (in_rows c.self.inside.store c.self.inside.rows.value.items)
 swapped c =
+    let old = in_rows c.self.inside.store c.self.inside.rows.value.items in
     let k = c.unwrap-place.result in
     let place = subst (λ xs. place_of c.args.id xs ≡ Some k) (sym c.self.view_is) (sym c.place.ensures.place ∙ c.unwrap-place.ensures) in
-    put-set c.args.id (with_field c.args.field) (events_of c.self.inside.rows.value.items) k c.nth-old.result.now place (there c)
+    put-set c.args.id (with_field c.args.field) old k c.nth-old.result.now place (there c)
 
--- the row with the value is put
-put : (c : After-weight-1) → events_of c.put_row.new.rows.value.items ≡ changed c.args.id (with_field c.args.field) (events_of c.self.inside.rows.value.items)
+-- the row of the event with the value is put
+put : (c : After-weight-1) → NameAll c.push.new.self c.put_row.new.rows.value.items (changed c.args.id (with_field c.args.field) (in_rows c.self.inside.store c.self.inside.rows.value.items))
 put c =
-    c.in_ok-put_row.ensures.ok ∙ ap (set (events_of c.self.inside.rows.value.items) c.unwrap-place.result) (c.in_ok-row.ensures.ok ∙ c.in_ok-event.ensures) ∙ swapped c
+    let stored = c.self.inside.store in
+    let rows = c.self.inside.rows.value.items in
+    let old = in_rows stored rows in
+    let k = c.unwrap-place.result in
+    let x = c.in_ok-shared.shared.value in
+    let new = with_field c.args.field c.nth-old.result.now in
+    let more = names-more stored (x ∷ []) rows old c.self.invariant.listed.named in
+    let row = names-new stored x new c.in_ok-row.row (c.in_ok-shared.ensures.ok ∙ c.in_ok-event.ensures) c.in_ok-row.ensures.number c.in_ok-row.ensures.id in
+    rw (c.in_ok-put_row.ensures.ok, c.in_ok-row.ensures.ok)
+    (subst (NameAll (stored ++ x ∷ []) (set rows k c.in_ok-row.row)) (swapped c) (names-set (stored ++ x ∷ []) rows old k c.in_ok-row.row new more row))
 
 pub invariant_of-self-2 : goal.invariant_of-self-2
 invariant_of-self-2 c =
-    let es = events_of c.self.inside.rows.value.items in
+    let es = in_rows c.self.inside.store c.self.inside.rows.value.items in
     let f = with_field c.args.field in
-    let same = id-with_field c.args.field in
+    let kept = id-with_field c.args.field in
     let k = c.unwrap-place.result in
     let old = c.nth-old.result.now in
     let part = weight-part es k old (there c) in
@@ -46,17 +93,24 @@ invariant_of-self-2 c =
     let changed_weight = ap weight_of (swapped c) in
     let own = ap event_weight c.in_ok-event.ensures in
     let rest = weight_of es - event_weight old in
-    let others = c.lighter-others.ensures rest (bound-less c.self.inside.weight (rest + event_weight old) (weight_of es) (omega arith) c.self.invariant.bound) in
-    rw (put c) (record {
-      once = distinct-changed c.args.id f same es c.self.invariant.once;
-      placed = placed-changed c.self.inside.places.value c.args.id f same es c.self.invariant.placed;
-      bound = bound-less c.heavier-weight.result (weight_of (changed c.args.id f es)) (rest + event_weight c.in_ok-event.event) (omega arith) (c.heavier-weight.ensures rest others);
+    let others = c.lighter-others.ensures rest (bound-less c.self.inside.weight (rest + event_weight old) (weight_of es) (omega arith) c.self.invariant.listed.bound) in
+    table-of c.push.new.self c.put_row.new.rows.value.items c.self.inside.places.value c.heavier-weight.result (changed c.args.id f es) (record {
+      listed = record {
+        named = put c;
+        once = distinct-changed c.args.id f kept es c.self.invariant.listed.once;
+        bound = bound-less c.heavier-weight.result (weight_of (changed c.args.id f es)) (rest + event_weight c.in_ok-event.event) (omega arith) (c.heavier-weight.ensures rest others);
+      };
+      placed = placed-changed c.self.inside.places.value c.args.id f kept es c.self.invariant.placed;
     })
 
+-- so the table has what is changed
+all : (c : After-weight-1) → in_rows c.push.new.self c.put_row.new.rows.value.items ≡ changed c.args.id (with_field c.args.field) c.args.self.now
+all c =
+    let es = in_rows c.self.inside.store c.self.inside.rows.value.items in
+    names-are c.push.new.self c.put_row.new.rows.value.items (changed c.args.id (with_field c.args.field) es) (put c) ∙ ap (changed c.args.id (with_field c.args.field)) c.self.view_is
+
 pub returns-clause-ok : goal.returns-clause-ok
-returns-clause-ok c = rw (← c.self.view_is) (put c)
+returns-clause-ok c = all c
 
 pub returns-clause-adds : goal.returns-clause-adds
-returns-clause-adds c =
-    let es = events_of c.self.inside.rows.value.items in
-    rw (← c.self.view_is) (subst (AddsNone es) (sym (put c)) (adds-changed c.args.id (with_field c.args.field) (id-with_field c.args.field) es))
+returns-clause-adds c = subst (AddsNone c.args.self.now) (sym (all c)) (adds-changed c.args.id (with_field c.args.field) (id-with_field c.args.field) c.args.self.now)

@@ -1,12 +1,7 @@
-use Rattle.std.proofs.Common.{◌∙◌, subst, sym}
+use Rattle.std.proofs.Common.{subst, sym}
 use Rattle.event_arena.specs.Spent.{AddsNone}
-use Rattle.event_arena.proofs.DistinctLemmas.{distinct-in_order}
 use Rattle.event_arena.proofs.SpentLemmas.{adds-in_order}
 use Rattle.event_arena.proofs.table.EventTable.set_order.Goals as goal
 
-pub of_rows-requires : goal.of_rows-requires
-of_rows-requires c = rw c.in_ok-rows.ensures (distinct-in_order c.args.order.now c.args.self.now c.count-count.ensures.once c.requires)
-
 pub returns-clause-adds : goal.returns-clause-adds
-returns-clause-adds c =
-    subst (AddsNone c.args.self.now) (sym (c.drop.view_is ∙ c.in_ok-self-inside.ensures ∙ c.in_ok-rows.ensures)) (adds-in_order c.args.order.now c.args.self.now)
+returns-clause-adds c = subst (AddsNone c.args.self.now) (sym c.in_ok-self.ensures) (adds-in_order c.args.order.now c.args.self.now)
