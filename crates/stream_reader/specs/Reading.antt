@@ -1,5 +1,5 @@
 -- Where the reading of a stream has come to, as the machine of its grammar.
-use Rattle.std.specs.Prelude.{◌≡◌, ℕ, ◌+◌, ◌≤◌, ◌^◌, Bool, true, false, List, [], ◌∷◌, Result, Ok, Err}
+use Rattle.std.specs.Prelude.{◌≡◌, ℕ, ◌+◌, ◌≤◌, ◌^◌, Bool, true, false, not, List, [], ◌∷◌, Result, Ok, Err}
 use Rattle.plain_model.specs.declared.fault.Which.{Which}
 use Rattle.plain_model.specs.declared.fault.Why.{Why}
 use Rattle.plain_model.specs.Parts.{is_lf}
@@ -113,6 +113,16 @@ has_begun (place.EndlessBlock from) = false
 has_begun (place.AfterBlock in_line) = false
 has_begun place.Over = false
 has_begun (place.Refused fault) = false
+
+-- the next byte is the first of a line
+abbrev pub is_between_lines : Place → Bool
+is_between_lines (place.Line text) = not (is_some_text text)
+is_between_lines (place.DelimitedBlock from delimiter bytes text) = false
+is_between_lines (place.Block from more bytes) = false
+is_between_lines (place.EndlessBlock from) = false
+is_between_lines (place.AfterBlock in_line) = false
+is_between_lines place.Over = false
+is_between_lines (place.Refused fault) = false
 
 -- the next byte is an LF
 abbrev pub begins_with_lf : Bytes → Bool

@@ -7,6 +7,7 @@ ghost use Rattle.std.specs.Prelude.{
   ◌++◌,
   ◌^◌,
   ℕ,
+  [],
   Bool,
   IfErr,
   IfOk,
@@ -44,6 +45,7 @@ ghost use Rattle.stream_reader.specs.Reading.{
   goes,
   has_begun,
   in_line,
+  is_between_lines,
   is_some_text,
   placed,
   reported,
@@ -181,6 +183,26 @@ fn is_some_text(text: &[u8]) -> bool
     !text.is_empty()
 }
 
+// Whether the next byte is the first of a line.
+fn is_between_lines(place: &Place) -> bool
+    ensures { result ≡ is_between_lines place.now }
+{
+    match place {
+        Place::Line { begun } => !is_some_text(begun.as_slice()),
+        _ => false,
+    }
+}
+
+// Whether it is so after something that may be refused.
+fn leads_between_lines(leads: &Result<Place, ReadFault>) -> bool
+    ensures { result ≡ is_between_lines (placed leads.now) }
+{
+    match leads {
+        Ok(place) => is_between_lines(place),
+        Err(_) => false,
+    }
+}
+
 impl StreamReader {
     /// Before the first byte.
     pub fn new(alloc: Global) -> StreamReader
@@ -211,8 +233,19 @@ impl StreamReader {
         };
     }
 
+    // The same from the first byte of a line on. Mostly the next byte is the first of a line again, and nothing is moved.
+    fn go_on(&mut self, leads: Result<Place, ReadFault>)
+        requires { is_between_lines self.old.place ≡ true }
+        ensures { self.new ≡ record self.old { place = placed leads } }
+    {
+        if !leads_between_lines(&leads) {
+            self.go_to(leads);
+        }
+    }
+
     // What follows a line of data.
     fn end_data(&mut self, line: &[u8]) -> Result<Place, ReadFault>
+        ensures place { self.new.place ≡ self.old.place }
         ensures standing { self.new.standing ≡ self.old.standing }
         ensures number { self.new.number ≡ self.old.number }
         ensures come { self.new.come ≡ self.old.come }
@@ -249,6 +282,7 @@ impl StreamReader {
 
     // What follows a line that has come whole.
     fn end_line(&mut self, line: &[u8]) -> Result<Place, ReadFault>
+        ensures place { self.new.place ≡ self.old.place }
         ensures number { self.new.number ≡ self.old.number }
         ensures come { self.new.come ≡ self.old.come }
         ensures leads { (spelled : List Bytes) →
@@ -322,6 +356,27 @@ impl StreamReader {
                 rest.len()
             }
         }
+    }
+
+    // A line from its first byte on, up to its end.
+    fn begin_line(&mut self, rest: &[u8]) -> usize
+        requires some { 0 < length rest.now }
+        requires room { self.old.come + length rest.now < 2 ^ 63 }
+        requires place { is_between_lines self.old.place ≡ true }
+        ensures count { (1 ≤ result) × (result ≤ length rest.now) }
+        ensures come { self.new.come ≡ self.old.come + result }
+        ensures reads { (m : StreamMachine) →
+            IsAt self.old.standing self.old.known self.old.number (InLine []) m →
+            HasCome self.new (after m (take result rest.now)) }
+    {
+        let Some((line, _)) = cut(b'\n', rest) else {
+            return self.take_line(Items::empty(self.alloc), rest);
+        };
+        self.come += line.len() as u64 + 1;
+        let leads = self.end_line(line);
+        self.number += 1;
+        self.go_on(leads);
+        line.len() + 1
     }
 
     // A block that has come whole.
@@ -496,6 +551,9 @@ impl StreamReader {
         ensures reads { (m : StreamMachine) → HasCome self.old m →
             HasCome self.new (after m (take result rest.now)) }
     {
+        if is_between_lines(&self.place) {
+            return self.begin_line(rest);
+        }
         match mem::replace(&mut self.place, Place::Over) {
             Place::Line { begun } => self.take_line(begun, rest),
             Place::Block { from, more, bytes } => self.take_counted(from, more, bytes, rest),

@@ -38,6 +38,7 @@ returns-after-judge c =
     let plain = sym c.is_comment.ensures ∙ c.if-is_comment.false in
     let stands = sym c.after.ensures ∙ c.in-Ok.is in
     record {
+      place = ap (λ (r : Reading). r.place) c.self.view_is;
       number = ap (λ (r : Reading). r.number) c.self.view_is;
       come = ap (λ (r : Reading). r.come) c.self.view_is;
       leads = subst (λ (r : Reading). (spelled : List Bytes) → Leads c.in-Ok.after c.judge.new.self (r.number + 1) r.come c.match-judge.result (after_line r.number (state r.standing spelled r.known) line)) c.self.view_is
