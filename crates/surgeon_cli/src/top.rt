@@ -54,6 +54,7 @@ use plain_model::{Fault, Items, MAX_SCRIPT_BYTES, NoMemory, Status, Text};
 use script_reader::{Script, a_script_is_never_absent};
 use shown_laws::what_is_written_shows_the_history;
 use std::alloc::Global;
+use std::mem;
 use surgeon_session::Session;
 use surgeon_store::{ReadEnd, Sink, Store, WriteEnd, read_file, write_all};
 
@@ -189,7 +190,12 @@ fn run_script<S: Store, T: Sink, P: Patterns>(
     ensures words { result ≢ Status.Usage }
 {
     match Session::new(alloc) {
-        Ok(mut session) => session.run(script, keep_going, store, out, patterns),
+        Ok(mut session) => {
+            let status = session.run(script, keep_going, store, out, patterns);
+            // The program ends with this run, and then its memory goes back at once. Event by event it would take longer.
+            mem::forget(session);
+            status
+        }
         Err(NoMemory) => Status::Memory,
     }
 }
