@@ -13,60 +13,11 @@ use Rattle.plain_model.specs.Lookups.{greatest_mark, greatest_of, next_mark, top
 use Rattle.plain_model.specs.Marks.{IsMark}
 use Rattle.plain_model.specs.Soundness.{IsFormedEvent}
 use Rattle.plain_model.specs.Streams.{is_among, is_marked}
+use Rattle.history_laws.proofs.GreatestMarks.{above_is_new}
 use Rattle.history_laws.proofs.Lists.{all_imply}
 
 abbrev up : ℕ → PlainEvent → ℕ
 up n e = max n (top_mark e)
-
-no_less : (n : ℕ) (es : List PlainEvent) → n ≤ fold up n es
-no_less n [] = omega arith
-no_less n (e ∷ es) =
-    let one = no_less (max n (top_mark e)) es in
-    let two = le-max_left n (top_mark e) in
-    omega arith
-
--- nor is one of the aliases of a commit
-no_lower : (n : ℕ) (marks : List ℕ) → n ≤ greatest_of n marks
-no_lower n [] = omega arith
-no_lower n (k ∷ marks) =
-    let one = no_lower (max n k) marks in
-    let two = le-max_left n k in
-    omega arith
-
-among_below : (n m : ℕ) (marks : List ℕ) → is_among marks m ≡ true → m ≤ greatest_of n marks
-among_below n m [] h = absurd (true≢false (sym h))
-among_below n m (k ∷ marks) h =
-    elim (or_cases (k == m) (is_among marks m) h) [
-      | inl it ↦ let same : k ≡ m = eqb-true k m it in let one = no_lower (max n k) marks in let two = le-max_right n k in omega arith
-      | inr later ↦ among_below (max n k) m marks later
-    ]
-
--- no mark is above the greatest
-none_above : (n m : ℕ) (es : List PlainEvent) → is_marked es m ≡ true → m ≤ fold up n es
-none_above n m [] h = absurd (true≢false (sym h))
-none_above n m (Blob id mark bytes ∷ es) h =
-    elim (or_cases (mark == m) (is_marked es m) h) [
-      | inl it ↦ let same : mark ≡ m = eqb-true mark m it in let one = no_less (max n mark) es in let two = le-max_right n mark in omega arith
-      | inr later ↦ none_above (max n mark) m es later
-    ]
-none_above n m (Commit id mark branch author committer encoding comment parents ops aliases ∷ es) h =
-    let one = no_less (max n (greatest_of mark aliases)) es in
-    let two = le-max_right n (greatest_of mark aliases) in
-    elim (or_cases (mark == m) (is_among aliases m || is_marked es m) h) [
-      | inl it ↦ let same : mark ≡ m = eqb-true mark m it in let three = no_lower mark aliases in omega arith
-      | inr more ↦ elim (or_cases (is_among aliases m) (is_marked es m) more) [
-        | inl alias ↦ let three = among_below mark m aliases alias in omega arith
-        | inr later ↦ none_above (max n (greatest_of mark aliases)) m es later
-      ]
-    ]
-none_above n m (Tag id name target tagger comment None ∷ es) h = none_above (max n 0) m es h
-none_above n m (Tag id name target tagger comment (Some mark) ∷ es) h =
-    elim (or_cases ((mark == m) || false) (is_marked es m) h) [
-      | inl it ↦ let same : mark ≡ m = eqb-true mark m (sym (or-false (mark == m)) ∙ it) in let one = no_less (max n mark) es in let two = le-max_right n mark in omega arith
-      | inr later ↦ none_above (max n mark) m es later
-    ]
-none_above n m (Reset id branch target ∷ es) h = none_above (max n 0) m es h
-none_above n m (Pass id line ∷ es) h = none_above (max n 0) m es h
 
 -- the greatest is no more than what each is no more than
 all_below : (n b : ℕ) (es : List PlainEvent) → n ≤ b → AllByRecursion (λ e. top_mark e ≤ b) es → fold up n es ≤ b
@@ -103,10 +54,7 @@ next_is events mark h = go (greatest_mark events == MAX_MARK) refl h
 pub next_unmarked : (events : List PlainEvent) (mark : ℕ) → next_mark events ≡ Some mark → is_marked events mark ≡ false
 next_unmarked events mark h =
     let is = (next_is events mark h).1 in
-    elim (cases_Bool (is_marked events mark)) [
-      | inl there ↦ let low = none_above 0 mark events there in absurd (omega arith)
-      | inr absent ↦ absent
-    ]
+    above_is_new events mark (omega arith)
 
 pub next_a_mark : (events : List PlainEvent) (mark : ℕ) → AllByRecursion IsFormedEvent events → next_mark events ≡ Some mark → IsMark mark
 next_a_mark events mark a h =

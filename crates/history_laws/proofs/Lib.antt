@@ -1,4 +1,5 @@
 pub mod Commits
+pub mod GreatestMarks
 pub mod Ids
 pub mod LineLaws
 pub mod Lists

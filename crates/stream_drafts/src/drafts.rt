@@ -87,10 +87,14 @@ impl Drafts {
     }
 
     /// Whether an event has the mark.
-    #[tactic(auto, using(crate::proofs::After::marked_by_kind))]
+    #[tactic(auto, using(crate::proofs::After::marked_by_kind, history_laws::proofs::GreatestMarks::above_is_new))]
     pub fn is_marked(&self, mark: Mark) -> bool
         ensures { result ≡ is_marked self.now mark }
     {
+        // Mostly marks rise, so that no search does.
+        if mark.number() > self.greatest {
+            return false;
+        }
         let blob = self.blob_marked(mark).is_some();
         let commit = self.commit_marked(mark).is_some();
         blob || commit || self.tags.contains(&mark.number())

@@ -9,12 +9,16 @@ use std::collections::HashMap;
 #[derive(Drop)]
 pub struct Names {
     kept: HashMap<Vec<u8>, Shared<Text>>,
+    // The one that was spelled last, which mostly comes next, too.
+    last: Option<Shared<Text>>,
 }
 
 /// The people so far, by their names and emails as they were spelled.
 #[derive(Drop)]
 pub struct People {
     kept: HashMap<Vec<u8>, Shared<Person>>,
+    // Whoever was spelled last, who mostly comes next, too.
+    last: Option<Shared<Person>>,
 }
 
 // What is kept is looked at again where it is found, so that nothing has to be known of the maps.
@@ -35,6 +39,7 @@ impl Names {
     pub fn new(alloc: Global) -> Names {
         Names {
             kept: HashMap::new(alloc),
+            last: None,
         }
     }
 
@@ -49,8 +54,8 @@ impl Names {
         }
     }
 
-    /// The name: the one that is kept, or a new one that is kept from now on.
-    pub fn shared(&mut self, alloc: Global, name: &[u8]) -> Result<Shared<Text>, NoMemory>
+    // The name that is kept, or a new one that is kept from now on.
+    fn kept_or_made(&mut self, alloc: Global, name: &[u8]) -> Result<Shared<Text>, NoMemory>
         ensures { IfOk result (λ made. made ≡ name.now) }
     {
         if let Some(found) = self.found(name) {
@@ -61,6 +66,20 @@ impl Names {
         self.kept.insert(key, made.share()?)?;
         Ok(made)
     }
+
+    /// The name: the one that is kept, or a new one that is kept from now on.
+    pub fn shared(&mut self, alloc: Global, name: &[u8]) -> Result<Shared<Text>, NoMemory>
+        ensures { IfOk result (λ made. made ≡ name.now) }
+    {
+        if let Some(last) = &self.last {
+            if is_name(last, name) {
+                return last.share();
+            }
+        }
+        let made = self.kept_or_made(alloc, name)?;
+        self.last = Some(made.share()?);
+        Ok(made)
+    }
 }
 
 impl People {
@@ -68,6 +87,7 @@ impl People {
     pub fn new(alloc: Global) -> People {
         People {
             kept: HashMap::new(alloc),
+            last: None,
         }
     }
 
@@ -82,8 +102,8 @@ impl People {
         }
     }
 
-    /// The person with this name and this email, who are spelled so: whoever is kept, or a new one who is kept from now on.
-    pub fn shared(
+    // Whoever is kept, or a new one who is kept from now on.
+    fn kept_or_made(
         &mut self,
         alloc: Global,
         spelled: &[u8],
@@ -102,6 +122,26 @@ impl People {
         let made = Shared::new(alloc, person)?;
         let key = Vec::from_slice(alloc, spelled)?;
         self.kept.insert(key, made.share()?)?;
+        Ok(made)
+    }
+
+    /// The person with this name and this email, who are spelled so: whoever is kept, or a new one who is kept from now on.
+    pub fn shared(
+        &mut self,
+        alloc: Global,
+        spelled: &[u8],
+        name: &[u8],
+        email: &[u8],
+    ) -> Result<Shared<Person>, NoMemory>
+        ensures { IfOk result (λ made. made ≡ record { name = name.now; email = email.now }) }
+    {
+        if let Some(last) = &self.last {
+            if is_person(last.as_ref(), name, email) {
+                return last.share();
+            }
+        }
+        let made = self.kept_or_made(alloc, spelled, name, email)?;
+        self.last = Some(made.share()?);
         Ok(made)
     }
 }

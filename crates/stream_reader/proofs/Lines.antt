@@ -20,8 +20,9 @@ use Rattle.stream_grammar.specs.Lines.{State, after_word, data_arrived, is_comme
 use Rattle.stream_builder.specs.declared.fault.LineFault.{LineFault}
 use Rattle.stream_builder.specs.declared.fault.LineFault.TheVariants as fault_of_line
 use Rattle.stream_builder.specs.Judging.{Judges}
+use Rattle.stream_reader.specs.declared.place.Place.{Place}
 use Rattle.stream_reader.specs.declared.place.Place.TheVariants as place
-use Rattle.stream_reader.specs.Reading.{HasStopped, IsAt, IsIn, StreamMachine, after_compared, after_line, goes, in_line, state}
+use Rattle.stream_reader.specs.Reading.{HasStopped, IsAt, IsIn, StreamMachine, after_compared, after_line, goes, in_line, is_between_lines, state}
 use Rattle.stream_reader.proofs.Steps.{comment_step, block_refused, made, next_is_line}
 
 -- ---- by what follows a line of data
@@ -135,3 +136,14 @@ module _ (standing : Standing) (known : Known) (n come from : ℕ) (delimiter by
     where
       by_test : Bool → StreamMachine
       by_test t = (let to = cond {A = Mode × State} t (After false, data_arrived (state standing spelled known) bytes) (InDelimited from delimiter (bytes ++ line ++ 10 ∷ []) [], state standing spelled known) in At (n + 1) to.0 to.1)
+
+-- between two lines nothing has come of the next one
+pub between_lines : (p : Place) → is_between_lines p ≡ true → p ≡ place.Line []
+between_lines (place.Line []) e = refl
+between_lines (place.Line (b ∷ bs)) e = absurd cc
+between_lines (place.DelimitedBlock from delimiter bytes text) e = absurd cc
+between_lines (place.Block from more bytes) e = absurd cc
+between_lines (place.EndlessBlock from) e = absurd cc
+between_lines (place.AfterBlock in_line) e = absurd cc
+between_lines place.Over e = absurd cc
+between_lines (place.Refused fault) e = absurd cc

@@ -95,6 +95,11 @@ abbrev pub placed : Result Place ReadFault → Place
 placed (Ok p) = p
 placed (Err fault) = place.Refused fault
 
+-- the place stays after something that may be refused
+abbrev pub stayed : Place → Result (Unit {0}) ReadFault → Result Place ReadFault
+stayed p (Ok _) = Ok p
+stayed p (Err fault) = Err fault
+
 -- what is kept is this place, or memory is out
 abbrev pub Makes : Result Place ReadFault → Place → Type 0
 Makes (Ok made) p = made ≡ p

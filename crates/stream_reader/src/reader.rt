@@ -50,6 +50,7 @@ ghost use Rattle.stream_reader.specs.Reading.{
   placed,
   reported,
   state,
+  stayed,
 };
 
 use crate::fault::ReadFault;
@@ -193,16 +194,6 @@ fn is_between_lines(place: &Place) -> bool
     }
 }
 
-// Whether it is so after something that may be refused.
-fn leads_between_lines(leads: &Result<Place, ReadFault>) -> bool
-    ensures { result ≡ is_between_lines (placed leads.now) }
-{
-    match leads {
-        Ok(place) => is_between_lines(place),
-        Err(_) => false,
-    }
-}
-
 impl StreamReader {
     /// Before the first byte.
     pub fn new(alloc: Global) -> StreamReader
@@ -233,19 +224,17 @@ impl StreamReader {
         };
     }
 
-    // The same from the first byte of a line on. Mostly the next byte is the first of a line again, and nothing is moved.
-    fn go_on(&mut self, leads: Result<Place, ReadFault>)
-        requires { is_between_lines self.old.place ≡ true }
-        ensures { self.new ≡ record self.old { place = placed leads } }
+    // The place is as it is, unless a line was refused.
+    fn stay(&mut self, ended: Result<(), ReadFault>)
+        ensures { self.new ≡ record self.old { place = placed (stayed self.old.place ended) } }
     {
-        if !leads_between_lines(&leads) {
-            self.go_to(leads);
+        if let Err(fault) = ended {
+            self.place = Place::Refused(fault);
         }
     }
 
     // What follows a line of data.
     fn end_data(&mut self, line: &[u8]) -> Result<Place, ReadFault>
-        ensures place { self.new.place ≡ self.old.place }
         ensures standing { self.new.standing ≡ self.old.standing }
         ensures number { self.new.number ≡ self.old.number }
         ensures come { self.new.come ≡ self.old.come }
@@ -280,19 +269,18 @@ impl StreamReader {
         }
     }
 
-    // What follows a line that has come whole.
-    fn end_line(&mut self, line: &[u8]) -> Result<Place, ReadFault>
-        ensures place { self.new.place ≡ self.old.place }
+    // A line has come whole. Mostly the next byte is the first of a line again, and the place stays.
+    fn end_line(&mut self, line: &[u8]) -> Result<(), ReadFault>
+        requires { is_between_lines self.old.place ≡ true }
         ensures number { self.new.number ≡ self.old.number }
         ensures come { self.new.come ≡ self.old.come }
         ensures leads { (spelled : List Bytes) →
-            Leads self.new.standing self.new.known (self.old.number + 1) self.old.come result
+            Leads self.new.standing self.new.known (self.old.number + 1) self.old.come
+            (stayed self.new.place result)
             (after_line self.old.number (state self.old.standing spelled self.old.known) line.now) }
     {
         if is_comment(line) {
-            return Ok(Place::Line {
-                begun: Items::empty(self.alloc),
-            });
+            return Ok(());
         }
         let word = word_of(line);
         self.standing = match self.standing.after(word) {
@@ -305,23 +293,32 @@ impl StreamReader {
             }
         };
         match word {
-            Word::Data => self.end_data(line),
-            Word::Done => Ok(Place::Over),
+            Word::Data => match self.end_data(line) {
+                Ok(place) => {
+                    self.place = place;
+                    Ok(())
+                }
+                Err(fault) => Err(fault),
+            },
+            Word::Done => {
+                self.place = Place::Over;
+                Ok(())
+            }
             _ => match self.builder.judge(self.alloc, word, line) {
-                Ok(()) => Ok(Place::Line {
-                    begun: Items::empty(self.alloc),
-                }),
+                Ok(()) => Ok(()),
                 Err(fault) => Err(in_line(self.number, fault)),
             },
         }
     }
 
     // The rest of a line that has begun.
-    fn end_begun(&mut self, mut begun: Text, part: &[u8]) -> Result<Place, ReadFault>
+    fn end_begun(&mut self, mut begun: Text, part: &[u8]) -> Result<(), ReadFault>
+        requires { is_between_lines self.old.place ≡ true }
         ensures number { self.new.number ≡ self.old.number }
         ensures come { self.new.come ≡ self.old.come }
         ensures leads { (spelled : List Bytes) →
-            Leads self.new.standing self.new.known (self.old.number + 1) self.old.come result
+            Leads self.new.standing self.new.known (self.old.number + 1) self.old.come
+            (stayed self.new.place result)
             (after_line self.old.number (state self.old.standing spelled self.old.known)
             (begun ++ part.now)) }
     {
@@ -336,6 +333,7 @@ impl StreamReader {
     fn take_line(&mut self, begun: Text, rest: &[u8]) -> usize
         requires some { 0 < length rest.now }
         requires room { self.old.come + length rest.now < 2 ^ 63 }
+        requires place { is_between_lines self.old.place ≡ true }
         ensures count { (1 ≤ result) × (result ≤ length rest.now) }
         ensures come { self.new.come ≡ self.old.come + result }
         ensures reads { (m : StreamMachine) →
@@ -345,9 +343,9 @@ impl StreamReader {
         match cut(b'\n', rest) {
             Some((part, _)) => {
                 self.come += part.len() as u64 + 1;
-                let leads = self.end_begun(begun, part);
+                let ended = self.end_begun(begun, part);
                 self.number += 1;
-                self.go_to(leads);
+                self.stay(ended);
                 part.len() + 1
             }
             None => {
@@ -373,9 +371,9 @@ impl StreamReader {
             return self.take_line(Items::empty(self.alloc), rest);
         };
         self.come += line.len() as u64 + 1;
-        let leads = self.end_line(line);
+        let ended = self.end_line(line);
         self.number += 1;
-        self.go_on(leads);
+        self.stay(ended);
         line.len() + 1
     }
 
@@ -425,6 +423,7 @@ impl StreamReader {
     fn leave_block(&mut self, rest: &[u8]) -> usize
         requires some { 0 < length rest.now }
         requires room { self.old.come + length rest.now < 2 ^ 63 }
+        requires place { is_between_lines self.old.place ≡ true }
         ensures count { (1 ≤ result) × (result ≤ length rest.now) }
         ensures come { self.new.come ≡ self.old.come + result }
         ensures reads { (in_line : Bool) → (m : StreamMachine) →
@@ -436,9 +435,6 @@ impl StreamReader {
         }
         self.come += 1;
         self.number += 1;
-        self.place = Place::Line {
-            begun: Items::empty(self.alloc),
-        };
         1
     }
 
@@ -554,7 +550,10 @@ impl StreamReader {
         if is_between_lines(&self.place) {
             return self.begin_line(rest);
         }
-        match mem::replace(&mut self.place, Place::Over) {
+        let between = Place::Line {
+            begun: Items::empty(self.alloc),
+        };
+        match mem::replace(&mut self.place, between) {
             Place::Line { begun } => self.take_line(begun, rest),
             Place::Block { from, more, bytes } => self.take_counted(from, more, bytes, rest),
             Place::AfterBlock { .. } => self.leave_block(rest),

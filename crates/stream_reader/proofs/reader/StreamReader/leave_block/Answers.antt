@@ -1,7 +1,9 @@
-use Rattle.std.proofs.Common.{◌+◌, Bool, take, subst, sym, ◌∙◌}
+use Rattle.std.proofs.Common.{◌+◌, Bool, [], take, refl, subst, sym, ap, ◌∙◌}
 use Rattle.plain_model.specs.Paths.{Bytes}
 use Rattle.line_automaton.specs.Machine.Mode.{After, InLine}
-use Rattle.stream_reader.specs.Reading.{HasCome, IsAt, Reading, StreamMachine, after}
+use Rattle.stream_reader.specs.declared.place.Place.{Place}
+use Rattle.stream_reader.specs.Reading.{HasCome, IsAt, IsIn, Reading, StreamMachine, after, is_between_lines}
+use Rattle.stream_reader.proofs.Lines.{between_lines}
 use Rattle.stream_reader.proofs.Pieces.{after_byte, after_lf}
 use Rattle.stream_reader.proofs.reader.StreamReader.leave_block.Goals as goal
 
@@ -17,5 +19,8 @@ returns-then-not-begins_with_lf-clause-reads c = λ in_line m here.
 pub returns-clause-reads : goal.returns-clause-reads
 returns-clause-reads c =
     let rest = c.args.rest.now in
-    subst (λ (r : Reading). (in_line : Bool) → (m : StreamMachine) → IsAt r.standing r.known r.number (After in_line) m → IsAt c.self.inside.standing c.self.inside.builder (c.self.inside.number + 1) (InLine c.empty-2.result) (after m (take 1 rest))) c.self.view_is
-    (λ in_line m here. after_lf c.self.inside.standing c.self.inside.builder c.self.inside.number in_line rest c.empty-2.result m (sym c.begins_with_lf.ensures ∙ c.if-not-begins_with_lf.false) c.empty-2.ensures here)
+    let old = c.self.inside in
+    let between = between_lines old.place (ap (λ (r : Reading). is_between_lines r.place) c.self.view_is ∙ c.requires.place) in
+    subst (λ (r : Reading). (in_line : Bool) → (m : StreamMachine) → IsAt r.standing r.known r.number (After in_line) m → IsIn old.standing old.builder (old.number + 1) (old.come + 1) old.place (after m (take 1 rest))) c.self.view_is
+    (λ in_line m here. subst (λ (p : Place). IsIn old.standing old.builder (old.number + 1) (old.come + 1) p (after m (take 1 rest))) (sym between)
+    (after_lf old.standing old.builder old.number in_line rest [] m (sym c.begins_with_lf.ensures ∙ c.if-not-begins_with_lf.false) refl here))
