@@ -6,7 +6,7 @@ use Rattle.stream_drafts.specs.Aliased.{IsIndex}
 use Rattle.stream_drafts.specs.Indexed.{first_of}
 
 -- the first of two places where a mark is found
-lookup-append : (aliases : List (ℕ × ℕ)) (mark commit m : ℕ)
+pub lookup-append : (aliases : List (ℕ × ℕ)) (mark commit m : ℕ)
     → lookup (λ a. a == m) (aliases ++ (mark, commit) ∷ []) ≡ first_of (lookup (λ a. a == m) aliases) (cond (mark == m) (Some commit) None)
 lookup-append [] mark commit m = refl
 lookup-append (a ∷ aliases) mark commit m = ap (cond (a.0 == m) (Some a.1)) (lookup-append aliases mark commit m) ∙ go (a.0 == m)

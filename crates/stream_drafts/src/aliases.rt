@@ -59,6 +59,10 @@ impl Aliases {
     pub fn commit_with(&self, mark: Mark) -> Option<CommitId>
         ensures { result ≡ lookup (λ a. a == mark) self.now }
     {
+        // Mostly there are none.
+        if self.list.is_empty() {
+            return None;
+        }
         self.commits.get(&mark.number()).copied()
     }
 

@@ -21,16 +21,15 @@ use crate::aliases::Aliases;
 use crate::draft::{CommitFields, Draft, Links};
 use crate::finish::{FinishFault, greatest_of, marked_events};
 use crate::grouping::grouped;
-use crate::index::{
-    make_blob_room, make_commit_room, make_tag_room, note_blob, note_commit, note_tag, note_tip,
-};
+use crate::index::{make_tag_room, note_blob, note_commit, note_tag, note_tip};
+use crate::marked_ids::MarkedIds;
 use branch_tips::Tips;
 use plain_model::{
     BlobId, CommitId, EventList, MAX_MARK, Mark, NoMemory, PassId, PlainEvent, ResetId, Shared,
     Signed, TagId, Text,
 };
 use std::alloc::Global;
-use std::collections::{HashMap, HashSet};
+use std::collections::HashSet;
 use std::marker::Model;
 
 /// The events that were read so far, each with its place from 1 as its id. Contracts see the plain list, in
@@ -40,8 +39,8 @@ use std::marker::Model;
 pub struct Drafts {
     alloc: Global,
     drafts: Vec<Draft>,
-    blobs: HashMap<u64, BlobId>,
-    commits: HashMap<u64, CommitId>,
+    blobs: MarkedIds,
+    commits: MarkedIds,
     tags: HashSet<u64>,
     tips: Tips,
     greatest: u64,
@@ -49,18 +48,18 @@ pub struct Drafts {
 
 impl Model for Drafts {
     ghost use Rattle.std.specs.Prelude.{List, nat_eq};
-    ghost use Rattle.std.specs.HashMap.{get};
     ghost use Rattle.std.specs.HashSet.{contains};
     ghost use Rattle.plain_model.specs.declared.event.PlainEvent.{PlainEvent};
     ghost use Rattle.stream_drafts.specs.Events.{events_of};
     ghost use Rattle.stream_drafts.specs.Indexed.{IsIndexed};
+    ghost use Rattle.stream_drafts.specs.Rising.{AreApart, finds};
 
     ghost Value = { List PlainEvent };
 
     ghost view = { λ d. events_of d.drafts.items };
 
-    ghost invariant = { λ d. IsIndexed (events_of d.drafts.items) (get nat_eq d.blobs)
-        (get nat_eq d.commits) (contains nat_eq d.tags) d.tips d.greatest };
+    ghost invariant = { λ d. IsIndexed (events_of d.drafts.items) (finds d.blobs) (finds d.commits)
+        (contains nat_eq d.tags) d.tips d.greatest × (AreApart d.blobs × AreApart d.commits) };
 }
 
 impl Drafts {
@@ -71,8 +70,8 @@ impl Drafts {
         Drafts {
             alloc,
             drafts: Vec::new(alloc),
-            blobs: HashMap::new(alloc),
-            commits: HashMap::new(alloc),
+            blobs: MarkedIds::new(alloc),
+            commits: MarkedIds::new(alloc),
             tags: HashSet::new(alloc),
             tips: Tips::new(alloc),
             greatest: 0,
@@ -104,14 +103,14 @@ impl Drafts {
     pub fn blob_marked(&self, mark: Mark) -> Option<BlobId>
         ensures { result ≡ blob_marked self.now mark }
     {
-        self.blobs.get(&mark.number()).copied()
+        Some(BlobId::new(self.blobs.find(mark.number())?))
     }
 
     /// The commit with the mark.
     pub fn commit_marked(&self, mark: Mark) -> Option<CommitId>
         ensures { result ≡ commit_marked self.now mark }
     {
-        self.commits.get(&mark.number()).copied()
+        Some(CommitId::new(self.commits.find(mark.number())?))
     }
 
     /// The commit on which the branch is.
@@ -139,8 +138,8 @@ impl Drafts {
         ensures err { OnErr result (self.new ≡ self.old) }
     {
         self.drafts.reserve(1)?;
-        make_blob_room(&mut self.blobs)?;
-        make_commit_room(&mut self.commits)?;
+        self.blobs.make_room()?;
+        self.commits.make_room()?;
         make_tag_room(&mut self.tags)?;
         note_tip(&mut self.tips, &draft)?;
         note_blob(&mut self.blobs, &draft);

@@ -22,22 +22,15 @@ ghost use Rattle.plain_model.specs.Snapshots.{refs_after};
 ghost use Rattle.plain_model.specs.Streams.{blob_marked, commit_marked};
 ghost use Rattle.stream_drafts.specs.Events.{event_of, event_without_mark};
 ghost use Rattle.stream_drafts.specs.Indexed.{first_of, tag_marked};
+ghost use Rattle.stream_drafts.specs.Rising.{AreApart, HasRoom, finds};
 
 use crate::draft::{Draft, Unmarked};
+use crate::marked_ids::MarkedIds;
 use branch_tips::Tips;
-use plain_model::{BlobId, CommitId, Mark, NoMemory, PlainEvent};
+use plain_model::{CommitId, Mark, NoMemory, PlainEvent};
 use std::collections::{HashMap, HashSet};
 
-/// Makes room for one mark more.
-pub fn make_blob_room(blobs: &mut HashMap<u64, BlobId>) -> Result<(), NoMemory>
-    ensures same { (n : ℕ) → get nat_eq blobs.new n ≡ get nat_eq blobs.old n }
-    ensures room { OnOk result (0 < spare blobs.new) }
-{
-    blobs.reserve(1)?;
-    Ok(())
-}
-
-/// Makes room for one mark more.
+/// Makes room for one alias more.
 pub fn make_commit_room(commits: &mut HashMap<u64, CommitId>) -> Result<(), NoMemory>
     ensures same { (n : ℕ) → get nat_eq commits.new n ≡ get nat_eq commits.old n }
     ensures room { OnOk result (0 < spare commits.new) }
@@ -53,19 +46,6 @@ pub fn make_tag_room(tags: &mut HashSet<u64>) -> Result<(), NoMemory>
 {
     tags.reserve(1)?;
     Ok(())
-}
-
-fn note_blob_mark(blobs: &mut HashMap<u64, BlobId>, mark: Mark, id: BlobId)
-    requires { 0 < spare blobs.old }
-    ensures { (n : ℕ) → get nat_eq blobs.new n ≡
-        first_of (get nat_eq blobs.old n) (if mark == n then Some id else None) }
-{
-    // Mostly the mark is new, so that one search does.
-    let noted: Result<_, _> = blobs.insert(mark.number(), id);
-    if let Some(first) = noted.unwrap() {
-        let kept: Result<_, _> = blobs.insert(mark.number(), first);
-        let _ = kept.unwrap();
-    }
 }
 
 /// Notes a mark and the commit that it finds, if it finds none yet.
@@ -84,30 +64,34 @@ pub fn note_commit_mark(commits: &mut HashMap<u64, CommitId>, mark: Mark, id: Co
 }
 
 /// Notes the mark of a blob, if it has one that no earlier blob has.
-pub fn note_blob(blobs: &mut HashMap<u64, BlobId>, draft: &Draft)
-    requires { 0 < spare blobs.old }
-    ensures { (n : ℕ) → 1 ≤ n → get nat_eq blobs.new n ≡
-        first_of (get nat_eq blobs.old n) (blob_marked (event_of draft.now ∷ []) n) }
+pub fn note_blob(blobs: &mut MarkedIds, draft: &Draft)
+    requires apart { AreApart blobs.old }
+    requires room { HasRoom blobs.old }
+    ensures finds { (n : ℕ) → 1 ≤ n → finds blobs.new n ≡
+        first_of (finds blobs.old n) (blob_marked (event_of draft.now ∷ []) n) }
+    ensures apart { AreApart blobs.new }
 {
     let Draft::Whole(event) = draft else {
         return;
     };
     if let PlainEvent::Blob { id, mark, .. } = event.as_ref() {
-        note_blob_mark(blobs, *mark, *id);
+        blobs.note(mark.number(), id.number());
     }
 }
 
 /// Notes the mark of a commit, if it has one that no earlier commit has.
-pub fn note_commit(commits: &mut HashMap<u64, CommitId>, draft: &Draft)
-    requires { 0 < spare commits.old }
-    ensures { (n : ℕ) → 1 ≤ n → get nat_eq commits.new n ≡
-        first_of (get nat_eq commits.old n) (commit_marked (event_of draft.now ∷ []) n) }
+pub fn note_commit(commits: &mut MarkedIds, draft: &Draft)
+    requires apart { AreApart commits.old }
+    requires room { HasRoom commits.old }
+    ensures finds { (n : ℕ) → 1 ≤ n → finds commits.new n ≡
+        first_of (finds commits.old n) (commit_marked (event_of draft.now ∷ []) n) }
+    ensures apart { AreApart commits.new }
 {
     let Draft::Whole(event) = draft else {
         return;
     };
     if let PlainEvent::Commit { id, mark, .. } = event.as_ref() {
-        note_commit_mark(commits, *mark, *id);
+        commits.note(mark.number(), id.number());
     }
 }
 

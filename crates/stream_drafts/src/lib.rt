@@ -7,6 +7,7 @@ mod drafts;
 mod finish;
 mod grouping;
 mod index;
+mod marked_ids;
 mod whole;
 
 pub use aliases::Aliases;

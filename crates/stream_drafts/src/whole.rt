@@ -75,6 +75,10 @@ impl WholeEvent {
         ensures marked { IfOk result IsMarked }
         ensures last { own_want self ≡ 0 }
     {
+        // Mostly no commit has any, and no event is looked at.
+        if groups.is_empty() {
+            return Ok(self.event);
+        }
         let PlainEvent::Commit { id, .. } = self.event.as_ref() else {
             return Ok(self.event);
         };
