@@ -20,12 +20,13 @@ use crate::closing::{count_ops, push_open};
 use crate::fault::LineFault;
 use crate::known::Trees;
 use crate::open::Open;
+use crate::signed_reader::SignedReader;
 use plain_model::{EventList, MAX_ALIASES, MAX_EVENTS, NoMemory, Which};
 use std::alloc::Global;
 use std::marker::Model;
 use std::mem;
 use stream_drafts::{Aliases, Drafts, FinishFault};
-use stream_fields::{Names, People};
+use stream_fields::Names;
 
 /// Builds the events of a stream from its lines. Contracts see what is known of the stream.
 #[derive(Drop)]
@@ -35,7 +36,7 @@ pub struct Builder {
     current: Open,
     trees: Trees,
     // Who and which branches were read, so that each is kept once.
-    people: People,
+    people: SignedReader,
     names: Names,
     // How many operations there are.
     ops: u64,
@@ -62,7 +63,7 @@ impl Builder {
             aliases: Aliases::new(alloc),
             current: Open::Nothing,
             trees: Trees::new(alloc),
-            people: People::new(alloc),
+            people: SignedReader::new(alloc),
             names: Names::new(alloc),
             ops: 0,
         }
@@ -72,6 +73,10 @@ impl Builder {
     fn close(&mut self, alloc: Global) -> Result<(), NoMemory>
         ensures { OnOk result (self.new ≡ begun_with self.old NoEvent) }
     {
+        // Mostly the event before was a blob, which is there already.
+        if matches!(self.current, Open::Nothing) {
+            return Ok(());
+        }
         let current = mem::replace(&mut self.current, Open::Nothing);
         let tree = self.trees.take();
         self.ops -= count_ops(&current);

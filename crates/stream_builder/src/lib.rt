@@ -9,6 +9,7 @@ mod known;
 mod open;
 mod operations;
 mod references;
+mod signed_reader;
 mod trees;
 
 pub use builder::Builder;

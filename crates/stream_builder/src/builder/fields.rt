@@ -10,7 +10,7 @@ use crate::fault::LineFault;
 use crate::open::Open;
 use plain_model::{Items, Mark, Shared, Why};
 use std::alloc::Global;
-use stream_fields::{read_mark, read_person};
+use stream_fields::read_mark;
 use stream_grammar::text_of;
 
 impl Builder {
@@ -40,7 +40,7 @@ impl Builder {
     pub(crate) fn judge_author(&mut self, alloc: Global, line: &[u8]) -> Result<(), LineFault>
         ensures { Judges self.new result (judged_within word.Author line.now self.old) }
     {
-        let who = read_person(alloc, &mut self.people, text_of(line))?;
+        let who = self.people.read(alloc, text_of(line))?;
         if let Open::Commit(commit) = &mut self.current {
             commit.author = Some(who);
         }
@@ -50,7 +50,7 @@ impl Builder {
     pub(crate) fn judge_committer(&mut self, alloc: Global, line: &[u8]) -> Result<(), LineFault>
         ensures { Judges self.new result (judged_within word.Committer line.now self.old) }
     {
-        let who = read_person(alloc, &mut self.people, text_of(line))?;
+        let who = self.people.read(alloc, text_of(line))?;
         if let Open::Commit(commit) = &mut self.current {
             commit.committer = Some(who);
         }
@@ -70,7 +70,7 @@ impl Builder {
     pub(crate) fn judge_tagger(&mut self, alloc: Global, line: &[u8]) -> Result<(), LineFault>
         ensures { Judges self.new result (judged_within word.Tagger line.now self.old) }
     {
-        let who = read_person(alloc, &mut self.people, text_of(line))?;
+        let who = self.people.read(alloc, text_of(line))?;
         if let Open::Tag { tagger, .. } = &mut self.current {
             *tagger = Some(who);
         }
