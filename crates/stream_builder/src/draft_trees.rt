@@ -8,6 +8,3 @@ mod trees;
 pub use folding::folded;
 pub use kept_trees::KeptTrees;
 pub use trees::tree_of;
-
-#[cfg(test)]
-mod tests;
