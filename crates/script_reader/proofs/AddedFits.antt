@@ -8,9 +8,9 @@ use Rattle.plain_model.specs.Paths.{Bytes}
 use Rattle.sample_history.specs.declared.limit.TheConstants.{MAX_COMMITS}
 use Rattle.squash_laws.specs.Faults.{delete_how}
 use Rattle.script_reader.specs.Answering.{◌>>=◌}
-use Rattle.script_reader.specs.Commands.{add_words, added, alone, asked_by, assign_form, choose_form, choose_of, coalesce_words, cut_form, do_form, drop_form, drop_of, edit_form, expunge_form, form_of, free_form, if_given, is_long, name_within, names_form, op_by, or_at_fault, order_after, order_in, order_of, output_in, read_form, read_of, remove_words, removal_of, renumber_form, reparent_words, reparenting_by, sample_form, sample_start, show_form, split_words, squash_words, steps, summary_form, text_before, texts_in, too_long, whole_in, write_form}
+use Rattle.script_reader.specs.Commands.{add_words, added, alone, asked_by, assign_form, choose_form, choose_of, coalesce_words, cut_form, do_form, drop_form, drop_of, edit_form, expunge_form, form_of, is_long, last_name, name_within, names_form, op_by, or_at_fault, order_after, order_in, order_of, output_in, plain_form, read_form, read_of, remove_words, removal_of, renumber_form, reparent_words, reparenting_by, said_of, sample_form, sample_start, show_form, split_words, squash_words, steps, summary_form, text_before, texts_in, too_long, whole_in, write_form}
 use Rattle.script_reader.specs.Cuts.{cut_of}
-use Rattle.script_reader.specs.Keywords.{keyword_of}
+use Rattle.script_reader.specs.Keywords.{edit_word, keyword_of, needs_selection}
 use Rattle.script_reader.specs.Names.{is_repo_name, repo_name}
 use Rattle.script_reader.specs.Numbers.{index_in, said_between, seconds_in}
 use Rattle.script_reader.specs.Options.{nothing_asked, policy_of, reparenting}
@@ -22,15 +22,18 @@ use Rattle.script_reader.specs.Words.{after_head, head_of, words_of}
 use Rattle.script_reader.specs.declared.command.Command.{Command}
 use Rattle.script_reader.specs.declared.command.Command.TheVariants as command
 use Rattle.script_reader.specs.declared.command.Listing.{Listing}
-use Rattle.script_reader.specs.declared.command.Listing.TheVariants as listing
 use Rattle.script_reader.specs.declared.command.Order.{Order}
 use Rattle.script_reader.specs.declared.command.Order.TheVariants as order
 use Rattle.script_reader.specs.declared.cut.Cut.{Cut}
 use Rattle.script_reader.specs.declared.cut.Cut.TheVariants as cut
 use Rattle.script_reader.specs.declared.edit.Edit.{Edit}
 use Rattle.script_reader.specs.declared.edit.Edit.TheVariants as edit
+use Rattle.script_reader.specs.declared.keyword.EditWord.{EditWord}
+use Rattle.script_reader.specs.declared.keyword.EditWord.TheVariants as edit_word
 use Rattle.script_reader.specs.declared.keyword.Keyword.{Keyword}
 use Rattle.script_reader.specs.declared.keyword.Keyword.TheVariants as keyword
+use Rattle.script_reader.specs.declared.keyword.PlainWord.{PlainWord}
+use Rattle.script_reader.specs.declared.keyword.PlainWord.TheVariants as plain
 use Rattle.script_reader.specs.declared.number.TheConstants.{MAX_START}
 use Rattle.script_reader.specs.declared.redirection.Direction.TheVariants.{Input}
 use Rattle.script_reader.specs.declared.spelled.SaidOp.TheVariants.{Nothing}
@@ -106,14 +109,30 @@ coalesce_fits (word ∷ words) =
     bound IsSpelledEdit (or_at_fault word (option_and_then seconds_in (whole_in word))) (λ seconds. alone (edit.Coalesce seconds) words)
     (λ seconds is. lone IsSpelledEdit (edit.Coalesce seconds) words tt)
 
-free_fits : (selection : Option Bytes) (said : Result Edit Fault) → IfAnswered IsSpelledEdit said → IfAnswered IsSpelledCommand (free_form selection said)
-free_fits selection (Ok what) h = h
-free_fits selection (Err why) h = tt
+said_fits : (word : EditWord) (words : List Word) → IfAnswered IsSpelledEdit (said_of word words)
+said_fits edit_word.Squash words = squash_fits words
+said_fits edit_word.Delete words = lone IsSpelledEdit (edit.Squash delete_how) words tt
+said_fits edit_word.Split words = split_fits words
+said_fits edit_word.Reorder words = lone IsSpelledEdit edit.Reorder words tt
+said_fits edit_word.Reparent words = reparent_fits words
+said_fits edit_word.Merge words = lone IsSpelledEdit edit.Merge words tt
+said_fits edit_word.Unmerge words = lone IsSpelledEdit edit.Unmerge words tt
+said_fits edit_word.Add words = add_fits words
+said_fits edit_word.Remove words = remove_fits words
+said_fits edit_word.Coalesce words = coalesce_fits words
+said_fits edit_word.Simplify words = lone IsSpelledEdit edit.Simplify words tt
 
-edit_fits : (head : Bytes) (selection : Option Bytes) (said : Result Edit Fault) → IfAnswered IsSpelledEdit said → IfAnswered IsSpelledCommand (edit_form head selection said)
-edit_fits head None said h = tt
-edit_fits head (Some selection) (Ok what) h = h
-edit_fits head (Some selection) (Err why) h = tt
+made_fits : (selection : Option Bytes) (said : Result Edit Fault) → IfAnswered IsSpelledEdit said → IfAnswered IsSpelledCommand (said >>= λ what. Ok (command.Edit selection what))
+made_fits selection (Ok what) h = h
+made_fits selection (Err why) h = tt
+
+edit_fits : (word : EditWord) (selection : Option Bytes) (words : List Word) → IfAnswered IsSpelledCommand (edit_form word selection words)
+edit_fits word (Some selection) words = made_fits (Some selection) (said_of word words) (said_fits word words)
+edit_fits word None words = go (needs_selection word) (made_fits None (said_of word words) (said_fits word words))
+  where
+    go : (b : Bool) → IfAnswered IsSpelledCommand (said_of word words >>= λ what. Ok (command.Edit None what)) → IfAnswered IsSpelledCommand (cond b (Err (fault.BadWords (edit_word word))) (said_of word words >>= λ what. Ok (command.Edit None what)))
+    go true h = tt
+    go false h = h
 
 -- ---- the other commands
 
@@ -160,11 +179,8 @@ unfolding show_form
 show_fits selection what words = bound IsSpelledCommand (output_in words) (λ to. Ok (command.Show selection what to)) (λ to is. tt)
 
 assign_fits : (selection : Option Bytes) (words : List Word) → IfAnswered IsSpelledCommand (assign_form selection words)
-unfolding assign_form
 assign_fits None words = tt
-assign_fits (Some selection) [] = tt
-assign_fits (Some selection) (word ∷ words) =
-    bound IsSpelledCommand (or_at_fault word (if_given (whole_in word))) (λ name. alone (command.Assign selection name) words) (λ name is. lone IsSpelledCommand (command.Assign selection name) words tt)
+assign_fits (Some selection) words = bound IsSpelledCommand (last_name words) (λ name. Ok (command.Assign selection name)) (λ name is. tt)
 
 names_fits : (words : List Word) → IfAnswered IsSpelledCommand (names_form words)
 unfolding names_form
@@ -196,44 +212,22 @@ stepped : (r : Result Command Fault) → IfAnswered IsSpelledCommand r → IfAns
 stepped (Ok what) h = h
 stepped (Err why) h = tt
 
+plain_fits : (word : PlainWord) (words : List Word) → IfAnswered IsSpelledCommand (plain_form word words)
+plain_fits plain.Read words = read_fits words
+plain_fits plain.Write words = write_fits words
+plain_fits plain.Choose words = choose_fits words
+plain_fits plain.Drop words = drop_fits words
+plain_fits plain.Renumber words = renumber_fits words
+plain_fits plain.Names words = names_fits words
+plain_fits plain.Summary words = summary_fits words
+plain_fits plain.Sample words = sample_fits words
+plain_fits plain.Expunge words = expunge_fits words
+
 form_fits : (selection : Option Bytes) (word : Keyword) (words : List Word) → IfAnswered OrderFits (form_of selection word words)
-form_fits selection keyword.Read words = stepped (read_form words) (read_fits words)
-form_fits selection keyword.Write words = stepped (write_form words) (write_fits words)
-form_fits selection keyword.Choose words = stepped (choose_form words) (choose_fits words)
-form_fits selection keyword.Drop words = stepped (drop_form words) (drop_fits words)
-form_fits selection keyword.Renumber words = stepped (renumber_form words) (renumber_fits words)
-form_fits selection keyword.List words = stepped (show_form selection listing.List words) (show_fits selection listing.List words)
-form_fits selection keyword.Index words = stepped (show_form selection listing.Index words) (show_fits selection listing.Index words)
-form_fits selection keyword.Stamp words = stepped (show_form selection listing.Stamp words) (show_fits selection listing.Stamp words)
-form_fits selection keyword.Resolve words = stepped (show_form selection listing.Resolve words) (show_fits selection listing.Resolve words)
-form_fits selection keyword.Manifest words = stepped (show_form selection listing.Manifest words) (show_fits selection listing.Manifest words)
+form_fits selection (keyword.Plain word) words = stepped (plain_form word words) (plain_fits word words)
+form_fits selection (keyword.Show what) words = stepped (show_form selection what words) (show_fits selection what words)
+form_fits selection (keyword.Edit word) words = stepped (edit_form word selection words) (edit_fits word selection words)
 form_fits selection keyword.Assign words = stepped (assign_form selection words) (assign_fits selection words)
-form_fits selection keyword.Squash words =
-    stepped (edit_form (codes "squash") selection (squash_words words)) (edit_fits (codes "squash") selection (squash_words words) (squash_fits words))
-form_fits selection keyword.Delete words =
-    let what = alone (edit.Squash delete_how) words in
-    stepped (edit_form (codes "delete") selection what) (edit_fits (codes "delete") selection what (lone IsSpelledEdit (edit.Squash delete_how) words tt))
-form_fits selection keyword.Split words =
-    stepped (edit_form (codes "split") selection (split_words words)) (edit_fits (codes "split") selection (split_words words) (split_fits words))
-form_fits selection keyword.Reorder words =
-    stepped (edit_form (codes "reorder") selection (alone edit.Reorder words)) (edit_fits (codes "reorder") selection (alone edit.Reorder words) (lone IsSpelledEdit edit.Reorder words tt))
-form_fits selection keyword.Reparent words =
-    stepped (edit_form (codes "reparent") selection (reparent_words words)) (edit_fits (codes "reparent") selection (reparent_words words) (reparent_fits words))
-form_fits selection keyword.Merge words =
-    stepped (edit_form (codes "merge") selection (alone edit.Merge words)) (edit_fits (codes "merge") selection (alone edit.Merge words) (lone IsSpelledEdit edit.Merge words tt))
-form_fits selection keyword.Unmerge words =
-    stepped (edit_form (codes "unmerge") selection (alone edit.Unmerge words)) (edit_fits (codes "unmerge") selection (alone edit.Unmerge words) (lone IsSpelledEdit edit.Unmerge words tt))
-form_fits selection keyword.Add words =
-    stepped (edit_form (codes "add") selection (add_words words)) (edit_fits (codes "add") selection (add_words words) (add_fits words))
-form_fits selection keyword.Remove words =
-    stepped (edit_form (codes "remove") selection (remove_words words)) (edit_fits (codes "remove") selection (remove_words words) (remove_fits words))
-form_fits selection keyword.Coalesce words = stepped (free_form selection (coalesce_words words)) (free_fits selection (coalesce_words words) (coalesce_fits words))
-form_fits selection keyword.Simplify words =
-    stepped (free_form selection (alone edit.Simplify words)) (free_fits selection (alone edit.Simplify words) (lone IsSpelledEdit edit.Simplify words tt))
-form_fits selection keyword.Expunge words = stepped (expunge_form words) (expunge_fits words)
-form_fits selection keyword.Names words = stepped (names_form words) (names_fits words)
-form_fits selection keyword.Summary words = stepped (summary_form words) (summary_fits words)
-form_fits selection keyword.Sample words = stepped (sample_form words) (sample_fits words)
 form_fits selection keyword.Do words = bound OrderFits (do_form selection words) (λ call. Ok (order.Do call)) (λ call is. tt)
 form_fits selection keyword.Define words = tt
 

@@ -9,7 +9,7 @@ use Rattle.plain_model.specs.declared.raw.RawOp.{RawOp}
 use Rattle.squash_laws.specs.Faults.{delete_how}
 use Rattle.sample_history.specs.declared.limit.TheConstants.{MAX_COMMITS}
 use Rattle.script_reader.specs.Answering.{◌>>=◌}
-use Rattle.script_reader.specs.Keywords.{keyword_of}
+use Rattle.script_reader.specs.Keywords.{edit_word, keyword_of, needs_selection}
 use Rattle.script_reader.specs.Names.{repo_name, is_given_name, is_repo_name}
 use Rattle.script_reader.specs.Cuts.{cut_of}
 use Rattle.script_reader.specs.Numbers.{index_in, said_between, seconds_in}
@@ -34,8 +34,12 @@ use Rattle.script_reader.specs.declared.options.Reparenting.{Reparenting}
 use Rattle.script_reader.specs.declared.spelled.SaidOp.{SaidOp}
 use Rattle.script_reader.specs.declared.spelled.SaidOp.TheVariants.{Nothing}
 use Rattle.script_reader.specs.declared.number.TheConstants.{MAX_START, USUAL_SECONDS}
+use Rattle.script_reader.specs.declared.keyword.EditWord.{EditWord}
+use Rattle.script_reader.specs.declared.keyword.EditWord.TheVariants as edit_word
 use Rattle.script_reader.specs.declared.keyword.Keyword.{Keyword}
 use Rattle.script_reader.specs.declared.keyword.Keyword.TheVariants as keyword
+use Rattle.script_reader.specs.declared.keyword.PlainWord.{PlainWord}
+use Rattle.script_reader.specs.declared.keyword.PlainWord.TheVariants as plain
 use Rattle.script_reader.specs.declared.redirection.Direction.TheVariants.{Input, Output}
 use Rattle.script_reader.specs.declared.word.Word.{Word}
 use Rattle.script_reader.specs.declared.word.Word.TheVariants.{Plain, Quoted, Broken}
@@ -140,12 +144,15 @@ abbrev pub if_given : Option Bytes → Option Bytes
 if_given None = None
 if_given (Some text) = if is_given_name text then Some text else None
 
+-- NAME, the name of a selection
+abbrev pub last_name : List Word → Result Bytes Fault
+last_name [] = Err (fault.BadWords (codes "assign"))
+last_name (word ∷ words) = or_at_fault word (if_given (whole_in word)) >>= λ name. alone name words
+
 -- `sel assign NAME`
-unfoldable pub assign_form : Option Bytes → List Word → Result Command Fault
+abbrev pub assign_form : Option Bytes → List Word → Result Command Fault
 assign_form None words = Err (fault.BadWords (codes "assign"))
-assign_form (Some selection) [] = Err (fault.BadWords (codes "assign"))
-assign_form (Some selection) (word ∷ words) =
-    or_at_fault word (if_given (whole_in word)) >>= λ name. alone (command.Assign selection name) words
+assign_form (Some selection) words = last_name words >>= λ name. Ok (command.Assign selection name)
 
 -- ---- edits, by the words after their command words
 
@@ -208,14 +215,24 @@ unfoldable pub coalesce_words : List Word → Result Edit Fault
 coalesce_words [] = Ok (edit.Coalesce USUAL_SECONDS)
 coalesce_words (word ∷ words) = or_at_fault word (option_and_then seconds_in (whole_in word)) >>= λ seconds. alone (edit.Coalesce seconds) words
 
--- an edit of selected events, or of all, of which its words say what it is
-abbrev pub free_form : Option Bytes → Result Edit Fault → Result Command Fault
-free_form selection said = said >>= λ what. Ok (command.Edit selection what)
+-- the edit that the words after its command word say
+abbrev pub said_of : EditWord → List Word → Result Edit Fault
+said_of edit_word.Squash words = squash_words words
+said_of edit_word.Delete words = alone (edit.Squash delete_how) words
+said_of edit_word.Split words = split_words words
+said_of edit_word.Reorder words = alone edit.Reorder words
+said_of edit_word.Reparent words = reparent_words words
+said_of edit_word.Merge words = alone edit.Merge words
+said_of edit_word.Unmerge words = alone edit.Unmerge words
+said_of edit_word.Add words = add_words words
+said_of edit_word.Remove words = remove_words words
+said_of edit_word.Coalesce words = coalesce_words words
+said_of edit_word.Simplify words = alone edit.Simplify words
 
--- an edit of selected events, of which its words say what it is
-abbrev pub edit_form : Bytes → Option Bytes → Result Edit Fault → Result Command Fault
-edit_form head None said = Err (fault.BadWords head)
-edit_form head (Some selection) said = said >>= λ what. Ok (command.Edit (Some selection) what)
+-- an edit of selected events, or of all where none has to be selected
+abbrev pub edit_form : EditWord → Option Bytes → List Word → Result Command Fault
+edit_form word None words = if needs_selection word then Err (fault.BadWords (edit_word word)) else (said_of word words >>= λ what. Ok (command.Edit None what))
+edit_form word (Some selection) words = said_of word words >>= λ what. Ok (command.Edit (Some selection) what)
 
 -- ---- further forms
 
@@ -253,34 +270,24 @@ do_form selection (word ∷ words) =
 abbrev pub steps : Result Command Fault → Result Order Fault
 steps command = command >>= λ what. Ok (order.Step what)
 
+-- the command of a word that takes no selection
+abbrev pub plain_form : PlainWord → List Word → Result Command Fault
+plain_form plain.Read words = read_form words
+plain_form plain.Write words = write_form words
+plain_form plain.Choose words = choose_form words
+plain_form plain.Drop words = drop_form words
+plain_form plain.Renumber words = renumber_form words
+plain_form plain.Names words = names_form words
+plain_form plain.Summary words = summary_form words
+plain_form plain.Sample words = sample_form words
+plain_form plain.Expunge words = expunge_form words
+
 -- the order of a command word with the selection before it and the words after it; a `define` that is run is no definition
 abbrev pub form_of : Option Bytes → Keyword → List Word → Result Order Fault
-form_of selection keyword.Read words = steps (read_form words)
-form_of selection keyword.Write words = steps (write_form words)
-form_of selection keyword.Choose words = steps (choose_form words)
-form_of selection keyword.Drop words = steps (drop_form words)
-form_of selection keyword.Renumber words = steps (renumber_form words)
-form_of selection keyword.List words = steps (show_form selection listing.List words)
-form_of selection keyword.Index words = steps (show_form selection listing.Index words)
-form_of selection keyword.Stamp words = steps (show_form selection listing.Stamp words)
-form_of selection keyword.Resolve words = steps (show_form selection listing.Resolve words)
-form_of selection keyword.Manifest words = steps (show_form selection listing.Manifest words)
+form_of selection (keyword.Plain word) words = steps (plain_form word words)
+form_of selection (keyword.Show what) words = steps (show_form selection what words)
+form_of selection (keyword.Edit word) words = steps (edit_form word selection words)
 form_of selection keyword.Assign words = steps (assign_form selection words)
-form_of selection keyword.Squash words = steps (edit_form (codes "squash") selection (squash_words words))
-form_of selection keyword.Delete words = steps (edit_form (codes "delete") selection (alone (edit.Squash delete_how) words))
-form_of selection keyword.Split words = steps (edit_form (codes "split") selection (split_words words))
-form_of selection keyword.Reorder words = steps (edit_form (codes "reorder") selection (alone edit.Reorder words))
-form_of selection keyword.Reparent words = steps (edit_form (codes "reparent") selection (reparent_words words))
-form_of selection keyword.Merge words = steps (edit_form (codes "merge") selection (alone edit.Merge words))
-form_of selection keyword.Unmerge words = steps (edit_form (codes "unmerge") selection (alone edit.Unmerge words))
-form_of selection keyword.Add words = steps (edit_form (codes "add") selection (add_words words))
-form_of selection keyword.Remove words = steps (edit_form (codes "remove") selection (remove_words words))
-form_of selection keyword.Coalesce words = steps (free_form selection (coalesce_words words))
-form_of selection keyword.Simplify words = steps (free_form selection (alone edit.Simplify words))
-form_of selection keyword.Expunge words = steps (expunge_form words)
-form_of selection keyword.Names words = steps (names_form words)
-form_of selection keyword.Summary words = steps (summary_form words)
-form_of selection keyword.Sample words = steps (sample_form words)
 form_of selection keyword.Do words = do_form selection words >>= λ call. Ok (order.Do call)
 form_of selection keyword.Define words = Err (fault.BadWords (codes "define"))
 

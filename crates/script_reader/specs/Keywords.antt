@@ -1,37 +1,86 @@
 -- The command words. (reposurgeon manual)
-use Rattle.std.specs.Prelude.{Option, Some, None, bytes_eq, codes, if◌then◌else◌}
+use Rattle.std.specs.Prelude.{Bool, true, false, Option, Some, None, bytes_eq, codes, if◌then◌else◌}
 use Rattle.plain_model.specs.Paths.{Bytes}
+use Rattle.script_reader.specs.declared.command.Listing.{Listing}
+use Rattle.script_reader.specs.declared.command.Listing.TheVariants as listing
+use Rattle.script_reader.specs.declared.keyword.EditWord.{EditWord}
+use Rattle.script_reader.specs.declared.keyword.EditWord.TheVariants as word
 use Rattle.script_reader.specs.declared.keyword.Keyword.{Keyword}
 use Rattle.script_reader.specs.declared.keyword.Keyword.TheVariants as keyword
+use Rattle.script_reader.specs.declared.keyword.PlainWord.{PlainWord}
+use Rattle.script_reader.specs.declared.keyword.PlainWord.TheVariants as plain
+
+-- the command word without a selection that bytes are
+unfoldable pub plain_word_of : Bytes → Option PlainWord
+plain_word_of text =
+    if bytes_eq text (codes "read") then Some plain.Read else
+    if bytes_eq text (codes "write") then Some plain.Write else
+    if bytes_eq text (codes "choose") then Some plain.Choose else
+    if bytes_eq text (codes "drop") then Some plain.Drop else
+    if bytes_eq text (codes "renumber") then Some plain.Renumber else
+    if bytes_eq text (codes "names") then Some plain.Names else
+    if bytes_eq text (codes "summary") then Some plain.Summary else
+    if bytes_eq text (codes "sample") then Some plain.Sample else
+    if bytes_eq text (codes "expunge") then Some plain.Expunge else None
+
+-- the command word of an edit that bytes are
+unfoldable pub edit_word_of : Bytes → Option EditWord
+edit_word_of text =
+    if bytes_eq text (codes "squash") then Some word.Squash else
+    if bytes_eq text (codes "delete") then Some word.Delete else
+    if bytes_eq text (codes "split") then Some word.Split else
+    if bytes_eq text (codes "reorder") then Some word.Reorder else
+    if bytes_eq text (codes "reparent") then Some word.Reparent else
+    if bytes_eq text (codes "merge") then Some word.Merge else
+    if bytes_eq text (codes "unmerge") then Some word.Unmerge else
+    if bytes_eq text (codes "add") then Some word.Add else
+    if bytes_eq text (codes "remove") then Some word.Remove else
+    if bytes_eq text (codes "coalesce") then Some word.Coalesce else
+    if bytes_eq text (codes "simplify") then Some word.Simplify else None
+
+-- the same as it is written
+abbrev pub edit_word : EditWord → Bytes
+edit_word word.Squash = codes "squash"
+edit_word word.Delete = codes "delete"
+edit_word word.Split = codes "split"
+edit_word word.Reorder = codes "reorder"
+edit_word word.Reparent = codes "reparent"
+edit_word word.Merge = codes "merge"
+edit_word word.Unmerge = codes "unmerge"
+edit_word word.Add = codes "add"
+edit_word word.Remove = codes "remove"
+edit_word word.Coalesce = codes "coalesce"
+edit_word word.Simplify = codes "simplify"
+
+-- a selection has to be before it
+abbrev pub needs_selection : EditWord → Bool
+needs_selection word.Coalesce = false
+needs_selection word.Simplify = false
+needs_selection other = true
+
+-- the command word of a text of events that bytes are
+unfoldable pub listing_of : Bytes → Option Listing
+listing_of text =
+    if bytes_eq text (codes "list") then Some listing.List else
+    if bytes_eq text (codes "index") then Some listing.Index else
+    if bytes_eq text (codes "stamp") then Some listing.Stamp else
+    if bytes_eq text (codes "resolve") then Some listing.Resolve else
+    if bytes_eq text (codes "manifest") then Some listing.Manifest else None
+
+-- each other command word
+unfoldable pub other_of : Bytes → Option Keyword
+other_of text =
+    if bytes_eq text (codes "assign") then Some keyword.Assign else
+    if bytes_eq text (codes "do") then Some keyword.Do else
+    if bytes_eq text (codes "define") then Some keyword.Define else None
+
+-- the first of these that is one
+abbrev pub among : Option PlainWord → Option EditWord → Option Listing → Option Keyword → Option Keyword
+among (Some word) edit what other = Some (keyword.Plain word)
+among None (Some edit) what other = Some (keyword.Edit edit)
+among None None (Some what) other = Some (keyword.Show what)
+among None None None other = other
 
 -- the command word that bytes are; case counts
-unfoldable pub keyword_of : Bytes → Option Keyword
-keyword_of word =
-    if bytes_eq word (codes "read") then Some keyword.Read else
-    if bytes_eq word (codes "write") then Some keyword.Write else
-    if bytes_eq word (codes "choose") then Some keyword.Choose else
-    if bytes_eq word (codes "drop") then Some keyword.Drop else
-    if bytes_eq word (codes "renumber") then Some keyword.Renumber else
-    if bytes_eq word (codes "list") then Some keyword.List else
-    if bytes_eq word (codes "index") then Some keyword.Index else
-    if bytes_eq word (codes "stamp") then Some keyword.Stamp else
-    if bytes_eq word (codes "resolve") then Some keyword.Resolve else
-    if bytes_eq word (codes "manifest") then Some keyword.Manifest else
-    if bytes_eq word (codes "assign") then Some keyword.Assign else
-    if bytes_eq word (codes "squash") then Some keyword.Squash else
-    if bytes_eq word (codes "delete") then Some keyword.Delete else
-    if bytes_eq word (codes "split") then Some keyword.Split else
-    if bytes_eq word (codes "reorder") then Some keyword.Reorder else
-    if bytes_eq word (codes "reparent") then Some keyword.Reparent else
-    if bytes_eq word (codes "merge") then Some keyword.Merge else
-    if bytes_eq word (codes "unmerge") then Some keyword.Unmerge else
-    if bytes_eq word (codes "add") then Some keyword.Add else
-    if bytes_eq word (codes "remove") then Some keyword.Remove else
-    if bytes_eq word (codes "coalesce") then Some keyword.Coalesce else
-    if bytes_eq word (codes "simplify") then Some keyword.Simplify else
-    if bytes_eq word (codes "expunge") then Some keyword.Expunge else
-    if bytes_eq word (codes "names") then Some keyword.Names else
-    if bytes_eq word (codes "summary") then Some keyword.Summary else
-    if bytes_eq word (codes "sample") then Some keyword.Sample else
-    if bytes_eq word (codes "do") then Some keyword.Do else
-    if bytes_eq word (codes "define") then Some keyword.Define else None
+abbrev pub keyword_of : Bytes → Option Keyword
+keyword_of text = among (plain_word_of text) (edit_word_of text) (listing_of text) (other_of text)

@@ -46,25 +46,9 @@ front_of line =
 
 -- a selection may be before the command word
 abbrev pub takes_selection : Keyword → Bool
-takes_selection keyword.List = true
-takes_selection keyword.Index = true
-takes_selection keyword.Stamp = true
-takes_selection keyword.Resolve = true
-takes_selection keyword.Manifest = true
-takes_selection keyword.Assign = true
-takes_selection keyword.Squash = true
-takes_selection keyword.Delete = true
-takes_selection keyword.Split = true
-takes_selection keyword.Reorder = true
-takes_selection keyword.Reparent = true
-takes_selection keyword.Merge = true
-takes_selection keyword.Unmerge = true
-takes_selection keyword.Add = true
-takes_selection keyword.Remove = true
-takes_selection keyword.Coalesce = true
-takes_selection keyword.Simplify = true
-takes_selection keyword.Do = true
-takes_selection other = false
+takes_selection (keyword.Plain word) = false
+takes_selection keyword.Define = false
+takes_selection other = true
 
 -- the same of a command word, if it is one
 abbrev pub is_selective : Option Keyword → Bool

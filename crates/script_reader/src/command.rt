@@ -146,7 +146,7 @@ fn order_after(
         (order_after (record { selection = selection; rest = rest.now })) }
 {
     let (head, after) = cut_head(rest);
-    match Keyword::of(head.as_bytes()) {
+    match Keyword::of(head) {
         Some(keyword) if is_superfluous(&selection, keyword) => {
             Err(bad_words(alloc, head.as_bytes()))
         }

@@ -11,16 +11,18 @@ ghost use Rattle.script_reader.specs.Commands.{
   edit_form,
   expunge_form,
   form_of,
-  free_form,
   if_given,
+  last_name,
   name_in,
   name_within,
   names_form,
   or_at_fault,
   output_in,
+  plain_form,
   read_form,
   read_of,
   renumber_form,
+  said_of,
   sample_form,
   sample_start,
   show_form,
@@ -37,7 +39,7 @@ use crate::command::{Call, Command, Listing, Order};
 use crate::definition::is_given_name;
 use crate::edit::Edit;
 use crate::edit_words::{add, coalesce, delete, only, remove, reparent, split, squash};
-use crate::keyword::Keyword;
+use crate::keyword::{EditWord, Keyword, PlainWord};
 use crate::number::{MAX_START, number_between};
 use crate::redirection::{Direction, begins_with_sign, redirected};
 use crate::repo_name::{is_repo_name, repo_name};
@@ -218,8 +220,21 @@ fn given_name(alloc: Global, word: &Word) -> Result<Text, Halt>
     }
 }
 
+// NAME, the name of a selection
+fn last_name(alloc: Global, words: &[Word]) -> Result<Text, Halt>
+    ensures { Returns (λ name. name) result (last_name words.now) }
+{
+    match words {
+        [] => Err(bad_words(alloc, b"assign")),
+        [word] => given_name(alloc, word),
+        [word, next, ..] => {
+            let _ = given_name(alloc, word)?;
+            Err(at_fault(alloc, next))
+        }
+    }
+}
+
 // `sel assign NAME`
-#[tactic(auto, unfolding(crate::specs::Commands::assign_form))]
 fn assign(
     alloc: Global,
     selection: Option<WrittenSelection>,
@@ -227,19 +242,12 @@ fn assign(
 ) -> Result<Command, Halt>
     ensures { Returns (λ command. command) result (assign_form selection words.now) }
 {
-    let Some(selection) = selection else {
-        return Err(bad_words(alloc, b"assign"));
-    };
-    match words {
-        [] => Err(bad_words(alloc, b"assign")),
-        [word] => Ok(Command::Assign {
-            selection,
-            name: given_name(alloc, word)?,
-        }),
-        [word, next, ..] => {
-            let _ = given_name(alloc, word)?;
-            Err(at_fault(alloc, next))
+    match selection {
+        Some(selection) => {
+            let name = last_name(alloc, words)?;
+            Ok(Command::Assign { selection, name })
         }
+        None => Err(bad_words(alloc, b"assign")),
     }
 }
 
@@ -345,33 +353,55 @@ fn steps(command: Result<Command, Halt>) -> Result<Order, Halt>
     }
 }
 
-// An edit of selected events, of which its words say what it is.
-fn edit(
-    alloc: Global,
-    head: &[u8],
-    selection: Option<WrittenSelection>,
-    said: Result<Edit, Halt>,
-) -> Result<Command, Halt>
-    ensures { (expected : _) → Returns (λ what. what) said expected
-        → Returns (λ command. command) result (edit_form head.now selection expected) }
+// The edit that the words after its command word say.
+fn said(alloc: Global, word: EditWord, words: &[Word]) -> Result<Edit, Halt>
+    ensures { Returns (λ what. what) result (said_of word words.now) }
 {
-    if selection.is_none() {
-        return Err(bad_words(alloc, head));
-    }
-    match said {
-        Ok(what) => Ok(Command::Edit { selection, what }),
-        Err(halt) => Err(halt),
+    match word {
+        EditWord::Squash => squash(alloc, words),
+        EditWord::Delete => delete(alloc, words),
+        EditWord::Split => split(alloc, words),
+        EditWord::Reorder => only(alloc, Edit::Reorder, words),
+        EditWord::Reparent => reparent(alloc, words),
+        EditWord::Merge => only(alloc, Edit::Merge, words),
+        EditWord::Unmerge => only(alloc, Edit::Unmerge, words),
+        EditWord::Add => add(alloc, words),
+        EditWord::Remove => remove(alloc, words),
+        EditWord::Coalesce => coalesce(alloc, words),
+        EditWord::Simplify => only(alloc, Edit::Simplify, words),
     }
 }
 
-// An edit of selected events, or of all, of which its words say what it is.
-fn free(selection: Option<WrittenSelection>, said: Result<Edit, Halt>) -> Result<Command, Halt>
-    ensures { (expected : _) → Returns (λ what. what) said expected
-        → Returns (λ command. command) result (free_form selection expected) }
+// An edit of selected events, or of all where none has to be selected.
+fn edit(
+    alloc: Global,
+    word: EditWord,
+    selection: Option<WrittenSelection>,
+    words: &[Word],
+) -> Result<Command, Halt>
+    ensures { Returns (λ command. command) result (edit_form word selection words.now) }
 {
-    match said {
-        Ok(what) => Ok(Command::Edit { selection, what }),
-        Err(halt) => Err(halt),
+    if selection.is_none() && word.needs_selection() {
+        return Err(bad_words(alloc, word.text()));
+    }
+    let what = said(alloc, word, words)?;
+    Ok(Command::Edit { selection, what })
+}
+
+// The command of a word that takes no selection.
+fn plain(alloc: Global, word: PlainWord, words: &[Word]) -> Result<Command, Halt>
+    ensures { Returns (λ command. command) result (plain_form word words.now) }
+{
+    match word {
+        PlainWord::Read => read(alloc, words),
+        PlainWord::Write => write(alloc, words),
+        PlainWord::Choose => choose(alloc, words),
+        PlainWord::Drop => forget(alloc, words),
+        PlainWord::Renumber => renumber(alloc, words),
+        PlainWord::Names => names(alloc, words),
+        PlainWord::Summary => summary(alloc, words),
+        PlainWord::Sample => sample(alloc, words),
+        PlainWord::Expunge => expunge(alloc, words),
     }
 }
 
@@ -385,42 +415,10 @@ pub fn form(
     ensures { Returns (λ order. order) result (form_of selection keyword words.now) }
 {
     match keyword {
-        Keyword::Read => steps(read(alloc, words)),
-        Keyword::Write => steps(write(alloc, words)),
-        Keyword::Choose => steps(choose(alloc, words)),
-        Keyword::Drop => steps(forget(alloc, words)),
-        Keyword::Renumber => steps(renumber(alloc, words)),
-        Keyword::List => steps(show(alloc, selection, Listing::List, words)),
-        Keyword::Index => steps(show(alloc, selection, Listing::Index, words)),
-        Keyword::Stamp => steps(show(alloc, selection, Listing::Stamp, words)),
-        Keyword::Resolve => steps(show(alloc, selection, Listing::Resolve, words)),
-        Keyword::Manifest => steps(show(alloc, selection, Listing::Manifest, words)),
+        Keyword::Plain(word) => steps(plain(alloc, word, words)),
+        Keyword::Show(what) => steps(show(alloc, selection, what, words)),
+        Keyword::Edit(word) => steps(edit(alloc, word, selection, words)),
         Keyword::Assign => steps(assign(alloc, selection, words)),
-        Keyword::Squash => steps(edit(alloc, b"squash", selection, squash(alloc, words))),
-        Keyword::Delete => steps(edit(alloc, b"delete", selection, delete(alloc, words))),
-        Keyword::Split => steps(edit(alloc, b"split", selection, split(alloc, words))),
-        Keyword::Reorder => steps(edit(
-            alloc,
-            b"reorder",
-            selection,
-            only(alloc, Edit::Reorder, words),
-        )),
-        Keyword::Reparent => steps(edit(alloc, b"reparent", selection, reparent(alloc, words))),
-        Keyword::Merge => steps(edit(alloc, b"merge", selection, only(alloc, Edit::Merge, words))),
-        Keyword::Unmerge => steps(edit(
-            alloc,
-            b"unmerge",
-            selection,
-            only(alloc, Edit::Unmerge, words),
-        )),
-        Keyword::Add => steps(edit(alloc, b"add", selection, add(alloc, words))),
-        Keyword::Remove => steps(edit(alloc, b"remove", selection, remove(alloc, words))),
-        Keyword::Coalesce => steps(free(selection, coalesce(alloc, words))),
-        Keyword::Simplify => steps(free(selection, only(alloc, Edit::Simplify, words))),
-        Keyword::Expunge => steps(expunge(alloc, words)),
-        Keyword::Names => steps(names(alloc, words)),
-        Keyword::Summary => steps(summary(alloc, words)),
-        Keyword::Sample => steps(sample(alloc, words)),
         Keyword::Do => Ok(Order::Do(call(alloc, selection, words)?)),
         Keyword::Define => Err(bad_words(alloc, b"define")),
     }

@@ -1,22 +1,49 @@
 //! Command words.
 ghost use Rattle.std.specs.Prelude.{◌≡◌};
-ghost use Rattle.script_reader.specs.Keywords.{keyword_of};
+ghost use Rattle.script_reader.specs.Keywords.{
+  edit_word,
+  edit_word_of,
+  keyword_of,
+  listing_of,
+  needs_selection,
+  other_of,
+  plain_word_of,
+};
 ghost use Rattle.script_reader.specs.Selecting.{takes_selection};
+
+use crate::command::Listing;
 
 /// A command word. (reposurgeon manual)
 #[derive(Clone, Copy)]
 pub enum Keyword {
+    /// A command that takes no selection.
+    Plain(PlainWord),
+    Assign,
+    Do,
+    Define,
+    /// A text of events is printed.
+    Show(Listing),
+    /// The history is edited.
+    Edit(EditWord),
+}
+
+/// A command word that takes no selection.
+#[derive(Clone, Copy)]
+pub enum PlainWord {
     Read,
     Write,
     Choose,
     Drop,
     Renumber,
-    List,
-    Index,
-    Stamp,
-    Resolve,
-    Manifest,
-    Assign,
+    Names,
+    Summary,
+    Sample,
+    Expunge,
+}
+
+/// A command word of an edit of events.
+#[derive(Clone, Copy)]
+pub enum EditWord {
     Squash,
     Delete,
     Split,
@@ -28,105 +55,129 @@ pub enum Keyword {
     Remove,
     Coalesce,
     Simplify,
-    Expunge,
-    Names,
-    Summary,
-    Sample,
-    Do,
-    Define,
+}
+
+impl PlainWord {
+    /// The word without a selection that these bytes are.
+    #[tactic(auto, unfolding(crate::specs::Keywords::plain_word_of))]
+    fn of(word: &str) -> Option<PlainWord>
+        ensures { result ≡ plain_word_of word.now }
+    {
+        match word {
+            "read" => Some(PlainWord::Read),
+            "write" => Some(PlainWord::Write),
+            "choose" => Some(PlainWord::Choose),
+            "drop" => Some(PlainWord::Drop),
+            "renumber" => Some(PlainWord::Renumber),
+            "names" => Some(PlainWord::Names),
+            "summary" => Some(PlainWord::Summary),
+            "sample" => Some(PlainWord::Sample),
+            "expunge" => Some(PlainWord::Expunge),
+            _ => None,
+        }
+    }
+}
+
+impl EditWord {
+    /// The word of an edit that these bytes are.
+    #[tactic(auto, unfolding(crate::specs::Keywords::edit_word_of))]
+    pub fn of(word: &str) -> Option<EditWord>
+        ensures { result ≡ edit_word_of word.now }
+    {
+        match word {
+            "squash" => Some(EditWord::Squash),
+            "delete" => Some(EditWord::Delete),
+            "split" => Some(EditWord::Split),
+            "reorder" => Some(EditWord::Reorder),
+            "reparent" => Some(EditWord::Reparent),
+            "merge" => Some(EditWord::Merge),
+            "unmerge" => Some(EditWord::Unmerge),
+            "add" => Some(EditWord::Add),
+            "remove" => Some(EditWord::Remove),
+            "coalesce" => Some(EditWord::Coalesce),
+            "simplify" => Some(EditWord::Simplify),
+            _ => None,
+        }
+    }
+
+    /// The word as it is written.
+    pub fn text(self) -> &'static [u8]
+        ensures { result.now ≡ edit_word self }
+    {
+        match self {
+            EditWord::Squash => b"squash",
+            EditWord::Delete => b"delete",
+            EditWord::Split => b"split",
+            EditWord::Reorder => b"reorder",
+            EditWord::Reparent => b"reparent",
+            EditWord::Merge => b"merge",
+            EditWord::Unmerge => b"unmerge",
+            EditWord::Add => b"add",
+            EditWord::Remove => b"remove",
+            EditWord::Coalesce => b"coalesce",
+            EditWord::Simplify => b"simplify",
+        }
+    }
+
+    /// Whether a selection has to be before it.
+    pub fn needs_selection(self) -> bool
+        ensures { result ≡ needs_selection self }
+    {
+        !matches!(self, EditWord::Coalesce | EditWord::Simplify)
+    }
+}
+
+impl Listing {
+    /// The word of a text of events that these bytes are.
+    #[tactic(auto, unfolding(crate::specs::Keywords::listing_of))]
+    fn of(word: &str) -> Option<Listing>
+        ensures { result ≡ listing_of word.now }
+    {
+        match word {
+            "list" => Some(Listing::List),
+            "index" => Some(Listing::Index),
+            "stamp" => Some(Listing::Stamp),
+            "resolve" => Some(Listing::Resolve),
+            "manifest" => Some(Listing::Manifest),
+            _ => None,
+        }
+    }
 }
 
 impl Keyword {
+    // Each other command word.
+    #[tactic(auto, unfolding(crate::specs::Keywords::other_of))]
+    fn other(word: &str) -> Option<Keyword>
+        ensures { result ≡ other_of word.now }
+    {
+        match word {
+            "assign" => Some(Keyword::Assign),
+            "do" => Some(Keyword::Do),
+            "define" => Some(Keyword::Define),
+            _ => None,
+        }
+    }
+
     /// The command word that these bytes are; case counts.
-    #[tactic(auto, unfolding(crate::specs::Keywords::keyword_of))]
-    pub fn of(word: &[u8]) -> Option<Keyword>
+    pub fn of(word: &str) -> Option<Keyword>
         ensures { result ≡ keyword_of word.now }
     {
-        if word == b"read".as_slice() {
-            Some(Keyword::Read)
-        } else if word == b"write".as_slice() {
-            Some(Keyword::Write)
-        } else if word == b"choose".as_slice() {
-            Some(Keyword::Choose)
-        } else if word == b"drop".as_slice() {
-            Some(Keyword::Drop)
-        } else if word == b"renumber".as_slice() {
-            Some(Keyword::Renumber)
-        } else if word == b"list".as_slice() {
-            Some(Keyword::List)
-        } else if word == b"index".as_slice() {
-            Some(Keyword::Index)
-        } else if word == b"stamp".as_slice() {
-            Some(Keyword::Stamp)
-        } else if word == b"resolve".as_slice() {
-            Some(Keyword::Resolve)
-        } else if word == b"manifest".as_slice() {
-            Some(Keyword::Manifest)
-        } else if word == b"assign".as_slice() {
-            Some(Keyword::Assign)
-        } else if word == b"squash".as_slice() {
-            Some(Keyword::Squash)
-        } else if word == b"delete".as_slice() {
-            Some(Keyword::Delete)
-        } else if word == b"split".as_slice() {
-            Some(Keyword::Split)
-        } else if word == b"reorder".as_slice() {
-            Some(Keyword::Reorder)
-        } else if word == b"reparent".as_slice() {
-            Some(Keyword::Reparent)
-        } else if word == b"merge".as_slice() {
-            Some(Keyword::Merge)
-        } else if word == b"unmerge".as_slice() {
-            Some(Keyword::Unmerge)
-        } else if word == b"add".as_slice() {
-            Some(Keyword::Add)
-        } else if word == b"remove".as_slice() {
-            Some(Keyword::Remove)
-        } else if word == b"coalesce".as_slice() {
-            Some(Keyword::Coalesce)
-        } else if word == b"simplify".as_slice() {
-            Some(Keyword::Simplify)
-        } else if word == b"expunge".as_slice() {
-            Some(Keyword::Expunge)
-        } else if word == b"names".as_slice() {
-            Some(Keyword::Names)
-        } else if word == b"summary".as_slice() {
-            Some(Keyword::Summary)
-        } else if word == b"sample".as_slice() {
-            Some(Keyword::Sample)
-        } else if word == b"do".as_slice() {
-            Some(Keyword::Do)
-        } else if word == b"define".as_slice() {
-            Some(Keyword::Define)
-        } else {
-            None
+        if let Some(plain) = PlainWord::of(word) {
+            return Some(Keyword::Plain(plain));
         }
+        if let Some(edit) = EditWord::of(word) {
+            return Some(Keyword::Edit(edit));
+        }
+        if let Some(what) = Listing::of(word) {
+            return Some(Keyword::Show(what));
+        }
+        Keyword::other(word)
     }
 
     /// Whether a selection may be before it.
     pub fn takes_selection(self) -> bool
         ensures { result ≡ takes_selection self }
     {
-        match self {
-            Keyword::List
-            | Keyword::Index
-            | Keyword::Stamp
-            | Keyword::Resolve
-            | Keyword::Manifest
-            | Keyword::Assign
-            | Keyword::Squash
-            | Keyword::Delete
-            | Keyword::Split
-            | Keyword::Reorder
-            | Keyword::Reparent
-            | Keyword::Merge
-            | Keyword::Unmerge
-            | Keyword::Add
-            | Keyword::Remove
-            | Keyword::Coalesce
-            | Keyword::Simplify
-            | Keyword::Do => true,
-            _ => false,
-        }
+        !matches!(self, Keyword::Plain(_) | Keyword::Define)
     }
 }

@@ -42,6 +42,31 @@ is_operation word = bytes_eq word (codes "M") || bytes_eq word (codes "D") || by
 abbrev pub has_text : Bytes → Bytes → Bool
 has_text keyword line = bytes_eq (first_word line) keyword && is_some (after_space line)
 
+-- a line of no event and no field of one
+abbrev pub other_word : Bytes → Word
+other_word line =
+    let first = first_word line in
+    if bytes_eq first (codes "M") && is_inline line then word.InlineOperation else
+    if is_operation first || bytes_eq line (codes "deleteall") then word.Operation else
+    if bytes_eq line (codes "feature done") then word.FeatureDone else
+    if has_text (codes "progress") line || has_text (codes "feature") line || has_text (codes "option") line || bytes_eq line (codes "checkpoint") then word.Pass else
+    if bytes_eq line (codes "done") then word.Done else
+    if is_left_out_word first then word.LeftOut else word.Other
+
+-- a line that begins no event
+abbrev pub field_word : Bytes → Word
+field_word line =
+    let first = first_word line in
+    if bytes_eq first (codes "author") then word.Author else
+    if bytes_eq first (codes "committer") then word.Committer else
+    if has_text (codes "encoding") line then word.Encoding else
+    if bytes_eq first (codes "data") then word.Data else
+    if bytes_eq first (codes "from") then word.From else
+    if bytes_eq first (codes "merge") then word.Merge else
+    if bytes_eq first (codes "tagger") then word.Tagger else
+    if bytes_eq line (codes "alias") then word.Alias else
+    if bytes_eq first (codes "to") then word.To else other_word line
+
 abbrev pub word_of : Bytes → Word
 word_of line =
     let first = first_word line in
@@ -51,22 +76,7 @@ word_of line =
     if bytes_eq first (codes "tag") then word.Tag else
     if bytes_eq first (codes "reset") then word.Reset else
     if bytes_eq first (codes "mark") then word.Mark else
-    if has_text (codes "original-oid") line then word.Oid else
-    if bytes_eq first (codes "author") then word.Author else
-    if bytes_eq first (codes "committer") then word.Committer else
-    if has_text (codes "encoding") line then word.Encoding else
-    if bytes_eq first (codes "data") then word.Data else
-    if bytes_eq first (codes "from") then word.From else
-    if bytes_eq first (codes "merge") then word.Merge else
-    if bytes_eq first (codes "tagger") then word.Tagger else
-    if bytes_eq line (codes "alias") then word.Alias else
-    if bytes_eq first (codes "to") then word.To else
-    if bytes_eq first (codes "M") && is_inline line then word.InlineOperation else
-    if is_operation first || bytes_eq line (codes "deleteall") then word.Operation else
-    if bytes_eq line (codes "feature done") then word.FeatureDone else
-    if has_text (codes "progress") line || has_text (codes "feature") line || has_text (codes "option") line || bytes_eq line (codes "checkpoint") then word.Pass else
-    if bytes_eq line (codes "done") then word.Done else
-    if is_left_out_word first then word.LeftOut else word.Other
+    if has_text (codes "original-oid") line then word.Oid else field_word line
 
 abbrev pub is_comment : Bytes → Bool
 is_comment line = begins (codes "#") line

@@ -3,10 +3,12 @@ ghost use Rattle.std.specs.Prelude.{◌≡◌, codes, is_some};
 ghost use Rattle.plain_model.specs.Fields.{is_left_out_word, first_word, after_space};
 ghost use Rattle.plain_model.specs.Parts.{begins};
 ghost use Rattle.stream_grammar.specs.Lines.{
+  field_word,
   has_text,
   is_comment,
   is_inline,
   is_operation,
+  other_word,
   text_of,
   word_of,
 };
@@ -54,6 +56,60 @@ fn has_text(keyword: &[u8], line: &[u8]) -> bool
 }
 
 impl Word {
+    // What the line is, with this first word, if it is none of an event's.
+    fn other(first: &[u8], line: &[u8]) -> Word
+        requires { first.now ≡ first_word line.now }
+        ensures { result ≡ other_word line.now }
+    {
+        if first == b"M".as_slice() && is_inline(line) {
+            Word::InlineOperation
+        } else if is_operation(first) || line == b"deleteall".as_slice() {
+            Word::Operation
+        } else if line == b"feature done".as_slice() {
+            Word::FeatureDone
+        } else if has_text(b"progress", line)
+            || has_text(b"feature", line)
+            || has_text(b"option", line)
+            || line == b"checkpoint".as_slice()
+        {
+            Word::Pass
+        } else if line == b"done".as_slice() {
+            Word::Done
+        } else if is_word_left_out(first) {
+            Word::LeftOut
+        } else {
+            Word::Other
+        }
+    }
+
+    // The same, if it begins no event.
+    fn field(first: &[u8], line: &[u8]) -> Word
+        requires { first.now ≡ first_word line.now }
+        ensures { result ≡ field_word line.now }
+    {
+        if first == b"author".as_slice() {
+            Word::Author
+        } else if first == b"committer".as_slice() {
+            Word::Committer
+        } else if has_text(b"encoding", line) {
+            Word::Encoding
+        } else if first == b"data".as_slice() {
+            Word::Data
+        } else if first == b"from".as_slice() {
+            Word::From
+        } else if first == b"merge".as_slice() {
+            Word::Merge
+        } else if first == b"tagger".as_slice() {
+            Word::Tagger
+        } else if line == b"alias".as_slice() {
+            Word::Alias
+        } else if first == b"to".as_slice() {
+            Word::To
+        } else {
+            Word::other(first, line)
+        }
+    }
+
     /// What the line is.
     pub fn of(line: &[u8]) -> Word
         ensures { result ≡ word_of line.now }
@@ -73,42 +129,8 @@ impl Word {
             Word::Mark
         } else if has_text(b"original-oid", line) {
             Word::Oid
-        } else if first == b"author".as_slice() {
-            Word::Author
-        } else if first == b"committer".as_slice() {
-            Word::Committer
-        } else if has_text(b"encoding", line) {
-            Word::Encoding
-        } else if first == b"data".as_slice() {
-            Word::Data
-        } else if first == b"from".as_slice() {
-            Word::From
-        } else if first == b"merge".as_slice() {
-            Word::Merge
-        } else if first == b"tagger".as_slice() {
-            Word::Tagger
-        } else if line == b"alias".as_slice() {
-            Word::Alias
-        } else if first == b"to".as_slice() {
-            Word::To
-        } else if first == b"M".as_slice() && is_inline(line) {
-            Word::InlineOperation
-        } else if is_operation(first) || line == b"deleteall".as_slice() {
-            Word::Operation
-        } else if line == b"feature done".as_slice() {
-            Word::FeatureDone
-        } else if has_text(b"progress", line)
-            || has_text(b"feature", line)
-            || has_text(b"option", line)
-            || line == b"checkpoint".as_slice()
-        {
-            Word::Pass
-        } else if line == b"done".as_slice() {
-            Word::Done
-        } else if is_word_left_out(first) {
-            Word::LeftOut
         } else {
-            Word::Other
+            Word::field(first, line)
         }
     }
 }
