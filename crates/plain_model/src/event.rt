@@ -141,6 +141,42 @@ impl PlainEvent {
     }
 }
 
+// Equal values of who made a commit and where.
+fn copied_front(
+    alloc: Global,
+    branch: &Shared<Text>,
+    author: &Signed,
+    committer: &Signed,
+    encoding: &Option<Shared<Text>>,
+) -> Result<(Shared<Text>, Signed, Signed, Option<Shared<Text>>), NoMemory>
+    ensures { IfOk result (λ made. made ≡ (branch.now, author.now, committer.now, encoding.now)) }
+{
+    Ok((
+        branch.copied(alloc)?,
+        author.copied(alloc)?,
+        committer.copied(alloc)?,
+        encoding.copied(alloc)?,
+    ))
+}
+
+// Equal values of what a commit says and does.
+fn copied_body(
+    alloc: Global,
+    comment: &Text,
+    parents: &ParentList,
+    ops: &Shared<OpList>,
+    aliases: &MarkList,
+) -> Result<(Text, ParentList, Shared<OpList>, MarkList), NoMemory>
+    ensures { IfOk result (λ made. made ≡ (comment.now, parents.now, ops.now, aliases.now)) }
+{
+    Ok((
+        comment.copied(alloc)?,
+        parents.copied(alloc)?,
+        ops.copied(alloc)?,
+        aliases.copied(alloc)?,
+    ))
+}
+
 impl Copied for PlainEvent {
     fn copied(&self, alloc: Global) -> Result<PlainEvent, NoMemory> {
         match self {
@@ -160,18 +196,26 @@ impl Copied for PlainEvent {
                 parents,
                 ops,
                 aliases,
-            } => Ok(PlainEvent::Commit {
-                id: *id,
-                mark: *mark,
-                branch: branch.copied(alloc)?,
-                author: author.copied(alloc)?,
-                committer: committer.copied(alloc)?,
-                encoding: encoding.copied(alloc)?,
-                comment: comment.copied(alloc)?,
-                parents: parents.copied(alloc)?,
-                ops: ops.copied(alloc)?,
-                aliases: aliases.copied(alloc)?,
-            }),
+            } => {
+                let (branch, author, committer, encoding) = copied_front(
+                    alloc, branch, author, committer, encoding,
+                )?;
+                let (comment, parents, ops, aliases) = copied_body(
+                    alloc, comment, parents, ops, aliases,
+                )?;
+                Ok(PlainEvent::Commit {
+                    id: *id,
+                    mark: *mark,
+                    branch,
+                    author,
+                    committer,
+                    encoding,
+                    comment,
+                    parents,
+                    ops,
+                    aliases,
+                })
+            }
             PlainEvent::Tag {
                 id,
                 name,
