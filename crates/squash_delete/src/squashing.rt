@@ -1,5 +1,5 @@
 //! The plan of a squash.
-ghost use Rattle.std.specs.Prelude.{◌≡◌, map, IfOk, MatchOption, OnOk};
+ghost use Rattle.std.specs.Prelude.{◌≡◌, map, IfOk, MatchOption, None, OnOk};
 ghost use Rattle.graph_walk.specs.Expansions.{AreFew, parent_changes};
 ghost use Rattle.manifest_cache.specs.Kept.{AgreesWith};
 ghost use Rattle.plain_model.specs.Faults.{Returns};
@@ -8,7 +8,7 @@ ghost use Rattle.plain_model.specs.Soundness.{IsSound};
 ghost use Rattle.squash_delete.specs.Judged.{AreMany, IsLeftOf, ParentsAre};
 ghost use Rattle.squash_delete.specs.Leaving.{staying, with_own_parents};
 ghost use Rattle.squash_delete.specs.Targets.{AreMoves};
-ghost use Rattle.squash_laws.specs.Faults.{squash_of, trees_checked};
+ghost use Rattle.squash_laws.specs.Faults.{fault_before, squash_of, trees_checked};
 ghost use Rattle.squash_laws.specs.Removed.{Takings};
 ghost use Rattle.squash_laws.specs.Squash.{takes};
 
@@ -112,6 +112,39 @@ fn leave(alloc: Global, removal: &Removal, plan: &mut Plan, how: Policy) -> Resu
     Ok(Left::All { few })
 }
 
+// Takes the events of a set out of a plan of their history, where no commit of it is one that can't be pushed back.
+fn remove_all(
+    alloc: Global,
+    manifests: &mut Manifests,
+    removal: &Removal,
+    plan: &mut Plan,
+    how: Policy,
+) -> Result<(), Halt>
+    requires agrees { AgreesWith removal.now.events manifests.old }
+    requires sound { IsSound removal.now.events }
+    requires none { fault_before how.push removal.now.set removal.now.events ≡ None }
+    requires after { plan.old.after ≡ removal.now.events }
+    requires before { plan.old.before ≡ removal.now.events }
+    ensures answer { Returns (λ done. plan.new.after) result
+        (squash_of how removal.now.set removal.now.events) }
+    ensures others { OnOk result (plan.new ≡ record plan.old { after = plan.new.after }) }
+    ensures sound { OnOk result (IsSound plan.new.after) }
+    ensures kept { manifests.new ≡ manifests.old }
+{
+    let left = leave(alloc, removal, plan, how)?;
+    if let Err(fault) = judge(plan, left) {
+        return Err(Halt::Refused(fault));
+    }
+    if let Err(halt) = settle_left(alloc, removal, plan, how) {
+        return Err(halt);
+    }
+    if let Err(halt) = check_trees(manifests, plan, how.push) {
+        return Err(halt);
+    }
+    a_squash_keeps_soundness();
+    Ok(())
+}
+
 /// The plan that removes the commits, tags, resets and passed lines of a set. Operations and comments of its commits go
 /// forward to those that hang on them by first parents, back to the one that they hang on, or nowhere; tags and resets of
 /// them move, or go with discarded commits; commits that stay have what stands for their parents. Refused by the first
@@ -138,16 +171,6 @@ pub fn squash(
         return Err(Halt::Refused(fault));
     }
     let mut plan = Plan::new(alloc, events)?;
-    let left = leave(alloc, &removal, &mut plan, how)?;
-    if let Err(fault) = judge(&plan, left) {
-        return Err(Halt::Refused(fault));
-    }
-    if let Err(halt) = settle_left(alloc, &removal, &mut plan, how) {
-        return Err(halt);
-    }
-    if let Err(halt) = check_trees(manifests, &plan, how.push) {
-        return Err(halt);
-    }
-    a_squash_keeps_soundness();
+    remove_all(alloc, manifests, &removal, &mut plan, how)?;
     Ok(plan)
 }
