@@ -1,4 +1,3 @@
-mod Ends
 mod Entries
 mod Pieces
 mod Halting

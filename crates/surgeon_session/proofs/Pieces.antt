@@ -5,7 +5,7 @@ use Rattle.std.specs.FinMap.{get}
 use Rattle.std.specs.Result.{IsErrAnd}
 use Rattle.std.proofs.lemmas.Option.{IfSome_then}
 use Rattle.std.proofs.Math.Nat.{le-min, min-le_left, min-le_right}
-use Rattle.std.proofs.Math.Seq.{take-add, take-append_seam}
+use Rattle.std.proofs.Math.Seq.{drop-length, take-add, take-append_seam}
 use Rattle.std.proofs.lemmas.Bool.{cond-true, cond-false, cases_Bool}
 use Rattle.std.proofs.lemmas.Bool.Decides.{nat_tests}
 use Rattle.std.proofs.lemmas.List.{take_all, take-append-le, drop-drop}
@@ -35,7 +35,7 @@ use Rattle.surgeon_store.specs.declared.whole_files.ReadEnd.{ReadEnd}
 use Rattle.surgeon_store.specs.declared.whole_files.ReadEnd.TheVariants as ended
 use Rattle.history_machine.specs.Loading.{loaded, over, read_of}
 use Rattle.surgeon_session.specs.Ends.{of_read_fault}
-use Rattle.surgeon_session.specs.Pieces.{StopsNear, read_refused}
+use Rattle.surgeon_session.specs.Pieces.{GoesOn, IsWhole, StopsNear, Tells, read_refused}
 
 -- ---- machines that have stopped, and others
 
@@ -48,10 +48,6 @@ stopped_later f k n bytes h stopped =
     let same : k + (n - k) ≡ n = omega arith in
     subst (λ (x : ℕ). HasStopped f (after at_start (take x bytes))) same
     (subst (HasStopped f) (after_part k (n - k) bytes) (stopped_on f (after at_start (take k bytes)) (take (n - k) (drop k bytes)) stopped))
-
--- it has not stopped
-abbrev pub GoesOn : StreamMachine → Type 0
-GoesOn m = (i : ℕ) × (mode : Mode) × (s : State) × (m ≡ At i mode s)
 
 abbrev IsGoing : {S W : Type 0} → Machine S W → Type 0
 IsGoing (At i mode s) = Unit {0}
@@ -207,9 +203,10 @@ never_source (read.Limit which number) e is h = absurd cc
 never_source read.MarksSpent e is h = absurd cc
 never_source read.Memory e is h = absurd cc
 
-pub memory_breaks : (r : Result (List PlainEvent) ReadEnd) → IsErrAnd r (λ e. e ≡ ended.Memory) → (given : Result (List PlainEvent) Fault) → ReturnsOrBreaks (λ (l : List PlainEvent). l) r given
-memory_breaks (Ok l) is given = absurd is
-memory_breaks (Err e) is given = subst (λ (x : ReadEnd). ReturnsOrBreaks {X = List PlainEvent} (λ l. l) (Err x) given) (sym is) tt
+pub memory_tells : (name : Bytes) (file : Option Bytes) (r : Result (Unit {0}) ReadEnd) (reader : Reading) (rest : Option Bytes)
+    → IsErrAnd r (λ e. e ≡ ended.Memory) → Tells name file r reader rest
+memory_tells name file (Ok done) reader rest is = absurd is
+memory_tells name file (Err e) reader rest is = subst (λ (y : ReadEnd). Tells name file (Err y) reader rest) (sym is) (each_some file (λ bytes. tt))
 
 pub memory_near : {X : Type 0} (r : Result X ReadEnd) → IsErrAnd r (λ e. e ≡ ended.Memory) → (file rest : Option Bytes) → StopsNear file (read_refused r) rest
 memory_near (Ok x) is file rest = absurd is
@@ -224,6 +221,12 @@ pub some_stream : (r : Result (List PlainEvent) ReadEnd) (bytes : Bytes) → Ret
     → IfOk r (λ history. (x : Bytes) × (stream_of x ≡ Ok history))
 some_stream (Ok history) bytes e = (bytes, e)
 some_stream (Err e) bytes h = tt
+
+-- why a call is refused, whatever it gives else
+pub same_refusal : (X Y : Type 0) (e : ReadEnd) → read_refused {X = X} (Err e) ≡ read_refused {X = Y} (Err e)
+same_refusal X Y (ended.Refused why) = refl
+same_refusal X Y ended.SourceFault = refl
+same_refusal X Y ended.Memory = refl
 
 -- ---- the piece of a call of `read`
 
@@ -277,38 +280,6 @@ module _
     goes : (bytes : Bytes) → read ≡ take come bytes → GoesOn (after at_start (take come bytes))
     goes bytes is = subst (λ (x : Bytes). GoesOn (after at_start x)) is going
 
-    -- at the end of the file
-    module _ (result : Result (List PlainEvent) ReadEnd) (more : TakesMore now 0 piece new) (room : 0 < length piece)
-        (gives : (bytes : Bytes) → HasRead r bytes → ReturnsOrBreaks (λ (l : List PlainEvent). l) result (stream_of bytes))
-      where
-        at_end : (bytes : Bytes) → HasTaken (Some bytes) come read now
-            → (length bytes ≤ come) × (new ≡ Some (drop come bytes)) × ReturnsOrBreaks (λ (l : List PlainEvent). l) result (stream_of bytes)
-        at_end bytes (is, before, left) =
-            let took = subst (λ (o : Option Bytes). TakesMore o 0 piece new) left more in
-            let none : length (drop come bytes) ≡ 0 = ap length (took.3 refl room) in
-            let size = length-drop come bytes in
-            let all : length bytes ≤ come = omega (arith, none, size) in
-            (all, took.2, gives bytes (subst (HasRead r) (is ∙ take_all come bytes all) fed))
-
-        pub end_returns : IfSome file (λ bytes. ReturnsOrBreaks (λ (l : List PlainEvent). l) result (read_by most name bytes))
-        end_returns = by_file file taken
-          where
-            by_file : (o : Option Bytes) → HasTaken o come read now → IfSome o (λ bytes. ReturnsOrBreaks (λ (l : List PlainEvent). l) result (read_by most name bytes))
-            by_file None h = tt
-            by_file (Some bytes) h =
-                let done = at_end bytes h in
-                let all = done.0 in
-                whole_by most name result bytes (omega (arith, all, within)) done.2
-
-        pub end_near : StopsNear file (read_refused result) new
-        end_near = by_file file taken
-          where
-            by_file : (o : Option Bytes) → HasTaken o come read now → StopsNear o (read_refused result) new
-            by_file None h = tt
-            by_file (Some bytes) h =
-                let done = at_end bytes h in
-                stops_near defect result bytes new come come (omega arith) done.1 (goes bytes h.0) done.2
-
     -- where a line is refused
     module _ (n : ℕ) (f : ReadFault) (later : Reading) (more : TakesMore now n piece new) (fits : come + n ≤ most) (small : n ≤ 65536)
         (stops : Err f ≡ reported later.place) (next : HasRead later (read ++ take n piece))
@@ -331,8 +302,8 @@ module _
                 let done = at_refusal bytes h in
                 refused_by most name f (come + n) bytes fits done.0 done.2
 
-        pub refused_near : StopsNear file (read_refused {X = List PlainEvent} (Err (of_read_fault f))) new
-        refused_near = by_file file taken
+        pub refused_near : (X : Type 0) → StopsNear file (read_refused {X = X} (Err (of_read_fault f))) new
+        refused_near X = subst (λ (o : Option Fault). StopsNear file o new) (same_refusal (List PlainEvent) X (of_read_fault f)) (by_file file taken)
           where
             by_file : (o : Option Bytes) → HasTaken o come read now → StopsNear o (read_refused {X = List PlainEvent} (Err (of_read_fault f))) new
             by_file None h = tt
@@ -357,6 +328,46 @@ module _
             let full_now : come ≡ most = omega (arith, within, full) in
             let one : 1 ≤ n = positive n some in
             long_by most name bytes (omega (arith, size, there, one, full_now, before)) (subst (λ (k : ℕ). GoesOn (after at_start (take k bytes))) full_now (goes bytes is))
+
+-- ---- a file that was taken whole
+
+-- a call of `read` with room for a byte took none
+pub whole : (file now new : Option Bytes) (r : Reading) (read piece : Bytes) (come : ℕ) → come ≤ MAX_STREAM_BYTES → HasTaken file come read now → HasRead r read
+    → GoesOn (after at_start read) → TakesMore now 0 piece new → 0 < length piece → IsWhole file r new
+whole file now new r read piece come within taken fed going more room = (read, fed, going, by_file file taken)
+  where
+    by_file : (o : Option Bytes) → HasTaken o come read now → IfSome o (λ bytes. (read ≡ bytes) × (length bytes ≤ MAX_STREAM_BYTES) × (new ≡ Some []))
+    by_file None h = tt
+    by_file (Some bytes) (is, before, left) =
+        let took = subst (λ (o : Option Bytes). TakesMore o 0 piece new) left more in
+        let none : drop come bytes ≡ [] = took.3 refl room in
+        let empty : length (drop come bytes) ≡ 0 = ap length none in
+        let size = length-drop come bytes in
+        let all : length bytes ≤ come = omega (arith, empty, size) in
+        (is ∙ take_all come bytes all, omega (arith, all, within), took.2 ∙ ap Some none)
+
+module _
+    (name : Bytes) (file rest : Option Bytes) (r : Reading) (result : Result (List PlainEvent) ReadEnd) (is : IsWhole file r rest)
+    (gives : (bytes : Bytes) → HasRead r bytes → ReturnsOrBreaks (λ (l : List PlainEvent). l) result (stream_of bytes))
+  where
+    pub whole_returns : IfSome file (λ bytes. ReturnsOrBreaks (λ (l : List PlainEvent). l) result (read_of name (Some bytes)))
+    whole_returns = by_file file is.3
+      where
+        by_file : (o : Option Bytes) → IfSome o (λ bytes. (is.0 ≡ bytes) × (length bytes ≤ MAX_STREAM_BYTES) × (rest ≡ Some []))
+            → IfSome o (λ bytes. ReturnsOrBreaks (λ (l : List PlainEvent). l) result (read_of name (Some bytes)))
+        by_file None h = tt
+        by_file (Some bytes) (same, few, left) = whole_by MAX_STREAM_BYTES name result bytes few (gives bytes (subst (HasRead r) same is.1))
+
+    pub whole_near : ((bytes : Bytes) (n : ℕ) (why : Why) → stream_of bytes ≡ Err (fault.BadStream n why) → IsFirstDefect bytes n why)
+        → StopsNear file (read_refused result) rest
+    whole_near defect = by_file file is.3
+      where
+        by_file : (o : Option Bytes) → IfSome o (λ bytes. (is.0 ≡ bytes) × (length bytes ≤ MAX_STREAM_BYTES) × (rest ≡ Some []))
+            → StopsNear o (read_refused result) rest
+        by_file None h = tt
+        by_file (Some bytes) (same, few, left) =
+            stops_near defect result bytes rest (length bytes) (length bytes) (omega arith) (left ∙ ap Some (sym (drop-length bytes)))
+            (subst (λ (x : Bytes). GoesOn (after at_start x)) (same ∙ sym (take_all (length bytes) bytes (omega arith))) is.2) (gives bytes (subst (HasRead r) same is.1))
 
 -- ---- the history of a file
 

@@ -1,14 +1,21 @@
 -- How far a file is read of which a line is refused.
-use Rattle.std.specs.Prelude.{◌≡◌, ℕ, ◌+◌, ◌≤◌, ◌++◌, length, drop, Option, Some, None, Result, Err, option_and_then}
+use Rattle.std.specs.Prelude.{◌≡◌, ℕ, ◌+◌, ◌≤◌, ◌++◌, List, [], length, drop, Option, Some, None, Result, Ok, Err, IfSome, option_and_then}
 use Rattle.std.specs.FinMap.{get}
 use Rattle.plain_model.specs.Files.{Files}
 use Rattle.plain_model.specs.Paths.{Bytes}
 use Rattle.plain_model.specs.declared.fault.Fault.{Fault}
 use Rattle.plain_model.specs.declared.fault.Fault.TheVariants as fault
 use Rattle.plain_model.specs.declared.fault.Why.TheVariants.{Truncated}
-use Rattle.line_automaton.specs.Machine.{first_lines}
+use Rattle.plain_model.specs.declared.event.PlainEvent.{PlainEvent}
+use Rattle.plain_model.specs.declared.limit.TheConstants.{MAX_STREAM_BYTES}
+use Rattle.line_automaton.specs.Machine.{Mode, first_lines}
+use Rattle.line_automaton.specs.Machine.Machine.{At}
+use Rattle.stream_grammar.specs.Lines.{State}
+use Rattle.stream_reader.specs.Reading.{HasRead, Reading, StreamMachine, after, at_start}
+use Rattle.history_machine.specs.Loading.{read_of}
 use Rattle.script_reader.specs.declared.command.Command.{Command}
 use Rattle.script_reader.specs.declared.command.Command.TheVariants as command
+use Rattle.surgeon_store.specs.WholeFiles.{ReturnsOrBreaks}
 use Rattle.surgeon_store.specs.declared.whole_files.ReadEnd.{ReadEnd}
 use Rattle.surgeon_store.specs.declared.whole_files.ReadEnd.TheVariants as ended
 use Rattle.surgeon_session.specs.declared.halted.Halted.{Halted}
@@ -25,6 +32,22 @@ abbrev pub StopsNear : Option Bytes → Option Fault → Option Bytes → Type 0
 StopsNear None refused rest = Unit {0}
 StopsNear (Some bytes) (Some (fault.BadStream n why)) rest = (why ≡ Truncated → ⊥) → EndsNear n bytes rest
 StopsNear (Some bytes) other rest = Unit {0}
+
+-- no line is refused so far
+abbrev pub GoesOn : StreamMachine → Type 0
+GoesOn m = (n : ℕ) × (mode : Mode) × (s : State) × (m ≡ At n mode s)
+
+-- all bytes of a file have come, no line of them is refused, and none is left
+abbrev pub IsWhole : Option Bytes → Reading → Option Bytes → Type 0
+IsWhole file reader rest =
+    (come : Bytes) × HasRead reader come × GoesOn (after at_start come)
+    × IfSome file (λ bytes. (come ≡ bytes) × (length bytes ≤ MAX_STREAM_BYTES) × (rest ≡ Some []))
+
+-- what a call that takes a file in pieces says of it: it is there whole, or its history breaks off as the call does
+abbrev pub Tells : Bytes → Option Bytes → Result (Unit {0}) ReadEnd → Reading → Option Bytes → Type 0
+Tells name file (Ok done) reader rest = IsWhole file reader rest
+Tells name file (Err end) reader rest =
+    IfSome file (λ bytes. ReturnsOrBreaks {X = List PlainEvent} (λ l. l) (Err end) (read_of name (Some bytes)))
 
 -- why a call is refused, if it is
 abbrev pub read_refused : {X : Type 0} → Result X ReadEnd → Option Fault

@@ -3,8 +3,9 @@ use Rattle.plain_model.specs.Paths.{Bytes}
 use Rattle.plain_model.specs.declared.limit.TheConstants.{MAX_STREAM_BYTES}
 use Rattle.stream_reader.specs.Reading.{HasRead, after, at_start}
 use Rattle.surgeon_store.specs.Outside.{Reads}
-use Rattle.surgeon_session.proofs.Pieces.{GoesOn, HasTaken}
-use Rattle.surgeon_session.proofs.session.loading.read_pieces.Given as goal
+use Rattle.surgeon_session.specs.Pieces.{GoesOn}
+use Rattle.surgeon_session.proofs.Pieces.{HasTaken}
+use Rattle.surgeon_session.proofs.session.loading.feed_pieces.Given as goal
 
 abbrev pub invariant-loop-come : goal.invariant-loop-come
 invariant-loop-come g l = record {
