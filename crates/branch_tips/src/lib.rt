@@ -4,6 +4,3 @@
 mod tips;
 
 pub use tips::{TipList, Tips};
-
-#[cfg(test)]
-mod tests;

@@ -6,6 +6,3 @@ mod laws;
 
 pub use dates::push_date;
 pub use laws::{days_are_of_the_calendar, worked_dates};
-
-#[cfg(test)]
-mod tests;

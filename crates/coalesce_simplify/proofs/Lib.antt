@@ -1,4 +1,3 @@
-pub mod Histories
 pub mod Joins
 pub mod Leading
 pub mod Left

@@ -8,8 +8,6 @@ mod coalescing;
 mod ends;
 mod joining;
 mod simplifying;
-#[cfg(test)]
-mod tests;
 mod voiding;
 
 pub use coalescing::coalesce;

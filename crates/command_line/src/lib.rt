@@ -1,8 +1,6 @@
 //! The words of a command line, as `clap` reads them: `surgeon [--keep-going] SCRIPT`.
 #![tactic(auto)]
 
-#[cfg(test)]
-mod tests;
 mod words;
 
 pub use words::{Asked, asked_in};

@@ -1,7 +1,6 @@
 pub mod ChainLemmas
 pub mod ChangeLemmas
 pub mod DistinctLemmas
-pub mod Examples
 pub mod LinkLemmas
 pub mod ListLemmas
 pub mod MarkLemmas

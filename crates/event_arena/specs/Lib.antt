@@ -1,6 +1,5 @@
 pub mod Chains
 pub mod Changes
-pub mod Examples
 pub mod Families
 pub mod Graphs
 pub mod Indexed

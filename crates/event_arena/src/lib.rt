@@ -17,6 +17,3 @@ pub use events::Events;
 pub use field::Role;
 pub use links::Children;
 pub use plan::Plan;
-
-#[cfg(test)]
-mod tests;

@@ -1,5 +1,4 @@
 pub mod BitLemmas
-pub mod Histories
 pub mod LiveLemmas
 pub mod NearLemmas
 pub mod OnceLemmas

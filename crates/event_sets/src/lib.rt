@@ -13,6 +13,3 @@ mod worked;
 pub use laws::{bits_stand_for_lists, sets_are_live, sets_are_without_repeats};
 pub use set::EventSet;
 pub use worked::worked_sets;
-
-#[cfg(test)]
-mod tests;

@@ -7,7 +7,6 @@ pub mod EntryLemmas
 pub mod ExpandingLemmas
 pub mod ExpansionLemmas
 pub mod FlagLemmas
-pub mod Histories
 pub mod OrderLemmas
 pub mod OutcomeLemmas
 pub mod ParentLemmas

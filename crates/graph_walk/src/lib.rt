@@ -15,6 +15,3 @@ pub use children::children_of_all;
 pub use expansion::{ParentChanges, expand_parents, parent_changes};
 pub use flags::flags_of;
 pub use settling::{is_ready_at, settle};
-
-#[cfg(test)]
-mod tests;

@@ -16,6 +16,3 @@ pub use stamps::stamp;
 pub use summaries::{resolve, summary};
 pub use trees::manifest;
 pub use worked::worked_lists;
-
-#[cfg(test)]
-mod tests;

@@ -1,6 +1,4 @@
 mod Checked
-mod ExampleLines
-mod Examples
 mod KeptTrees
 mod LastUsed
 mod Lines

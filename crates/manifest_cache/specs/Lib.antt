@@ -1,5 +1,4 @@
 pub mod Checking
-pub mod Examples
 pub mod Following
 pub mod Kept
 pub mod Lending

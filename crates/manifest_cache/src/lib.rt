@@ -16,6 +16,3 @@ mod walk;
 
 pub use laws::{a_used_tree_is_kept, the_check_finds_what_has_no_tree};
 pub use manifests::Manifests;
-
-#[cfg(test)]
-mod tests;

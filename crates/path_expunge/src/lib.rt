@@ -17,8 +17,6 @@ mod removal;
 mod replacing;
 mod rewriting;
 mod targets;
-#[cfg(test)]
-mod tests;
 mod ways;
 
 pub use expunging::expunge;

@@ -35,6 +35,3 @@ pub use raw::{Place, RawContent, RawOp};
 pub use shared::Shared;
 pub use status::Status;
 pub use steps::Steps;
-
-#[cfg(test)]
-mod tests;

@@ -5,6 +5,3 @@
 mod limits;
 
 pub use limits::{Many, has_many, has_many_events, has_many_parents, limit_passed};
-
-#[cfg(test)]
-mod tests;

@@ -1,5 +1,4 @@
 pub mod Few
-pub mod Histories
 pub mod Kept
 pub mod Marks
 pub mod Sound

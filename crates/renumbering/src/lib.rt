@@ -11,6 +11,3 @@ pub use laws::{
 };
 pub use numbering::renumber;
 pub use worked::marks_go_by_place;
-
-#[cfg(test)]
-mod tests;

@@ -7,8 +7,6 @@ mod judging;
 mod merging;
 mod removing;
 mod reparenting;
-#[cfg(test)]
-mod tests;
 mod written;
 
 pub use adding::add_op;

@@ -11,6 +11,3 @@ pub use laws::samples_are_lawful;
 pub use limit::MAX_COMMITS;
 pub use sample::sample_events;
 pub use worked::worked_samples;
-
-#[cfg(test)]
-mod tests;

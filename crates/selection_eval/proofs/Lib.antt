@@ -2,7 +2,6 @@ mod Arms
 mod BigLaws
 mod Found
 mod DayTexts
-mod Examples
 mod Judged
 mod LiveLaws
 mod LiveParts

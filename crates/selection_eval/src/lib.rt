@@ -13,8 +13,6 @@ mod searching;
 mod spots;
 mod tags;
 mod testing;
-#[cfg(test)]
-mod tests;
 mod trees;
 mod worked;
 

@@ -15,8 +15,6 @@ mod place;
 mod reader;
 mod selection;
 mod stepping;
-#[cfg(test)]
-mod tests;
 mod worked;
 
 pub use field::FieldSet;

@@ -1,7 +1,6 @@
 pub mod Arranged
 pub mod Below
 pub mod Halving
-pub mod Histories
 pub mod Listed
 pub mod Permuted
 pub mod Relinked

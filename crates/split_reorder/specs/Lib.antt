@@ -1,4 +1,3 @@
 pub mod Copies
-pub mod Examples
 pub mod Ordered
 pub mod Parents

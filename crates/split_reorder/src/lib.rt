@@ -13,6 +13,3 @@ mod touching;
 
 pub use reordering::reorder;
 pub use splitting::{split_at, split_by};
-
-#[cfg(test)]
-mod tests;

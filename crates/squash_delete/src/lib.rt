@@ -17,8 +17,6 @@ mod squashing;
 mod sweeping;
 mod taking;
 mod targets;
-#[cfg(test)]
-mod tests;
 mod ways;
 
 pub use squashing::squash;

@@ -14,6 +14,3 @@ pub use aliases::Aliases;
 pub use draft::{CommitFields, Links};
 pub use drafts::Drafts;
 pub use finish::FinishFault;
-
-#[cfg(test)]
-mod tests;

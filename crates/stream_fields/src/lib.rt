@@ -28,6 +28,3 @@ pub use plain_model::Place;
 pub use repeated::{Names, People};
 pub use writing::{write_data, write_mark, write_op, write_path, write_person};
 pub use written_parts::mode_digits;
-
-#[cfg(test)]
-mod tests;

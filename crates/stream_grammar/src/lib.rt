@@ -19,6 +19,3 @@ pub use words::{is_comment, text_of};
 pub use worked::{
     ends_come_early, fields_have_first_defects, forms_have_first_defects, streams_have_histories,
 };
-
-#[cfg(test)]
-mod tests;

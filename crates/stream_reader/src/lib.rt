@@ -9,6 +9,3 @@ mod reader;
 pub use fault::ReadFault;
 pub use place::Place;
 pub use reader::{StreamReader, read_stream};
-
-#[cfg(test)]
-mod tests;

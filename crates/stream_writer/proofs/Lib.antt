@@ -1,4 +1,3 @@
 pub mod BlobLemmas
-pub mod Examples
 pub mod MarkLemmas
 pub mod SendingLemmas

@@ -1,4 +1,3 @@
-pub mod Examples
 pub mod Marks
 pub mod Parts
 pub mod Sending

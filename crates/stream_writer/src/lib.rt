@@ -10,6 +10,3 @@ mod writer;
 
 pub use stream::Stream;
 pub use writer::write_stream;
-
-#[cfg(test)]
-mod tests;

@@ -9,8 +9,6 @@ mod outside;
 mod store_sink;
 mod sure;
 mod target;
-#[cfg(test)]
-mod tests;
 mod trouble;
 mod whole_files;
 mod writing;

@@ -1,0 +1,421 @@
+ghost use Rattle.std.specs.Prelude.{◌≡◌, ◌≤◌, ◌<◌, ◌^◌, None, IfOk, IsSome, IsTrue, OnOk};
+ghost use Rattle.event_arena.specs.Changes.{has_label, has_signed};
+ghost use Rattle.plain_model.specs.Lookups.{find_event, id_of};
+ghost use Rattle.plain_model.specs.Soundness.{IsSound};
+ghost use Rattle.plain_model.specs.declared.id.AnyId.TheVariants.{Commit, Reset, Tag};
+
+use event_arena::{Events, Plan, Role};
+use graph_walk::{Scratch, expand_parents, is_ancestor};
+use manifest_cache::Manifests;
+use plain_model::{
+    AnyId, BlobId, CommitId, IdList, Items, NoMemory, Person, PlainEvent, ResetId, Shared, Signed,
+    TagId, Text, When,
+};
+use soundness_laws::{what_is_read_is_sound, what_is_read_passes_no_limit};
+use split_reorder::split_at;
+use squash_delete::squash;
+use squash_laws::{Lean, Policy, Push};
+use std::alloc::Global;
+use std::test::*;
+use stream_reader::read_stream;
+
+// A root of two operations; two children of it, of which the first has an alias, and their merge; a tag of the merge and a
+// reset to the second child. The ids are the places, from 1.
+const FORK: &[u8] = b"blob
+mark :1
+data 3
+one
+commit main
+mark :2
+committer A <e> 2 +0000
+data 0
+M 644 :1 f
+M 644 :1 g
+commit main
+mark :3
+committer A <e> 3 +0000
+data 0
+from :2
+alias
+mark :30
+to :3
+commit main
+mark :4
+committer A <e> 4 +0000
+data 0
+from :2
+commit main
+mark :5
+committer A <e> 5 +0000
+data 0
+from :3
+merge :4
+tag v1
+mark :6
+from :5
+data 0
+reset side
+from :4
+";
+
+// Two merges of the same commits, a merge of those, and a child of it, of the ids 1 to 7.
+const MERGES: &[u8] = b"commit b
+mark :1
+committer A <e> 1 +0000
+data 0
+commit b
+mark :2
+committer A <e> 2 +0000
+data 0
+from :1
+commit b
+mark :3
+committer A <e> 3 +0000
+data 0
+from :1
+commit b
+mark :4
+committer A <e> 4 +0000
+data 0
+from :2
+merge :3
+commit b
+mark :5
+committer A <e> 5 +0000
+data 0
+from :3
+merge :2
+commit b
+mark :6
+committer A <e> 6 +0000
+data 0
+from :4
+merge :5
+commit b
+mark :7
+committer A <e> 7 +0000
+data 0
+from :6
+";
+
+// The history of a stream.
+fn history(alloc: Global, stream: &[u8]) -> Result<Events, Fail>
+    ensures { IfOk result (λ events. events.next_id ≤ 2 ^ 62) }
+{
+    what_is_read_is_sound();
+    what_is_read_passes_no_limit();
+    match read_stream(alloc, stream) {
+        Ok(list) => Ok(Events::from_plain(alloc, list)?),
+        Err(_) => Err("no stream")?,
+    }
+}
+
+fn commit_id(number: u64) -> AnyId
+    ensures { result ≡ Commit number }
+{
+    AnyId::Commit(CommitId::new(number))
+}
+
+fn tag_id(number: u64) -> AnyId
+    ensures { result ≡ Tag number }
+{
+    AnyId::Tag(TagId::new(number))
+}
+
+fn reset_id(number: u64) -> AnyId
+    ensures { result ≡ Reset number }
+{
+    AnyId::Reset(ResetId::new(number))
+}
+
+fn find(plan: &Plan, id: AnyId) -> Result<(), Fail>
+    ensures { OnOk result (IsSome (find_event id plan.now.after)) }
+{
+    plan.event(id).ok_or("no such event")?;
+    Ok(())
+}
+
+fn set_label(alloc: Global, plan: &mut Plan, id: AnyId, label: &[u8]) -> Result<(), Fail>
+    requires { IsTrue (has_label id) }
+{
+    find(plan, id)?;
+    plan.set_label(id, Items::of(alloc, label)?)?;
+    Ok(())
+}
+
+fn set_labels(alloc: Global, plan: &mut Plan) -> Result<(), Fail> {
+    set_label(alloc, plan, commit_id(4), b"other")?;
+    set_label(alloc, plan, tag_id(6), b"v2")?;
+    set_label(alloc, plan, reset_id(7), b"old")
+}
+
+fn signed(alloc: Global, seconds: u64) -> Result<Signed, NoMemory> {
+    let name = Items::of(alloc, b"B")?;
+    let email = Items::empty(alloc);
+    Ok(Signed {
+        person: Shared::new(alloc, Person { name, email })?,
+        when: When {
+            seconds,
+            minus: false,
+            offset: 0,
+        },
+    })
+}
+
+fn set_signed(
+    alloc: Global,
+    plan: &mut Plan,
+    id: AnyId,
+    role: Role,
+    seconds: u64,
+) -> Result<(), Fail>
+    requires { IsTrue (has_signed role id) }
+{
+    find(plan, id)?;
+    plan.set_signed(id, role, signed(alloc, seconds)?)?;
+    Ok(())
+}
+
+fn set_people(alloc: Global, plan: &mut Plan) -> Result<(), Fail> {
+    set_signed(alloc, plan, commit_id(4), Role::Author, 44)?;
+    set_signed(alloc, plan, commit_id(5), Role::Committer, 55)?;
+    set_signed(alloc, plan, tag_id(6), Role::Tagger, 66)
+}
+
+fn put(out: &mut Text, label: &[u8]) -> Result<(), NoMemory> {
+    out.push(b' ')?;
+    out.push_all(label)
+}
+
+fn put_seconds(out: &mut Text, signed: &Signed) -> Result<(), NoMemory> {
+    out.push(b'/')?;
+    out.push_number(signed.when.seconds)
+}
+
+// The branch or the name of an event, and the seconds of each person who signed it.
+fn put_event(out: &mut Text, event: &PlainEvent) -> Result<(), NoMemory> {
+    match event {
+        PlainEvent::Commit {
+            branch,
+            author,
+            committer,
+            ..
+        } => {
+            put(out, branch.as_slice())?;
+            put_seconds(out, author)?;
+            put_seconds(out, committer)
+        }
+        PlainEvent::Tag { name, tagger, .. } => {
+            put(out, name.as_slice())?;
+            match tagger {
+                Some(tagger) => put_seconds(out, tagger),
+                None => Ok(()),
+            }
+        }
+        PlainEvent::Reset { branch, .. } => put(out, branch.as_slice()),
+        _ => Ok(()),
+    }
+}
+
+fn shown(alloc: Global, plan: &Plan) -> Result<Text, NoMemory> {
+    let mut out = Items::empty(alloc);
+    for place in 0..plan.count() {
+        put_event(&mut out, plan.nth(place))?;
+    }
+    Ok(out)
+}
+
+// The events of the fork with other labels and other people.
+fn given_others(alloc: Global) -> Result<Text, Fail> {
+    let events = history(alloc, FORK)?;
+    let mut plan = Plan::new(alloc, &events)?;
+    set_labels(alloc, &mut plan)?;
+    set_people(alloc, &mut plan)?;
+    Ok(shown(alloc, &plan)?)
+}
+
+#[test]
+fn labels_and_people_are_set_by_id(rt: HostRuntime) -> Result<(), Fail> {
+    let want: &[u8] = b" main/2/2 main/3/3 other/44/4 main/5/55 v2/66 old";
+    assert_eq!(rt; given_others(rt.alloc())?.as_slice(), want);
+    Ok(())
+}
+
+fn miss(plan: &Plan, id: AnyId) -> Result<(), Fail>
+    ensures { OnOk result (find_event id plan.now.after ≡ None) }
+{
+    match plan.event(id) {
+        Some(_) => Err("such an event")?,
+        None => Ok(()),
+    }
+}
+
+fn tag(alloc: Global, number: u64) -> Result<PlainEvent, NoMemory>
+    ensures { IfOk result (λ event. id_of event ≡ Tag number) }
+{
+    Ok(PlainEvent::Tag {
+        id: TagId::new(number),
+        name: Items::of(alloc, b"v2")?,
+        target: CommitId::new(5),
+        tagger: None,
+        comment: Items::empty(alloc),
+        mark: None,
+    })
+}
+
+// Puts a tag at the end, under a new number.
+fn put_tag(alloc: Global, plan: &mut Plan) -> Result<(), Fail>
+    requires { plan.old.next ≤ 2 ^ 62 }
+{
+    let number = plan.unused();
+    miss(plan, tag_id(number))?;
+    plan.append(tag(alloc, number)?)?;
+    Ok(())
+}
+
+fn take_commit(plan: &mut Plan, number: u64) -> Result<(), Fail> {
+    find(plan, commit_id(number))?;
+    plan.remove(commit_id(number))?;
+    Ok(())
+}
+
+fn ids(alloc: Global, plan: &Plan) -> Result<IdList, NoMemory> {
+    let mut ids = Items::empty(alloc);
+    for place in 0..plan.count() {
+        ids.push(plan.nth(place).id())?;
+    }
+    Ok(ids)
+}
+
+// The ids of the fork with a tag more and a commit less.
+fn put_and_taken(alloc: Global) -> Result<IdList, Fail> {
+    let events = history(alloc, FORK)?;
+    let mut plan = Plan::new(alloc, &events)?;
+    put_tag(alloc, &mut plan)?;
+    take_commit(&mut plan, 3)?;
+    Ok(ids(alloc, &plan)?)
+}
+
+#[test]
+fn one_event_is_put_at_the_end_and_one_is_taken_away(rt: HostRuntime) -> Result<(), Fail> {
+    let want = [
+        AnyId::Blob(BlobId::new(1)),
+        commit_id(2),
+        commit_id(4),
+        commit_id(5),
+        tag_id(6),
+        reset_id(7),
+        tag_id(8),
+    ];
+    assert_eq!(rt; put_and_taken(rt.alloc())?.as_slice(), want.as_slice());
+    Ok(())
+}
+
+#[test]
+fn a_history_is_listed_and_a_plan_of_it_is_weighed(rt: HostRuntime) -> Result<(), Fail> {
+    let alloc = rt.alloc();
+    let events = history(alloc, FORK)?;
+    assert_eq!(rt; events.plain()?.as_slice().len(), 7);
+    let pointers = events.tags_and_resets()?;
+    assert!(rt; pointers.as_slice().contains(&tag_id(6)));
+    assert!(rt; pointers.as_slice().contains(&reset_id(7)));
+    // Two for each commit, and its parents, operations and aliases; three for each other event.
+    let plan = Plan::new(alloc, &events)?;
+    assert_eq!(rt; plan.weight(), Some(3 + 4 + 4 + 3 + 4 + 3 + 3));
+    Ok(())
+}
+
+fn carry(events: &mut Events, plan: Plan) -> Result<(), Fail>
+    requires before { plan.before ≡ events.old.list }
+    requires made_at { plan.made_at ≡ events.old.next_id }
+    requires sound { IsSound plan.after }
+{
+    events.reserve_for(&plan)?;
+    events.carry_out(plan);
+    Ok(())
+}
+
+fn delete(alloc: Global, events: &mut Events, id: AnyId) -> Result<(), Fail> {
+    let mut manifests = Manifests::new(alloc)?;
+    let how = Policy {
+        push: Push::Discard,
+        tags: Lean::Back,
+    };
+    match squash(alloc, events, &mut manifests, &[id], how) {
+        Ok(plan) => carry(events, plan),
+        Err(_) => Err("refused")?,
+    }
+}
+
+// Splits a commit before its second operation.
+fn split(alloc: Global, events: &mut Events, id: AnyId) -> Result<(), Fail> {
+    if events.next_id() >= 1 << 63 {
+        Err("no ids")?;
+    }
+    match split_at(alloc, events, &[id], 2) {
+        Ok(plan) => carry(events, plan),
+        Err(_) => Err("refused")?,
+    }
+}
+
+#[test]
+fn a_slot_serves_a_later_event_and_an_id_never_comes_back(rt: HostRuntime) -> Result<(), Fail> {
+    let alloc = rt.alloc();
+    let mut events = history(alloc, FORK)?;
+    delete(alloc, &mut events, commit_id(3))?;
+    assert_eq!(rt;
+        (events.slots(), events.count(), events.next_id()),
+        (7, 6, 8)
+    );
+    assert_eq!(rt; events.at(3), Some(commit_id(4)));
+    split(alloc, &mut events, commit_id(2))?;
+    assert_eq!(rt;
+        (events.slots(), events.count(), events.next_id()),
+        (7, 7, 9)
+    );
+    assert_eq!(rt; events.at(3), Some(commit_id(8)));
+    assert!(rt; events.event(commit_id(3)).is_none());
+    assert_eq!(rt; events.position(commit_id(3)), None);
+    assert_eq!(rt;
+        events.first_child(CommitId::new(8)),
+        Some(CommitId::new(4))
+    );
+    Ok(())
+}
+
+fn look_up(events: &Events, number: u64) -> Result<(), Fail>
+    ensures { OnOk result (IsSome (find_event (Commit number) events.now.list)) }
+{
+    events.event(commit_id(number)).ok_or("no such commit")?;
+    Ok(())
+}
+
+fn descends(alloc: Global, events: &Events, low: u64, high: u64) -> Result<bool, Fail> {
+    look_up(events, low)?;
+    look_up(events, high)?;
+    let mut scratch = Scratch::new(alloc, events)?;
+    let (low, high) = (CommitId::new(low), CommitId::new(high));
+    Ok(is_ancestor(events, low, high, &mut scratch))
+}
+
+#[test]
+fn a_merge_descends_from_both_sides(rt: HostRuntime) -> Result<(), Fail> {
+    let events = history(rt.alloc(), MERGES)?;
+    assert!(rt; descends(rt.alloc(), &events, 2, 5)?);
+    assert!(rt; !descends(rt.alloc(), &events, 4, 5)?);
+    Ok(())
+}
+
+#[test]
+fn removed_merges_expand(rt: HostRuntime) -> Result<(), Fail> {
+    let alloc = rt.alloc();
+    let events = history(alloc, MERGES)?;
+    look_up(&events, 7)?;
+    let gone = Items::of(alloc, &[commit_id(4), commit_id(5), commit_id(6)])?;
+    let parents = expand_parents(alloc, &events, &gone, CommitId::new(7))?;
+    assert_eq!(rt;
+        parents.as_slice(),
+        [CommitId::new(2), CommitId::new(3)].as_slice()
+    );
+    Ok(())
+}

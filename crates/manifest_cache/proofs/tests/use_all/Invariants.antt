@@ -1,5 +1,0 @@
-use Rattle.manifest_cache.specs.Kept.{AgreesWith}
-use Rattle.manifest_cache.proofs.tests.use_all.Given as goal
-
-abbrev pub invariant-loop-number : goal.invariant-loop-number
-invariant-loop-number l = AgreesWith l.events.list l.manifests
