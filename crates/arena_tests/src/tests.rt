@@ -225,13 +225,21 @@ fn shown(alloc: Global, plan: &Plan) -> Result<Text, NoMemory> {
     Ok(out)
 }
 
+fn set_others(alloc: Global, plan: &mut Plan) -> Result<Text, Fail> {
+    set_labels(alloc, plan)?;
+    set_people(alloc, plan)?;
+    Ok(shown(alloc, plan)?)
+}
+
+fn plan_with_others(alloc: Global, events: &Events) -> Result<Text, Fail> {
+    let mut plan = Plan::new(alloc, events)?;
+    set_others(alloc, &mut plan)
+}
+
 // The events of the fork with other labels and other people.
 fn given_others(alloc: Global) -> Result<Text, Fail> {
     let events = history(alloc, FORK)?;
-    let mut plan = Plan::new(alloc, &events)?;
-    set_labels(alloc, &mut plan)?;
-    set_people(alloc, &mut plan)?;
-    Ok(shown(alloc, &plan)?)
+    plan_with_others(alloc, &events)
 }
 
 #[test]
@@ -287,13 +295,25 @@ fn ids(alloc: Global, plan: &Plan) -> Result<IdList, NoMemory> {
     Ok(ids)
 }
 
+fn put_and_take(alloc: Global, plan: &mut Plan) -> Result<IdList, Fail>
+    requires { plan.old.next ≤ 2 ^ 62 }
+{
+    put_tag(alloc, plan)?;
+    take_commit(plan, 3)?;
+    Ok(ids(alloc, plan)?)
+}
+
+fn plan_put_and_taken(alloc: Global, events: &Events) -> Result<IdList, Fail>
+    requires { events.now.next_id ≤ 2 ^ 62 }
+{
+    let mut plan = Plan::new(alloc, events)?;
+    put_and_take(alloc, &mut plan)
+}
+
 // The ids of the fork with a tag more and a commit less.
 fn put_and_taken(alloc: Global) -> Result<IdList, Fail> {
     let events = history(alloc, FORK)?;
-    let mut plan = Plan::new(alloc, &events)?;
-    put_tag(alloc, &mut plan)?;
-    take_commit(&mut plan, 3)?;
-    Ok(ids(alloc, &plan)?)
+    plan_put_and_taken(alloc, &events)
 }
 
 #[test]
@@ -311,17 +331,35 @@ fn one_event_is_put_at_the_end_and_one_is_taken_away(rt: HostRuntime) -> Result<
     Ok(())
 }
 
-#[test]
-fn a_history_is_listed_and_a_plan_of_it_is_weighed(rt: HostRuntime) -> Result<(), Fail> {
-    let alloc = rt.alloc();
-    let events = history(alloc, FORK)?;
-    assert_eq!(rt; events.plain()?.as_slice().len(), 7);
+fn count_plain(events: &Events) -> Result<usize, NoMemory> {
+    Ok(events.plain()?.as_slice().len())
+}
+
+// Whether the tag and the reset of the fork are among those that refer to commits.
+fn has_pointers(events: &Events) -> Result<bool, NoMemory> {
     let pointers = events.tags_and_resets()?;
-    assert!(rt; pointers.as_slice().contains(&tag_id(6)));
-    assert!(rt; pointers.as_slice().contains(&reset_id(7)));
-    // Two for each commit, and its parents, operations and aliases; three for each other event.
-    let plan = Plan::new(alloc, &events)?;
-    assert_eq!(rt; plan.weight(), Some(3 + 4 + 4 + 3 + 4 + 3 + 3));
+    let ids = pointers.as_slice();
+    Ok(ids.contains(&tag_id(6)) && ids.contains(&reset_id(7)))
+}
+
+fn weight(alloc: Global, events: &Events) -> Result<Option<usize>, NoMemory> {
+    Ok(Plan::new(alloc, events)?.weight())
+}
+
+#[test]
+fn a_history_is_listed(rt: HostRuntime) -> Result<(), Fail> {
+    let events = history(rt.alloc(), FORK)?;
+    assert_eq!(rt; count_plain(&events)?, 7);
+    assert!(rt; has_pointers(&events)?);
+    Ok(())
+}
+
+// Two for each commit, and its parents, operations and aliases; three for each other event.
+#[test]
+fn a_plan_is_weighed(rt: HostRuntime) -> Result<(), Fail> {
+    let events = history(rt.alloc(), FORK)?;
+    let want = Some(3 + 4 + 4 + 3 + 4 + 3 + 3);
+    assert_eq!(rt; weight(rt.alloc(), &events)?, want);
     Ok(())
 }
 
@@ -358,28 +396,33 @@ fn split(alloc: Global, events: &mut Events, id: AnyId) -> Result<(), Fail> {
     }
 }
 
+// Whether there are so many slots and events, this is the next id, and this the third event.
+fn are_at(events: &Events, numbers: (usize, usize, u64), third: AnyId) -> bool {
+    let (slots, count, next) = numbers;
+    events.slots() == slots
+        && events.count() == count
+        && events.next_id() == next
+        && events.at(3) == Some(third)
+}
+
+fn is_gone(events: &Events, commit: u64) -> bool {
+    events.event(commit_id(commit)).is_none() && events.position(commit_id(commit)).is_none()
+}
+
+fn is_first_child(events: &Events, parent: u64, child: u64) -> bool {
+    events.first_child(CommitId::new(parent)) == Some(CommitId::new(child))
+}
+
 #[test]
 fn a_slot_serves_a_later_event_and_an_id_never_comes_back(rt: HostRuntime) -> Result<(), Fail> {
     let alloc = rt.alloc();
     let mut events = history(alloc, FORK)?;
     delete(alloc, &mut events, commit_id(3))?;
-    assert_eq!(rt;
-        (events.slots(), events.count(), events.next_id()),
-        (7, 6, 8)
-    );
-    assert_eq!(rt; events.at(3), Some(commit_id(4)));
+    assert!(rt; are_at(&events, (7, 6, 8), commit_id(4)));
     split(alloc, &mut events, commit_id(2))?;
-    assert_eq!(rt;
-        (events.slots(), events.count(), events.next_id()),
-        (7, 7, 9)
-    );
-    assert_eq!(rt; events.at(3), Some(commit_id(8)));
-    assert!(rt; events.event(commit_id(3)).is_none());
-    assert_eq!(rt; events.position(commit_id(3)), None);
-    assert_eq!(rt;
-        events.first_child(CommitId::new(8)),
-        Some(CommitId::new(4))
-    );
+    assert!(rt; are_at(&events, (7, 7, 9), commit_id(8)));
+    assert!(rt; is_gone(&events, 3));
+    assert!(rt; is_first_child(&events, 8, 4));
     Ok(())
 }
 
