@@ -1,5 +1,5 @@
 //! The plan of an expunge.
-ghost use Rattle.std.specs.Prelude.{◌≡◌, Ok, IfOk};
+ghost use Rattle.std.specs.Prelude.{◌≡◌, Ok, IfOk, OnOk};
 ghost use Rattle.expunge_laws.specs.Expunged.{expunge_of, expunged};
 ghost use Rattle.manifest_cache.specs.Kept.{AgreesWith};
 ghost use Rattle.path_expunge.specs.Matching.{matched_by};
@@ -34,6 +34,38 @@ fn is_nothing(set: &[AnyId]) -> bool
     }
 }
 
+// Takes the matched paths out of a plan of a history, whatever the limits are.
+fn remove_paths(
+    alloc: Global,
+    events: &Events,
+    manifests: &mut Manifests,
+    matching: &mut Matching<'_>,
+    plan: &mut Plan,
+) -> Result<(), NoMemory>
+    requires agrees { AgreesWith events.now.list manifests.old }
+    requires before { plan.old.before ≡ events.now.list }
+    requires whole { plan.old.after ≡ events.now.list }
+    ensures after { OnOk result
+        (expunged (matched_by matching.old) events.now.list ≡ Ok plan.new.after) }
+    ensures others { OnOk result (plan.new ≡ record plan.old { after = plan.new.after }) }
+    ensures kept { AgreesWith events.now.list manifests.new }
+{
+    let _count = events.count();
+    replace_ops(alloc, events, manifests, matching, plan)?;
+    let set = emptied(alloc, plan)?;
+    what_no_matched_path_touches_stays();
+    if is_nothing(set.as_slice()) {
+        sweep(alloc, plan)?;
+        return Ok(());
+    }
+    emptied_commits_give_way_in_line();
+    an_expunge_comes_to_its_end();
+    give_way(alloc, plan, set.as_slice())?;
+    sweep(alloc, plan)?;
+    put_in_order(alloc, plan)?;
+    Ok(())
+}
+
 // What an expunge leaves, whatever the limits are.
 fn expunged(
     alloc: Global,
@@ -49,21 +81,9 @@ fn expunged(
     ensures next { IfOk result (λ plan. plan.next ≡ events.now.next_id) }
     ensures kept { AgreesWith events.now.list manifests.new }
 {
-    let _count = events.count();
     let mut matching = Matching::new(alloc, matchers)?;
     let mut plan = Plan::new(alloc, events)?;
-    replace_ops(alloc, events, manifests, &mut matching, &mut plan)?;
-    let set = emptied(alloc, &plan)?;
-    what_no_matched_path_touches_stays();
-    if is_nothing(set.as_slice()) {
-        sweep(alloc, &mut plan)?;
-        return Ok(plan);
-    }
-    emptied_commits_give_way_in_line();
-    an_expunge_comes_to_its_end();
-    give_way(alloc, &mut plan, set.as_slice())?;
-    sweep(alloc, &mut plan)?;
-    put_in_order(alloc, &mut plan)?;
+    remove_paths(alloc, events, manifests, &mut matching, &mut plan)?;
     Ok(plan)
 }
 
