@@ -1,6 +1,6 @@
 -- What a file gives of which pieces were read.
 use Rattle.std.proofs.Common.{◌≡◌, ℕ, ◌+◌, ◌-◌, ◌≤◌, ◌<◌, Bool, true, false, List, [], ◌++◌, length, take, drop, zero, suc, Option, Some, None, Result, Ok, Err, refl, sym, ap, subst, ◌∙◌, inl, inr, arith, nat_lt, length-drop, length-take}
-use Rattle.std.specs.Prelude.{IfOk, IfSome, IsErrOf, IsSome, min, if◌then◌else◌}
+use Rattle.std.specs.Prelude.{IfSome, IsErrOf, IsSome, min, if◌then◌else◌}
 use Rattle.std.specs.FinMap.{get}
 use Rattle.std.specs.Result.{IsErrAnd}
 use Rattle.std.proofs.lemmas.Option.{IfSome_then}
@@ -17,13 +17,13 @@ use Rattle.plain_model.specs.declared.fault.Fault.TheVariants as fault
 use Rattle.plain_model.specs.declared.fault.Why.{Why}
 use Rattle.plain_model.specs.declared.fault.Why.TheVariants.{Truncated}
 use Rattle.plain_model.specs.declared.limit.TheConstants.{MAX_STREAM_BYTES}
-use Rattle.line_automaton.specs.Machine.{Machine, Mode, all, begun, closed, first_lines, run}
+use Rattle.line_automaton.specs.Machine.{Machine, all, begun, closed, first_lines, run}
 use Rattle.line_automaton.specs.Machine.Machine.{At, Stopped}
 use Rattle.line_automaton.specs.Machine.Mode.{InLine}
 use Rattle.line_automaton.proofs.LimitLaws.{run_within}
 use Rattle.line_automaton.proofs.Runs.{run_append, stays}
 use Rattle.stream_grammar.specs.Limits.{exceeded, stream_of, stream_within}
-use Rattle.stream_grammar.specs.Lines.{IsFirstDefect, State, stream}
+use Rattle.stream_grammar.specs.Lines.{IsFirstDefect, stream}
 use Rattle.stream_reader.specs.Answers.{IsFaultOf}
 use Rattle.stream_reader.specs.Reading.{HasCome, HasRead, HasStopped, Reading, StreamMachine, after, at_start, reported}
 use Rattle.stream_reader.specs.declared.fault.ReadFault.{ReadFault}
@@ -215,12 +215,6 @@ memory_near {X = X} (Err e) is file rest = subst (λ (y : ReadEnd). StopsNear fi
 pub long_near : (file rest : Option Bytes) (name : Bytes) (n : ℕ) → StopsNear file (Some (fault.TooLong name n)) rest
 long_near None rest name n = tt
 long_near (Some bytes) rest name n = tt
-
--- a history that is read is that of some stream
-pub some_stream : (r : Result (List PlainEvent) ReadEnd) (bytes : Bytes) → ReturnsOrBreaks (λ (l : List PlainEvent). l) r (stream_of bytes)
-    → IfOk r (λ history. (x : Bytes) × (stream_of x ≡ Ok history))
-some_stream (Ok history) bytes e = (bytes, e)
-some_stream (Err e) bytes h = tt
 
 -- why a call is refused, whatever it gives else
 pub same_refusal : (X Y : Type 0) (e : ReadEnd) → read_refused {X = X} (Err e) ≡ read_refused {X = Y} (Err e)

@@ -1,10 +1,8 @@
-use Rattle.std.proofs.Common.{◌≡◌, List, ◌++◌, [], drop, take, Some, Err, refl, subst, sym, arith, zero-le}
+use Rattle.std.proofs.Common.{◌≡◌, ◌++◌, [], drop, take, Some, Err, refl, subst, sym, arith, zero-le}
 use Rattle.std.specs.Prelude.{IfSome}
-use Rattle.plain_model.specs.declared.event.PlainEvent.{PlainEvent}
 use Rattle.plain_model.specs.declared.fault.Fault.{Fault}
 use Rattle.plain_model.specs.declared.limit.TheConstants.{MAX_STREAM_BYTES}
 use Rattle.history_machine.specs.Loading.{read_of}
-use Rattle.surgeon_store.specs.WholeFiles.{ReturnsOrBreaks}
 use Rattle.surgeon_store.specs.declared.whole_files.ReadEnd.{ReadEnd}
 use Rattle.surgeon_session.specs.Pieces.{StopsNear, Tells, read_refused}
 use Rattle.surgeon_session.proofs.Pieces.{TakesMore, begins, each_some, fed_piece, goes_on, has_room, long_near, long_returns, memory_near, memory_tells, more_taken, never_source, none_taken, nothing_near, reads_both, refused_near, refused_returns, room_fits, wanted, whole}
