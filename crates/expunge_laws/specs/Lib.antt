@@ -1,6 +1,7 @@
 pub mod Examples
 pub mod Expunged
 pub mod InLine
+pub mod Matching
 pub mod Near
 pub mod PushForward
 pub mod Remaining

@@ -27,7 +27,7 @@ use Rattle.coalesce_laws.specs.Coalesce.{coalesce_of}
 use Rattle.simplify_laws.specs.Simplify.{simplify_of}
 use Rattle.expunge_laws.specs.Expunged
 use Rattle.expunge_laws.specs.Expunged.{expunge_of}
-use Rattle.path_expunge.specs.Matching.{Matches, matched_by}
+use Rattle.expunge_laws.specs.Matching.{Matches, matched_by}
 use Rattle.reparent_laws.specs.Merge.{merge_of, unmerge_of}
 use Rattle.reparent_laws.specs.Operations.{add_of, remove_of}
 use Rattle.reparent_laws.specs.Remaining.{AddsNothing}

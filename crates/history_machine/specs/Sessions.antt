@@ -16,7 +16,7 @@ use Rattle.listing.specs.Listings.{list_text, index_text, names_text}
 use Rattle.listing.specs.Stamps.{stamp_text}
 use Rattle.listing.specs.Summaries.{resolve_text, summary_text}
 use Rattle.listing.specs.TreeListings.{manifest_text}
-use Rattle.path_expunge.specs.Matching.{Matches, matched_by}
+use Rattle.expunge_laws.specs.Matching.{Matches, matched_by}
 use Rattle.renumbering.specs.Renumbered.{renumbered}
 use Rattle.sample_history.specs.Sample.{sample}
 use Rattle.script_reader.specs.Answering.{◌>>=◌}

@@ -13,7 +13,7 @@ ghost use Rattle.script_reader.specs.declared.edit.Edit.TheVariants as Edit;
 ghost use Rattle.script_reader.specs.declared.script.ScriptLine.{ScriptLine};
 ghost use Rattle.squash_laws.specs.declared.policy.Lean.{Lean};
 ghost use Rattle.squash_laws.specs.declared.policy.Push.TheVariants as push;
-ghost use Rattle.path_expunge.specs.Matching.{Matches, matched_by};
+ghost use Rattle.expunge_laws.specs.Matching.{Matches, matched_by};
 ghost use Rattle.history_machine.specs.Kept.{
   Each,
   KeepsEveryTree,

@@ -7,7 +7,7 @@ use Rattle.plain_model.specs.contracts.id.CommitIdPartialEq.TheImpl.{eq-value}
 use Rattle.plain_model.specs.Parts.{begins}
 use Rattle.plain_model.specs.Paths.{Bytes, begins_with_slash, is_below}
 use Rattle.path_expunge.specs.declared.matching.PathTest.{PathTest}
-use Rattle.path_expunge.specs.Matching.{matched_by, matches}
+use Rattle.expunge_laws.specs.Matching.{matched_by, matches}
 use Rattle.path_expunge.specs.Tests.{sought}
 
 -- the first of the rest, and then what is after it

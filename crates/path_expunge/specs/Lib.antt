@@ -1,6 +1,5 @@
 pub mod Emptying
 pub mod Fates
 pub mod Forms
-pub mod Matching
 pub mod Tests
 pub mod Written

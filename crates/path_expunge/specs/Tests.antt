@@ -1,8 +1,8 @@
 -- What tests of paths look for.
 use Rattle.path_expunge.specs.declared.matching.PathTest.{PathTest}
 use Rattle.path_expunge.specs.declared.matching.PathTest.TheVariants.{Only, Found}
-use Rattle.path_expunge.specs.Matching.{Matches}
-use Rattle.path_expunge.specs.Matching.Matches.{only, found}
+use Rattle.expunge_laws.specs.Matching.{Matches}
+use Rattle.expunge_laws.specs.Matching.Matches.{only, found}
 
 abbrev pub sought : PathTest → Matches
 sought (Only path) = only path.now

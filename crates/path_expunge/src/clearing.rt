@@ -1,7 +1,7 @@
 //! Whether what is moved is clear of matched paths.
 ghost use Rattle.std.specs.Prelude.{◌≡◌, ◌++◌, drop, length, IfOk, OnOk};
 ghost use Rattle.expunge_laws.specs.Replaced.{has_matched, is_clear, restricted};
-ghost use Rattle.path_expunge.specs.Matching.{matched_by};
+ghost use Rattle.expunge_laws.specs.Matching.{matched_by};
 ghost use Rattle.plain_model.specs.Trees.{moved};
 ghost use Rattle.squash_laws.specs.Squash.{is_none};
 

@@ -5,7 +5,7 @@ ghost use Rattle.event_arena.specs.Changes.{changed};
 ghost use Rattle.expunge_laws.specs.Expunged.{replaced_event, replaced_events};
 ghost use Rattle.expunge_laws.specs.Untouched.{may_touch};
 ghost use Rattle.manifest_cache.specs.Kept.{AgreesWith};
-ghost use Rattle.path_expunge.specs.Matching.{matched_by};
+ghost use Rattle.expunge_laws.specs.Matching.{matched_by};
 ghost use Rattle.plain_model.specs.Histories.{begun, tree};
 ghost use Rattle.plain_model.specs.Lookups.{find_event, id_of};
 ghost use Rattle.plain_model.specs.Soundness.{IsCommitOf};

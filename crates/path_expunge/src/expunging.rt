@@ -2,7 +2,7 @@
 ghost use Rattle.std.specs.Prelude.{◌≡◌, Ok, IfOk, OnOk};
 ghost use Rattle.expunge_laws.specs.Expunged.{expunge_of, expunged};
 ghost use Rattle.manifest_cache.specs.Kept.{AgreesWith};
-ghost use Rattle.path_expunge.specs.Matching.{matched_by};
+ghost use Rattle.expunge_laws.specs.Matching.{matched_by};
 ghost use Rattle.plain_model.specs.Faults.{Returns};
 ghost use Rattle.plain_model.specs.Soundness.{IsSound};
 ghost use Rattle.squash_laws.specs.Squash.{is_none};

@@ -2,8 +2,8 @@
 ghost use Rattle.std.specs.Prelude.{◌≡◌, ◌≤◌};
 ghost use Rattle.byte_patterns.specs.Judging.{Judges};
 ghost use Rattle.path_expunge.specs.Forms.{what};
-ghost use Rattle.path_expunge.specs.Matching.{matcher_of};
-ghost use Rattle.path_expunge.specs.Matching.Matches.{only};
+ghost use Rattle.expunge_laws.specs.Matching.{matcher_of};
+ghost use Rattle.expunge_laws.specs.Matching.Matches.{only};
 
 use byte_patterns::{Pattern, Patterns};
 use plain_model::{Halt, Path};
@@ -24,7 +24,7 @@ pub struct Matcher {
 }
 
 impl Model for Matcher {
-    ghost use Rattle.path_expunge.specs.Matching.{Matches};
+    ghost use Rattle.expunge_laws.specs.Matching.{Matches};
     ghost use Rattle.path_expunge.specs.Forms.{what};
 
     ghost Value = { Matches };

@@ -1,6 +1,6 @@
 //! Which paths some matchers match.
 ghost use Rattle.std.specs.Prelude.{◌≡◌, IfOk, map};
-ghost use Rattle.path_expunge.specs.Matching.{matched_by, matches};
+ghost use Rattle.expunge_laws.specs.Matching.{matched_by, matches};
 ghost use Rattle.path_expunge.specs.Tests.{sought};
 
 use crate::matcher::{Form, Matcher};
@@ -45,7 +45,7 @@ pub struct Matching<'m> {
 
 impl<'m> Model for Matching<'m> {
     ghost use Rattle.std.specs.Prelude.{List, map};
-    ghost use Rattle.path_expunge.specs.Matching.{Matches};
+    ghost use Rattle.expunge_laws.specs.Matching.{Matches};
     ghost use Rattle.path_expunge.specs.Tests.{sought};
 
     ghost Value = { List Matches };

@@ -2,7 +2,7 @@
 ghost use Rattle.std.specs.Prelude.{◌≡◌, ◌++◌, ◌∷◌, [], if◌then◌else◌, Some, Ok, IfOk, IsOk, IsSome, OnOk};
 ghost use Rattle.expunge_laws.specs.Replaced.{is_clear, replaced, replaced_all, rewritten};
 ghost use Rattle.expunge_laws.specs.Untouched.{may_touch};
-ghost use Rattle.path_expunge.specs.Matching.{matched_by};
+ghost use Rattle.expunge_laws.specs.Matching.{matched_by};
 ghost use Rattle.path_expunge.specs.Written.{moving};
 ghost use Rattle.plain_model.specs.Histories.{folded};
 ghost use Rattle.plain_model.specs.Trees.{IsTree, apply};

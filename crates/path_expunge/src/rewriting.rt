@@ -23,7 +23,7 @@ ghost use Rattle.expunge_laws.specs.Replaced.{
   rewritten,
   same_content,
 };
-ghost use Rattle.path_expunge.specs.Matching.{matched_by};
+ghost use Rattle.expunge_laws.specs.Matching.{matched_by};
 ghost use Rattle.path_expunge.specs.Written.{gone_of, moving};
 ghost use Rattle.plain_model.specs.Paths.{Bytes, do_conflict, is_below};
 ghost use Rattle.plain_model.specs.Trees.{IsTree, apply, at, change, where_path};

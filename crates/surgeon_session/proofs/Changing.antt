@@ -13,7 +13,7 @@ use Rattle.plain_model.specs.declared.fault.Halt.{Halt}
 use Rattle.plain_model.specs.declared.fault.Halt.TheVariants as halt
 use Rattle.event_sets.specs.Sets.{Ids}
 use Rattle.expunge_laws.specs.Expunged.{expunge_of}
-use Rattle.path_expunge.specs.Matching.{Matches, matched_by}
+use Rattle.expunge_laws.specs.Matching.{Matches, matched_by}
 use Rattle.selection_eval.specs.Names.{assigned}
 use Rattle.script_reader.specs.Answering.{◌>>=◌}
 use Rattle.script_reader.specs.declared.edit.Edit.{Edit}

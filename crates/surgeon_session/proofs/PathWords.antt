@@ -8,7 +8,7 @@ use Rattle.plain_model.specs.Paths.{Bytes}
 use Rattle.plain_model.specs.declared.fault.Fault.{Fault}
 use Rattle.plain_model.specs.declared.fault.Halt.{Halt}
 use Rattle.byte_patterns.specs.Judging.{Judged, Judges, ◌>>>◌, plainly}
-use Rattle.path_expunge.specs.Matching.{Matches}
+use Rattle.expunge_laws.specs.Matching.{Matches}
 use Rattle.path_expunge.proofs.Judged.{stopped}
 use Rattle.history_machine.specs.PathWords.{before_slash, between_slashes, matches_by, matches_of}
 use Rattle.surgeon_session.proofs.Judged.{nothing_done, one_by_one, went_on}

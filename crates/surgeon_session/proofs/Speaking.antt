@@ -10,7 +10,7 @@ use Rattle.event_sets.specs.Once.{AreLive, IsOnce}
 use Rattle.event_sets.specs.Sets.{Ids}
 use Rattle.selection_eval.specs.Given.{GivesLive, GivesOnce}
 use Rattle.selection_parser.specs.Reading.{selection_at}
-use Rattle.path_expunge.specs.Matching.{Matches}
+use Rattle.expunge_laws.specs.Matching.{Matches}
 use Rattle.path_expunge.proofs.Judged.{stopped}
 use Rattle.history_machine.specs.PathWords.{matches_of}
 use Rattle.history_machine.specs.Sessions.{Repo, Session, Subject, chosen, find_repo, in_scope, of_events, of_paths, said_paths, selected, stands_for}

@@ -12,7 +12,7 @@ ghost use Rattle.history_machine.specs.Sessions.{
   stands_for,
   with_live_names,
 };
-ghost use Rattle.path_expunge.specs.Matching.{matched_by};
+ghost use Rattle.expunge_laws.specs.Matching.{matched_by};
 ghost use Rattle.plain_model.specs.Faults.{Returns};
 ghost use Rattle.plain_model.specs.Lookups.{next_number};
 ghost use Rattle.plain_model.specs.Soundness.{IsSound};

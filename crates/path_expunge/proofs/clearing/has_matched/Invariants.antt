@@ -1,6 +1,6 @@
 use Rattle.std.proofs.Common.{◌≡◌, drop}
 use Rattle.expunge_laws.specs.Replaced.{has_matched}
-use Rattle.path_expunge.specs.Matching.{matched_by}
+use Rattle.expunge_laws.specs.Matching.{matched_by}
 use Rattle.path_expunge.proofs.clearing.has_matched.Given as goal
 
 abbrev pub invariant-loop-entry : goal.invariant-loop-entry

@@ -1,7 +1,7 @@
 use Rattle.std.proofs.Common.{◌≡◌, drop}
 use Rattle.std.specs.List.{list_any}
 use Rattle.expunge_laws.specs.Untouched.{may_touch}
-use Rattle.path_expunge.specs.Matching.{matched_by}
+use Rattle.expunge_laws.specs.Matching.{matched_by}
 use Rattle.path_expunge.proofs.commits.may_any_touch.Given as goal
 
 abbrev pub invariant-loop-op : goal.invariant-loop-op

@@ -11,7 +11,7 @@ use Rattle.event_arena.specs.Changes.{with_ops}
 use Rattle.expunge_laws.specs.Expunged.{replaced_event}
 use Rattle.expunge_laws.specs.Replaced.{replaced_all}
 use Rattle.expunge_laws.specs.Untouched.{may_touch}
-use Rattle.path_expunge.specs.Matching.{Matches, matched_by}
+use Rattle.expunge_laws.specs.Matching.{Matches, matched_by}
 use Rattle.path_expunge.proofs.Nodes.{begins_with, begun_tree, has_tree_from, no_commit, parents_known, stays_by_name}
 use Rattle.plan_steps.proofs.Steps.{alike_of, kept_of, on_ok}
 use Rattle.path_expunge.proofs.commits.replace_at.Goals as goal

@@ -5,7 +5,7 @@ use Rattle.event_arena.specs.Changes.{changed}
 use Rattle.event_arena.specs.Graphs.{Change}
 use Rattle.event_arena.proofs.SoundLemmas.{sound-once}
 use Rattle.expunge_laws.specs.Expunged.{replaced_event}
-use Rattle.path_expunge.specs.Matching.{Matches, matched_by}
+use Rattle.expunge_laws.specs.Matching.{Matches, matched_by}
 use Rattle.path_expunge.proofs.Nodes.{replaced_id}
 use Rattle.plan_steps.proofs.Steps.{step_changed, step_found}
 use Rattle.path_expunge.proofs.commits.replace_ops.Goals as goal

@@ -1,7 +1,7 @@
 use Rattle.std.proofs.Common.{◌≡◌}
 use Rattle.expunge_laws.specs.Expunged.{replaced_event}
 use Rattle.manifest_cache.specs.Kept.{AgreesWith}
-use Rattle.path_expunge.specs.Matching.{matched_by}
+use Rattle.expunge_laws.specs.Matching.{matched_by}
 use Rattle.plan_steps.proofs.Steps.{so_far}
 use Rattle.path_expunge.proofs.commits.replace_ops.Given as goal
 

@@ -2,7 +2,7 @@ use Rattle.std.proofs.Common.{◌∙◌, Ok, Err, ap, sym}
 use Rattle.std.specs.Prelude.{Option, Some, None}
 use Rattle.plain_model.specs.declared.fault.Fault.{Fault}
 use Rattle.expunge_laws.specs.PushForward.{unless_limit}
-use Rattle.path_expunge.specs.Matching.{matched_by}
+use Rattle.expunge_laws.specs.Matching.{matched_by}
 use Rattle.path_expunge.proofs.expunging.expunge.Goals as goal
 
 pub returns-clause-sound : goal.returns-clause-sound

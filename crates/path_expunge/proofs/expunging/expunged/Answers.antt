@@ -1,6 +1,6 @@
 use Rattle.std.proofs.Common.{◌≡◌, List, Ok, subst}
 use Rattle.expunge_laws.specs.Expunged.{expunged}
-use Rattle.path_expunge.specs.Matching.{Matches, matched_by}
+use Rattle.expunge_laws.specs.Matching.{Matches, matched_by}
 use Rattle.path_expunge.proofs.expunging.expunged.Goals as goal
 
 pub returns-clause-after : goal.returns-clause-after

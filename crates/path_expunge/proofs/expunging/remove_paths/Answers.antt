@@ -13,7 +13,7 @@ use Rattle.expunge_laws.specs.InLine.{IsInLine}
 use Rattle.expunge_laws.proofs.Changed.{replaced_sound}
 use Rattle.squash_laws.specs.Removed.{all_left}
 use Rattle.path_expunge.specs.Fates.{taken}
-use Rattle.path_expunge.specs.Matching.{matched_by}
+use Rattle.expunge_laws.specs.Matching.{matched_by}
 use Rattle.path_expunge.proofs.Nodes.{no_ids}
 use Rattle.path_expunge.proofs.expunging.remove_paths.Goals as goal
 

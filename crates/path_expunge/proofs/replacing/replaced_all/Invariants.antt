@@ -2,7 +2,7 @@ use Rattle.std.proofs.Common.{◌≡◌, ◌++◌, drop, Some}
 use Rattle.expunge_laws.specs.Replaced.{replaced_all}
 use Rattle.plain_model.specs.Histories.{folded}
 use Rattle.plain_model.specs.Trees.{IsTree}
-use Rattle.path_expunge.specs.Matching.{matched_by}
+use Rattle.expunge_laws.specs.Matching.{matched_by}
 use Rattle.path_expunge.proofs.replacing.replaced_all.Given as goal
 
 abbrev pub invariant-loop-op : goal.invariant-loop-op

@@ -1,7 +1,7 @@
 use Rattle.std.proofs.Common.{◌≡◌, ◌++◌, drop, not, filter}
 use Rattle.expunge_laws.specs.Replaced.{has_entry, puts_of, restricted}
 use Rattle.plain_model.specs.Trees.{at}
-use Rattle.path_expunge.specs.Matching.{matched_by}
+use Rattle.expunge_laws.specs.Matching.{matched_by}
 use Rattle.path_expunge.proofs.rewriting.push_come.Given as goal
 
 abbrev pub invariant-loop-entry : goal.invariant-loop-entry

@@ -2,7 +2,7 @@ use Rattle.std.proofs.Common.{◌∙◌, ◌++◌, List, filter, not, ap, append
 use Rattle.plain_model.specs.declared.operation.FileOp.{FileOp}
 use Rattle.plain_model.specs.Trees.{Tree, at, subtree}
 use Rattle.expunge_laws.specs.Replaced.{deletes_of, has_entry, puts_of, restricted}
-use Rattle.path_expunge.specs.Matching.{Matches, matched_by}
+use Rattle.expunge_laws.specs.Matching.{Matches, matched_by}
 use Rattle.path_expunge.specs.Written.{gone_of}
 use Rattle.plan_steps.proofs.Steps.{on_ok}
 use Rattle.path_expunge.proofs.WrittenLemmas.{written}

@@ -1,6 +1,6 @@
 use Rattle.std.proofs.Common.{◌≤◌, ℕ, List, Result, drop}
 use Rattle.plain_model.specs.declared.fault.Halt.{Halt}
-use Rattle.path_expunge.specs.Matching.{Matches}
+use Rattle.expunge_laws.specs.Matching.{Matches}
 use Rattle.history_machine.specs.PathWords.{matches_of}
 use Rattle.surgeon_session.proofs.PathWords.{AreJudged, after_others}
 use Rattle.surgeon_session.proofs.path_words.matchers_of.Given as goal

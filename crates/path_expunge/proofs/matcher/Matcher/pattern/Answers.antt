@@ -1,7 +1,7 @@
 use Rattle.std.proofs.Common.{Ok}
 use Rattle.byte_patterns.specs.Judging.{pattern_of, plainly}
-use Rattle.path_expunge.specs.Matching.{Matches}
-use Rattle.path_expunge.specs.Matching.Matches.{found}
+use Rattle.expunge_laws.specs.Matching.{Matches}
+use Rattle.expunge_laws.specs.Matching.Matches.{found}
 use Rattle.path_expunge.proofs.Judged.{stopped}
 use Rattle.path_expunge.proofs.matcher.Matcher.pattern.Goals as goal
 

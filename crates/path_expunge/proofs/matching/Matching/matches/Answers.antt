@@ -1,7 +1,7 @@
 use Rattle.std.proofs.Common.{◌≡◌, ◌∙◌, ◌<◌, suc, List, true, false, length, drop, map, sym, ap, arith, add-one}
 use Rattle.std.specs.Prelude.{◌||◌}
 use Rattle.std.proofs.Math.Seq.{map-set_same}
-use Rattle.path_expunge.specs.Matching.{Matches, matched_by, matches}
+use Rattle.expunge_laws.specs.Matching.{Matches, matched_by, matches}
 use Rattle.path_expunge.specs.Tests.{sought}
 use Rattle.path_expunge.proofs.Seeking.{seek}
 use Rattle.path_expunge.proofs.matching.Matching.matches.Goals as goal

@@ -1,5 +1,5 @@
 use Rattle.std.proofs.Common.{◌≡◌, map, drop}
-use Rattle.path_expunge.specs.Matching.{matched_by}
+use Rattle.expunge_laws.specs.Matching.{matched_by}
 use Rattle.path_expunge.specs.Tests.{sought}
 use Rattle.path_expunge.proofs.matching.Matching.matches.Given as goal
 
