@@ -7,6 +7,7 @@ ghost use Rattle.plain_model.specs.declared.id.AnyId.TheVariants as any;
 ghost use Rattle.plain_model.specs.Histories.{nodes};
 ghost use Rattle.plain_model.specs.Lookups.{AreIdsBelow, children_of, find_event, is_listed};
 ghost use Rattle.plain_model.specs.Soundness.{IsSound, has_id};
+ghost use Rattle.edit_laws.specs.Editing.{IsEdit, with_number};
 ghost use Rattle.edit_laws.specs.Passing.{IsWithinLimits};
 ghost use Rattle.coalesce_laws.specs.Coalesce.{coalesce_of, coalesced, is_joined_to, joined_ones};
 ghost use Rattle.coalesce_laws.specs.Remaining.{AddsNothing, HasTheOperationsOf, IsJoinedTo, IsOneOf, KeepsTrees, TakesOver};
@@ -88,4 +89,10 @@ pub fn a_coalescing_keeps_the_limits()
 pub fn a_coalescing_keeps_trees()
     ensures { (seconds : ℕ) (set : List AnyId) (events : List PlainEvent) → IsSound events →
         KeepsTrees events (coalesce_of seconds set events) }
+{}
+
+/// A coalesce is an edit that gives no number and is never refused: of a lawful history it makes a lawful one.
+pub fn a_coalesce_is_an_edit()
+    ensures { (seconds : ℕ) → IsEdit (λ set next events.
+        with_number next (Ok (coalesce_of seconds set events))) }
 {}

@@ -15,7 +15,8 @@ use Rattle.plain_model.proofs.Numbers.{eqb_turned}
 use Rattle.history_laws.proofs.Ids.{has_id-append}
 use Rattle.edit_laws.proofs.Lists.{some_passing}
 use Rattle.edit_laws.proofs.Sound.{in_parts}
-use Rattle.commit_laws.specs.Selected.{are_apart, chosen, listed}
+use Rattle.commit_laws.specs.Selected.{chosen, listed}
+use Rattle.edit_laws.specs.Selecting.{are_apart}
 use Rattle.commit_laws.proofs.Given.{IsHere}
 
 -- ---- in the order of the set

@@ -8,7 +8,8 @@ ghost use Rattle.plain_model.specs.Lookups.{next_mark};
 ghost use Rattle.plain_model.specs.Marks.{IsMark};
 ghost use Rattle.plain_model.specs.Soundness.{IsCommitOf, IsSound, are_distinct};
 ghost use Rattle.plain_model.specs.Streams.{is_marked};
-ghost use Rattle.commit_laws.specs.Selected.{IsSelection, chosen, listed};
+ghost use Rattle.commit_laws.specs.Selected.{chosen, listed};
+ghost use Rattle.edit_laws.specs.Selecting.{IsSelection};
 
 /// Each commit of a sound history is found by its id, with its parents and its operations.
 pub fn a_commit_is_found_as_it_is()

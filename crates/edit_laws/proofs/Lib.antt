@@ -1,6 +1,7 @@
 pub mod Chains
 pub mod Children
 pub mod Circles
+pub mod Edits
 pub mod Following
 pub mod Limits
 pub mod Lists

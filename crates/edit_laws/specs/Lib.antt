@@ -1,8 +1,10 @@
 pub mod Blobs
+pub mod Editing
 pub mod Equations
 pub mod Examples
 pub mod Parts
 pub mod Passing
 pub mod Removal
+pub mod Selecting
 pub mod Settling
 pub mod Sweeping

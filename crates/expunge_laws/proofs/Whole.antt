@@ -159,6 +159,9 @@ module _ (matched : Bytes → Bool) (events : List PlainEvent) where
       is : expunged matched events ≡ Ok new
       is = (pushed_done events set changed false lean.Forward sound events new d).0
 
+      pub expunge_below : (next : ℕ) → AreIdsBelow next events → AreIdsBelow next new
+      expunge_below next below = new_below new next is below
+
       pub expunge_limits : IsWithinLimits new
       expunge_limits = (limits_hold new).0 (pushed_done events set changed false lean.Forward sound events new d).1
 

@@ -35,6 +35,7 @@ ghost use Rattle.plain_model.specs.Soundness.{IsCommitOf, IsSound, has_id};
 ghost use Rattle.plain_model.specs.Streams.{is_marked};
 ghost use Rattle.plain_model.specs.Trees.{Tree, at};
 ghost use Rattle.history_laws.specs.FirstParents.{ops_along};
+ghost use Rattle.edit_laws.specs.Editing.{IsEdit, with_number};
 ghost use Rattle.edit_laws.specs.Passing.{IsWithinLimits};
 ghost use Rattle.edit_laws.specs.Sweeping.{is_named, swept};
 ghost use Rattle.squash_laws.specs.Squash.{back_of};
@@ -173,4 +174,10 @@ pub fn emptied_commits_give_way_in_line()
 pub fn an_expunge_again_changes_nothing()
     ensures { (matched : Bytes → Bool) (events new : List PlainEvent) → IsSound events →
         expunge_of matched events ≡ Ok new → expunge_of matched new ≡ Ok new }
+{}
+
+/// An expunge is an edit that gives no number and looks at no selection: of a lawful history it makes a lawful one.
+pub fn an_expunge_is_an_edit()
+    ensures { (matched : Bytes → Bool) → IsEdit (λ set next events.
+        with_number next (expunge_of matched events)) }
 {}

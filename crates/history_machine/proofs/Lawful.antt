@@ -20,7 +20,8 @@ use Rattle.edit_laws.specs.Passing.{IsWithinLimits}
 use Rattle.edit_laws.proofs.Sound.{in_parts}
 use Rattle.event_arena.proofs.MeasureLemmas.{below-at, below-next}
 use Rattle.event_arena.proofs.SoundLemmas.{has_id-find}
-use Rattle.commit_laws.specs.Selected.{IsSelection, node_of, the_commit}
+use Rattle.commit_laws.specs.Selected.{node_of, the_commit}
+use Rattle.edit_laws.specs.Selecting.{IsSelection}
 use Rattle.split_laws.specs.Split.{first_touch, split_at_of, split_by_of, split_from}
 use Rattle.reorder_laws.specs.Reorder.{reorder_of}
 use Rattle.coalesce_laws.specs.Coalesce.{coalesce_of}

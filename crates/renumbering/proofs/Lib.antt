@@ -1,3 +1,4 @@
+mod Edits
 pub mod Few
 pub mod Kept
 pub mod Marks

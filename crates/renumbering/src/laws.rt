@@ -1,11 +1,12 @@
 //! Laws of renumbering. Each function's contract is one, and its body is empty.
-ghost use Rattle.std.specs.Prelude.{◌≡◌, ℕ, List, length, map};
+ghost use Rattle.std.specs.Prelude.{◌≡◌, ℕ, List, Ok, length, map};
 ghost use Rattle.std.specs.List.{enumerate_from};
 ghost use Rattle.plain_model.specs.declared.event.PlainEvent.{PlainEvent};
 ghost use Rattle.plain_model.specs.Histories.{tree};
 ghost use Rattle.plain_model.specs.Lookups.{id_of, marks_of};
 ghost use Rattle.plain_model.specs.Snapshots.{refs, shown_tree};
 ghost use Rattle.plain_model.specs.Soundness.{IsSound};
+ghost use Rattle.edit_laws.specs.Editing.{IsEdit, with_number};
 ghost use Rattle.renumbering.specs.Renumbered.{all_marked, renumbered};
 
 /// All marks, in the order of the list, are 1, 2, 3, ..: a blob's, a commit's and then its aliases, a tag's.
@@ -47,4 +48,10 @@ pub fn renumbering_keeps_soundness()
 pub fn numbered_again()
     ensures { (events : List PlainEvent) →
         renumbered (renumbered events) ≡ renumbered events }
+{}
+
+/// A renumbering is an edit that gives no number, looks at no selection and is never refused: of a lawful history it makes a
+/// lawful one.
+pub fn a_renumbering_is_an_edit()
+    ensures { IsEdit (λ set next events. with_number next (Ok (renumbered events))) }
 {}

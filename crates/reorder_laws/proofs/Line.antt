@@ -19,7 +19,8 @@ use Rattle.plain_model.specs.Soundness.{IsSound, are_distinct, has_id}
 use Rattle.plain_model.proofs.Numbers.{eqb_turned}
 use Rattle.history_laws.proofs.Lists.{all_imply}
 use Rattle.edit_laws.proofs.Lists.{OfNodes}
-use Rattle.commit_laws.specs.Selected.{IsSelection, chosen, event_number, listed, node_of}
+use Rattle.commit_laws.specs.Selected.{chosen, event_number, listed, node_of}
+use Rattle.edit_laws.specs.Selecting.{IsSelection}
 use Rattle.commit_laws.proofs.Given.{IsGiven, IsHere, all_given, parents_here, rank}
 use Rattle.commit_laws.proofs.Selections.{any_chosen, chosen_distinct, in_both, in_set, listed_here}
 use Rattle.reorder_laws.specs.Reorder.{instead, is_only, last_of, line_fault, lined_up}

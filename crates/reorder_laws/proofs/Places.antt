@@ -13,7 +13,8 @@ use Rattle.edit_laws.specs.Parts.{of_id, one_if, tally}
 use Rattle.history_laws.proofs.Ids.{has_id-append, has_id-cons}
 use Rattle.history_laws.proofs.Lists.{all_join}
 use Rattle.edit_laws.proofs.Lists.{none_passing, own_id, some_passing, tally_append}
-use Rattle.commit_laws.specs.Selected.{are_apart, chosen}
+use Rattle.commit_laws.specs.Selected.{chosen}
+use Rattle.edit_laws.specs.Selecting.{are_apart}
 use Rattle.commit_laws.proofs.Given.{IsHere}
 use Rattle.commit_laws.proofs.Selections.{any_chosen, chosen_distinct}
 use Rattle.reorder_laws.specs.Reorder.{filled, is_placed}

@@ -29,7 +29,8 @@ use Rattle.edit_laws.proofs.Sound.{in_parts}
 use Rattle.edit_laws.proofs.Trees.{linked_in_order, trees_fit}
 use Rattle.manifest_cache.specs.Checking.{tree_check}
 use Rattle.commit_laws.specs.Remaining.{HasOperationsOf}
-use Rattle.commit_laws.specs.Selected.{IsSelection, chosen, kind_fault, listed, node_of}
+use Rattle.commit_laws.specs.Selected.{chosen, kind_fault, listed, node_of}
+use Rattle.edit_laws.specs.Selecting.{IsSelection}
 use Rattle.reorder_laws.specs.Reorder.{last_of, line_fault, lined_up, relinked, reorder_of, reorder_these, reordered, unless_refused}
 use Rattle.reorder_laws.proofs.Reordered.{left, left_few, left_ids, left_ops, left_settles, left_sums}
 

@@ -20,7 +20,8 @@ use Rattle.history_laws.proofs.Lists.{all_imply, all_join}
 use Rattle.edit_laws.proofs.Lists.{OfNodes, all_rear, all_true, events_of_nodes, none_passing, own_id, some_passing, true_all}
 use Rattle.edit_laws.proofs.Sound.{in_parts}
 use Rattle.commit_laws.specs.Remaining.{HasOperationsOf}
-use Rattle.commit_laws.specs.Selected.{IsSelection, chosen, listed, node_of}
+use Rattle.commit_laws.specs.Selected.{chosen, listed, node_of}
+use Rattle.edit_laws.specs.Selecting.{IsSelection}
 use Rattle.commit_laws.proofs.Given.{IsGiven, IsHere, There, all_given, here_parents, parents_here, rank}
 use Rattle.commit_laws.proofs.Selections.{chosen_here}
 use Rattle.reorder_laws.specs.Reorder.{filled, instead, last_of, line_fault, lined_up, parents_after, relinked, relinked_all}

@@ -10,9 +10,11 @@ ghost use Rattle.plain_model.specs.Soundness.{IsSound, has_id};
 ghost use Rattle.plain_model.specs.Streams.{is_marked};
 ghost use Rattle.history_laws.specs.FirstParents.{ops_along};
 ghost use Rattle.edit_laws.specs.Equations.{Fits};
+ghost use Rattle.edit_laws.specs.Editing.{IsEdit, with_number};
 ghost use Rattle.edit_laws.specs.Passing.{IsWithinLimits};
 ghost use Rattle.commit_laws.specs.Remaining.{HasOperationsOf};
-ghost use Rattle.commit_laws.specs.Selected.{IsSelection, chosen, listed};
+ghost use Rattle.commit_laws.specs.Selected.{chosen, listed};
+ghost use Rattle.edit_laws.specs.Selecting.{IsSelection};
 ghost use Rattle.reorder_laws.specs.Reorder.{line_fault, reorder_of, reordered};
 
 use manifest_cache::the_check_finds_what_has_no_tree;
@@ -66,6 +68,13 @@ pub fn a_reorder_replays_operations()
     ensures trees { (set : List AnyId) (events new : List PlainEvent) → IsSound events →
         IsSelection events set → reorder_of set events ≡ Ok new →
         AllByRecursion (Fits (tree new)) (nodes new) }
+{
+    the_check_finds_what_has_no_tree();
+}
+
+/// A reorder is an edit that gives no number: of a lawful history it makes a lawful one.
+pub fn a_reorder_is_an_edit()
+    ensures { IsEdit (λ set next events. with_number next (reorder_of set events)) }
 {
     the_check_finds_what_has_no_tree();
 }

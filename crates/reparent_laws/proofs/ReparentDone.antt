@@ -23,7 +23,8 @@ use Rattle.edit_laws.proofs.Shown.{shown_alike}
 use Rattle.edit_laws.proofs.Sound.{in_parts}
 use Rattle.edit_laws.proofs.Trees.{trees_fit}
 use Rattle.commit_laws.specs.Remaining.{HasOperationsOf}
-use Rattle.commit_laws.specs.Selected.{IsSelection, kind_fault}
+use Rattle.commit_laws.specs.Selected.{kind_fault}
+use Rattle.edit_laws.specs.Selecting.{IsSelection}
 use Rattle.commit_laws.proofs.Given.{IsHere}
 use Rattle.commit_laws.proofs.Rewritten.{ops_all}
 use Rattle.commit_laws.proofs.Selections.{chosen_distinct, chosen_here, listed_distinct, listed_here}

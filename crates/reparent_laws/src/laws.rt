@@ -37,12 +37,14 @@ ghost use Rattle.plain_model.specs.Soundness.{IsCommitOf, IsSound, are_distinct,
 ghost use Rattle.plain_model.specs.Trees.{IsTree, Tree, apply_all};
 ghost use Rattle.ancestry_laws.specs.Ancestry.{IsPathOfParents};
 ghost use Rattle.edit_laws.specs.Equations.{Fits};
+ghost use Rattle.edit_laws.specs.Editing.{IsEdit, with_number};
 ghost use Rattle.edit_laws.specs.Passing.{IsWithinLimits};
 ghost use Rattle.edit_laws.specs.Settling.{settle};
 ghost use Rattle.edit_laws.specs.Sweeping.{is_named};
 ghost use Rattle.commit_laws.specs.Remaining.{HasOperationsOf};
 ghost use Rattle.commit_laws.specs.Rewriting.{rewritten_all};
-ghost use Rattle.commit_laws.specs.Selected.{IsSelection, event_number, listed, node_of};
+ghost use Rattle.commit_laws.specs.Selected.{event_number, listed, node_of};
+ghost use Rattle.edit_laws.specs.Selecting.{IsSelection};
 ghost use Rattle.reparent_laws.specs.declared.removal.Removal.{Removal};
 ghost use Rattle.reparent_laws.specs.Merge.{merge_of, merges, unmerge_of, unmerges};
 ghost use Rattle.reparent_laws.specs.Operations.{add_of, adds, op_of, remove_of, removes};
@@ -241,6 +243,20 @@ pub fn other_operations_are_replayed()
     ensures left_trees { (what : Removal) (set : List AnyId) (events new : List PlainEvent) →
         IsSound events → remove_of what set events ≡ Ok new →
         AllByRecursion (Fits (tree new)) (nodes new) }
+{
+    the_check_finds_what_has_no_tree();
+}
+
+/// Each change of one commit is an edit that gives no number: of a lawful history it makes a lawful one.
+pub fn a_change_is_an_edit()
+    ensures reparent { (use_order rebase : Bool) → IsEdit (λ set next events.
+        with_number next (reparent_of use_order rebase set events)) }
+    ensures merge { IsEdit (λ set next events. with_number next (merge_of set events)) }
+    ensures unmerge { IsEdit (λ set next events. with_number next (unmerge_of set events)) }
+    ensures add { (spelled : RawOp) → HasItsContent spelled → OpFits spelled →
+        IsEdit (λ set next events. with_number next (add_of spelled set events)) }
+    ensures remove { (what : Removal) → IsEdit (λ set next events.
+        with_number next (remove_of what set events)) }
 {
     the_check_finds_what_has_no_tree();
 }

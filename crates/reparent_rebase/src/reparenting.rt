@@ -3,7 +3,7 @@ ghost use Rattle.std.specs.Prelude.{◌≡◌, length, IfOk, IsSome, IsTrue};
 ghost use Rattle.std.specs.List.{AllByRecursion};
 ghost use Rattle.ancestry_laws.specs.Ancestry.{descendants_of, descends};
 ghost use Rattle.commit_laws.specs.Rewriting.{rewritten_all};
-ghost use Rattle.commit_laws.specs.Selected.{IsSelection};
+ghost use Rattle.edit_laws.specs.Selecting.{IsSelection};
 ghost use Rattle.graph_walk.specs.Flags.{FlagsOf};
 ghost use Rattle.manifest_cache.specs.Kept.{AgreesWith};
 ghost use Rattle.plain_model.specs.Faults.{Returns};

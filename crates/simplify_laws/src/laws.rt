@@ -14,6 +14,7 @@ ghost use Rattle.plain_model.specs.Histories.{nodes};
 ghost use Rattle.plain_model.specs.Lookups.{AreIdsBelow};
 ghost use Rattle.plain_model.specs.Soundness.{IsSound, has_id};
 ghost use Rattle.plain_model.specs.Trees.{IsTree, Tree, apply_all};
+ghost use Rattle.edit_laws.specs.Editing.{IsEdit, with_number};
 ghost use Rattle.edit_laws.specs.Passing.{IsWithinLimits};
 ghost use Rattle.edit_laws.specs.Sweeping.{is_named};
 ghost use Rattle.simplify_laws.specs.Remaining.{
@@ -111,6 +112,13 @@ pub fn simplifying_again_changes_nothing()
     ensures again { (set : List AnyId) (events new : List PlainEvent) →
         simplify_of set events ≡ Ok new → simplify_of set new ≡ Ok new }
     ensures none { (events : List PlainEvent) → IsSound events → simplify_of [] events ≡ Ok events }
+{
+    the_check_finds_what_has_no_tree();
+}
+
+/// A simplify is an edit that gives no number: of a lawful history it makes a lawful one.
+pub fn a_simplify_is_an_edit()
+    ensures { IsEdit (λ set next events. with_number next (simplify_of set events)) }
 {
     the_check_finds_what_has_no_tree();
 }

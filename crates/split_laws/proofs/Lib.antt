@@ -1,3 +1,4 @@
+mod Edits
 pub mod Halves
 pub mod NewIds
 pub mod SplitDone

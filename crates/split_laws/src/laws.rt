@@ -7,6 +7,7 @@ ghost use Rattle.plain_model.specs.declared.id.AnyId.{AnyId};
 ghost use Rattle.plain_model.specs.Lookups.{AreIdsBelow};
 ghost use Rattle.plain_model.specs.Paths.{Bytes};
 ghost use Rattle.plain_model.specs.Soundness.{IsCommitOf, IsSound, has_id};
+ghost use Rattle.edit_laws.specs.Editing.{IsEdit, with_number};
 ghost use Rattle.edit_laws.specs.Passing.{IsWithinLimits};
 ghost use Rattle.split_laws.specs.Split.{split_at_of, split_by_of};
 ghost use Rattle.split_laws.specs.SplitTrees.{KeepsTrees};
@@ -47,4 +48,12 @@ pub fn a_split_adds_one_id()
     ensures by { (copy : ℕ) (path : Bytes) (set : List AnyId) (events new : List PlainEvent) →
         split_by_of copy path set events ≡ Ok new → AreIdsBelow copy events →
         AreIdsBelow (copy + 1) new }
+{}
+
+/// A split is an edit that gives one number: of a lawful history it makes a lawful one.
+pub fn a_split_is_an_edit()
+    ensures at { (number : ℕ) → IsEdit (λ set next events.
+        with_number (next + 1) (split_at_of next number set events)) }
+    ensures by { (path : Bytes) → IsEdit (λ set next events.
+        with_number (next + 1) (split_by_of next path set events)) }
 {}

@@ -32,7 +32,8 @@ use Rattle.edit_laws.proofs.Settles.{any_event, settled_in_order, settled_once, 
 use Rattle.edit_laws.proofs.Trees.{linked_in_order}
 use Rattle.graph_walk.specs.Outcome.{IsCauseOf}
 use Rattle.manifest_cache.specs.Checking.{tree_check}
-use Rattle.commit_laws.specs.Selected.{IsSelection, chosen, kind_fault, listed, node_of}
+use Rattle.commit_laws.specs.Selected.{chosen, kind_fault, listed, node_of}
+use Rattle.edit_laws.specs.Selecting.{IsSelection}
 use Rattle.commit_laws.proofs.Selections.{chosen_here}
 use Rattle.reorder_laws.specs.Reorder.{filled, is_placed, last_of, line_fault, lined_up, relinked, relinked_all, reorder_of, reorder_these, reordered, unless_refused}
 use Rattle.reorder_laws.proofs.Reordered.{left_settles, left_sums}

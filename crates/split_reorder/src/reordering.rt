@@ -1,6 +1,7 @@
 //! The plan of a reorder.
 ghost use Rattle.std.specs.Prelude.{◌≡◌, ◌∷◌, None, IfOk, OnOk};
-ghost use Rattle.commit_laws.specs.Selected.{IsSelection, chosen, listed};
+ghost use Rattle.commit_laws.specs.Selected.{chosen, listed};
+ghost use Rattle.edit_laws.specs.Selecting.{IsSelection};
 ghost use Rattle.manifest_cache.specs.Kept.{AgreesWith};
 ghost use Rattle.plain_model.specs.Faults.{Returns};
 ghost use Rattle.plain_model.specs.Soundness.{IsSound};

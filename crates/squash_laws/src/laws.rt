@@ -11,6 +11,7 @@ ghost use Rattle.plain_model.specs.Snapshots.{shown_tree};
 ghost use Rattle.plain_model.specs.Soundness.{IsCommitOf, IsSound, has_id};
 ghost use Rattle.plain_model.specs.Streams.{is_marked};
 ghost use Rattle.edit_laws.specs.Equations.{Fits};
+ghost use Rattle.edit_laws.specs.Editing.{IsEdit, with_number};
 ghost use Rattle.edit_laws.specs.Passing.{IsWithinLimits};
 ghost use Rattle.squash_laws.specs.declared.policy.Lean.{Lean};
 ghost use Rattle.squash_laws.specs.declared.policy.Policy.{Policy};
@@ -107,6 +108,14 @@ pub fn a_deletion_replays_what_remains()
         (new : List PlainEvent) → IsSound events →
         squash_of (record { push = push.Discard; tags = tags }) set events ≡ Ok new →
         AllByRecursion (Fits (tree new)) (nodes new) }
+{
+    the_check_finds_what_has_no_tree();
+}
+
+/// A squash is an edit that gives no number: of a lawful history it makes a lawful one.
+pub fn a_squash_is_an_edit()
+    ensures { (how : Policy) → IsEdit (λ set next events.
+        with_number next (squash_of how set events)) }
 {
     the_check_finds_what_has_no_tree();
 }
