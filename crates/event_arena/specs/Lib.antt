@@ -8,6 +8,7 @@ pub mod LinkPlaces
 pub mod Needs
 pub mod Numbers
 pub mod Once
+pub mod Plans
 pub mod Pointers
 pub mod Rows
 pub mod Spent

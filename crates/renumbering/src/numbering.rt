@@ -2,6 +2,7 @@
 ghost use Rattle.std.specs.Prelude.{◌≡◌, ◌≤◌, ◌+◌, Some, length, IfOk, IfSome, IsSome, IsTrue, OnOk};
 ghost use Rattle.std.specs.Bool.{OnTrue};
 ghost use Rattle.event_arena.specs.Changes.{changed, has_mark, with_aliases, with_mark};
+ghost use Rattle.event_arena.specs.Plans.{IsPlanOf};
 ghost use Rattle.plain_model.specs.Lookups.{event_marks, find_event, id_of};
 ghost use Rattle.plain_model.specs.Marks.{IsMark};
 ghost use Rattle.plain_model.specs.Soundness.{IsSound};
@@ -139,11 +140,8 @@ fn give_all(alloc: Global, events: &Events, plan: &mut Plan) -> Result<(), NoMem
 /// then its aliases, to a tag its mark where it has one. There are always enough, since marks occur once. An event
 /// whose marks are right already isn't copied.
 pub fn renumber(alloc: Global, events: &Events) -> Result<Plan, NoMemory>
-    ensures before { IfOk result (λ plan. plan.before ≡ events.now.list) }
+    ensures plan { IfOk result (IsPlanOf events.now events.now.next_id) }
     ensures after { IfOk result (λ plan. plan.after ≡ renumbered events.now.list) }
-    ensures made_at { IfOk result (λ plan. plan.made_at ≡ events.now.next_id) }
-    ensures next { IfOk result (λ plan. plan.next ≡ events.now.next_id) }
-    ensures sound { IfOk result (λ plan. IsSound plan.after) }
 {
     let mut plan = Plan::new(alloc, events)?;
     give_all(alloc, events, &mut plan)?;

@@ -13,9 +13,8 @@ ghost use Rattle.std.specs.Prelude.{
   OnOk,
 };
 ghost use Rattle.commit_laws.specs.Selected.{node_of};
-ghost use Rattle.plain_model.specs.Faults.{Returns};
+ghost use Rattle.event_arena.specs.Plans.{Plans};
 ghost use Rattle.plain_model.specs.Lookups.{find_event};
-ghost use Rattle.plain_model.specs.Soundness.{IsSound};
 ghost use Rattle.plain_model.specs.declared.id.AnyId.TheVariants.{Commit};
 ghost use Rattle.split_laws.specs.Split.{split_at_of, split_by_of, split_from, split_list};
 ghost use Rattle.split_reorder.specs.Copies.{put_onto};
@@ -111,12 +110,8 @@ fn halved(
 // The plan of a commit that is split before the operation of a number.
 fn split_from(alloc: Global, events: &Events, commit: CommitId, number: u64) -> Result<Plan, Halt>
     requires { events.now.next_id < 2 ^ 63 }
-    ensures answer { Returns (λ plan. plan.after) result
+    ensures { Plans events.now (events.now.next_id + 1) result
         (split_from events.now.next_id commit number events.now.list) }
-    ensures before { IfOk result (λ plan. plan.before ≡ events.now.list) }
-    ensures made_at { IfOk result (λ plan. plan.made_at ≡ events.now.next_id) }
-    ensures next { IfOk result (λ plan. plan.next ≡ events.now.next_id + 1) }
-    ensures sound { IfOk result (λ plan. IsSound plan.after) }
 {
     let _count = events.count();
     let _next = events.next_id();
@@ -140,12 +135,8 @@ fn split_from(alloc: Global, events: &Events, commit: CommitId, number: u64) -> 
 /// manual, `split`.)
 pub fn split_at(alloc: Global, events: &Events, set: &[AnyId], index: u64) -> Result<Plan, Halt>
     requires { events.now.next_id < 2 ^ 63 }
-    ensures answer { Returns (λ plan. plan.after) result
+    ensures { Plans events.now (events.now.next_id + 1) result
         (split_at_of events.now.next_id index set.now events.now.list) }
-    ensures before { IfOk result (λ plan. plan.before ≡ events.now.list) }
-    ensures made_at { IfOk result (λ plan. plan.made_at ≡ events.now.next_id) }
-    ensures next { IfOk result (λ plan. plan.next ≡ events.now.next_id + 1) }
-    ensures sound { IfOk result (λ plan. IsSound plan.after) }
 {
     match the_commit(events, set) {
         Ok(commit) => split_from(alloc, events, commit, index),
@@ -157,12 +148,8 @@ pub fn split_at(alloc: Global, events: &Events, set: &[AnyId], index: u64) -> Re
 /// above it. Where none does, it is refused after faults of the set. (reposurgeon manual, `split`.)
 pub fn split_by(alloc: Global, events: &Events, set: &[AnyId], path: &Path) -> Result<Plan, Halt>
     requires { events.now.next_id < 2 ^ 63 }
-    ensures answer { Returns (λ plan. plan.after) result
+    ensures { Plans events.now (events.now.next_id + 1) result
         (split_by_of events.now.next_id path.now set.now events.now.list) }
-    ensures before { IfOk result (λ plan. plan.before ≡ events.now.list) }
-    ensures made_at { IfOk result (λ plan. plan.made_at ≡ events.now.next_id) }
-    ensures next { IfOk result (λ plan. plan.next ≡ events.now.next_id + 1) }
-    ensures sound { IfOk result (λ plan. IsSound plan.after) }
 {
     let commit = match the_commit(events, set) {
         Ok(commit) => commit,

@@ -15,15 +15,24 @@ halved-requires-clause-there c =
     let high = subst (λ (ops : List FileOp). c.args.number ≤ length ops) c.ops_of.ensures.node c.if-ops_of-number.false in
     there_with_ops c.args.events.now.list c.args.commit (omega arith)
 
-pub returns-clause-sound : goal.returns-clause-sound
-returns-clause-sound c =
+pub returns : goal.returns
+returns c =
     let events = c.args.events.now.list in
     let copy = c.args.events.now.next_id in
+    let plan = c.in_ok-plan.plan in
+    let given = c.in_ok-plan.ensures in
     let low = c.if-number-lt2.false in
     let high = subst (λ (ops : List FileOp). c.args.number ≤ length ops) c.ops_of.ensures.node c.if-ops_of-number.false in
     let there = there_with_ops events c.args.commit (omega arith) in
     let fresh = ap is_some (never_given copy events c.next_id-next.ensures.spent) in
-    let within = ap limit_fault (sym c.in_ok-plan.ensures.after) ∙ sym c.limit_passed.ensures ∙ c.in_default-limit_passed.is in
-    c.a_split_keeps_soundness.ensures.at copy c.args.number c.args.commit events c.in_ok-plan.plan.after c.count-count.ensures.sound
-    (has_id-find events (any.Commit c.args.commit) ∙ there) (has_id-find events (any.Commit copy) ∙ fresh)
-    (split_done copy c.args.commit c.args.number c.in-Some.mark events c.in_ok-plan.plan.after low high (sym c.fresh_mark.ensures ∙ c.in-Some.is) c.in_ok-plan.ensures.after within)
+    let within = ap limit_fault (sym given.after) ∙ sym c.limit_passed.ensures ∙ c.in_default-limit_passed.is in
+    let done = split_done copy c.args.commit c.args.number c.in-Some.mark events plan.after low high (sym c.fresh_mark.ensures ∙ c.in-Some.is) given.after within in (
+      done,
+      record {
+        before = given.before;
+        made_at = given.made_at;
+        next = given.next;
+        sound = c.a_split_keeps_soundness.ensures.at copy c.args.number c.args.commit events plan.after c.count-count.ensures.sound
+            (has_id-find events (any.Commit c.args.commit) ∙ there) (has_id-find events (any.Commit copy) ∙ fresh) done;
+      },
+    )
