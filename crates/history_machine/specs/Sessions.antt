@@ -10,6 +10,7 @@ use Rattle.plain_model.specs.declared.limit.TheConstants.{MAX_REPOSITORIES}
 use Rattle.plain_model.specs.declared.fault.Fault.{Fault}
 use Rattle.plain_model.specs.declared.fault.Fault.TheVariants as fault
 use Rattle.byte_patterns.specs.Judging.{Denial, Judged, ◌>>>◌, plainly, under}
+use Rattle.edit_laws.specs.Editing.{Remade, with_number}
 use Rattle.event_sets.specs.Sets.{Ids}
 use Rattle.expunge_laws.specs.Expunged.{expunge_of}
 use Rattle.listing.specs.Listings.{list_text, index_text, names_text}
@@ -222,50 +223,36 @@ after_assign s ids name =
     chosen s >>= λ repo. unassigned name (assigned name repo.names) >>= λ free.
     Ok (record s { repos = with_repo (record repo { names = repo.names ++ (free, ids) ∷ [] }) s.repos })
 
--- with another history
-abbrev pub with_history : Repo → Result (List PlainEvent) Fault → Result Repo Fault
-with_history repo made = made >>= λ after. Ok (record repo { history = after })
+-- what an edit of some events makes of a history, with the number of its next new event
+abbrev pub remade : Edit → Ids → ℕ → List PlainEvent → Result Remade Fault
+remade (edit.Squash how) ids next events = with_number next (squash_of how ids events)
+remade (edit.SplitAt number) ids next events = with_number (next + 1) (split_at_of next number ids events)
+remade (edit.SplitBy text) ids next events = said_path text >>= λ path. with_number (next + 1) (split_by_of next path ids events)
+remade edit.Reorder ids next events = with_number next (reorder_of ids events)
+remade (edit.Reparent how) ids next events = with_number next (reparent_of how.use_order how.rebase ids events)
+remade edit.Merge ids next events = with_number next (merge_of ids events)
+remade edit.Unmerge ids next events = with_number next (unmerge_of ids events)
+remade (edit.Add op) ids next events = with_number next (add_of op ids events)
+remade (edit.RemoveAt number) ids next events = with_number next (remove_of (Index number) ids events)
+remade (edit.Coalesce seconds) ids next events = with_number next (Ok (coalesce_of seconds ids events))
+remade edit.Simplify ids next events = with_number next (simplify_of ids events)
+remade (edit.RemoveBy text) ids next events = said_path text >>= λ path. with_number next (remove_of (At path) ids events)
 
--- with a history that has an event of the next number
-abbrev pub with_one_more : Repo → Result (List PlainEvent) Fault → Result Repo Fault
-with_one_more repo made = made >>= λ after. Ok (record repo { history = after; next = repo.next + 1 })
+-- what an expunge makes of it
+abbrev pub without_paths : List Matches → ℕ → List PlainEvent → Result Remade Fault
+without_paths matchers next events = with_number next (expunge_of (matched_by matchers) events)
 
--- a repository with what an edit of some events makes of its history
-abbrev pub remade : Edit → Ids → Repo → Result Repo Fault
-remade (edit.Squash how) ids repo = with_history repo (squash_of how ids repo.history)
-remade (edit.SplitAt number) ids repo = with_one_more repo (split_at_of repo.next number ids repo.history)
-remade (edit.SplitBy text) ids repo = said_path text >>= λ path. with_one_more repo (split_by_of repo.next path ids repo.history)
-remade edit.Reorder ids repo = with_history repo (reorder_of ids repo.history)
-remade (edit.Reparent how) ids repo = with_history repo (reparent_of how.use_order how.rebase ids repo.history)
-remade edit.Merge ids repo = with_history repo (merge_of ids repo.history)
-remade edit.Unmerge ids repo = with_history repo (unmerge_of ids repo.history)
-remade (edit.Add op) ids repo = with_history repo (add_of op ids repo.history)
-remade (edit.RemoveAt number) ids repo = with_history repo (remove_of (Index number) ids repo.history)
-remade (edit.Coalesce seconds) ids repo = Ok (record repo { history = coalesce_of seconds ids repo.history })
-remade edit.Simplify ids repo = with_history repo (simplify_of ids repo.history)
-remade (edit.RemoveBy text) ids repo = said_path text >>= λ path. with_history repo (remove_of (At path) ids repo.history)
+-- a repository with what was made of its history; lists under names keep the events that are still there
+abbrev pub with_remade : Repo → Remade → Repo
+with_remade repo made = record repo { history = made.history; next = made.next; names = live_names made.history repo.names }
 
--- lists under names keep the events that are still there
-abbrev pub with_live_names : Repo → Repo
-with_live_names repo = record repo { names = live_names repo.history repo.names }
+-- a repository after an edit
+abbrev pub edited : (ℕ → List PlainEvent → Result Remade Fault) → Repo → Result Repo Fault
+edited edit repo = edit repo.next repo.history >>= λ made. Ok (with_remade repo made)
 
--- a repository after an edit of some of its events
-abbrev pub edited : Edit → Ids → Repo → Result Repo Fault
-edited what ids repo = remade what ids repo >>= λ after. Ok (with_live_names after)
-
--- an edit of the chosen history
-unfoldable pub after_edit : Session → Ids → Edit → Result Session Fault
-after_edit s ids what = chosen s >>= λ repo. edited what ids repo >>= λ new. Ok (record s { repos = with_repo new s.repos })
-
--- a repository without the matched paths
-abbrev pub expunged : List Matches → Repo → Result Repo Fault
-expunged matchers repo =
-    with_history repo (expunge_of (matched_by matchers) repo.history) >>= λ after. Ok (with_live_names after)
-
--- `expunge WORD [WORD ..]`: the matched paths are in no tree of the chosen history
-unfoldable pub after_expunge : Session → List Matches → Result Session Fault
-after_expunge s matchers =
-    chosen s >>= λ repo. expunged matchers repo >>= λ new. Ok (record s { repos = with_repo new s.repos })
+-- an edit of the chosen repository
+unfoldable pub after_edit : Session → (ℕ → List PlainEvent → Result Remade Fault) → Result Session Fault
+after_edit s edit = chosen s >>= λ repo. edited edit repo >>= λ new. Ok (record s { repos = with_repo new s.repos })
 
 -- the line of a repository, by the name that is chosen
 abbrev pub repo_line : Option Bytes → Bytes → Bytes
@@ -317,8 +304,8 @@ carried s files subject command.DropChosen = changes (after_drop_chosen s)
 carried s files subject command.Renumber = changes (after_renumber s)
 carried s files subject (command.Show selection what to) = reports s to (of_chosen s (shown what subject.ids))
 carried s files subject (command.Assign selection name) = changes (after_assign s subject.ids name)
-carried s files subject (command.Edit selection what) = changes (after_edit s subject.ids what)
-carried s files subject (command.Expunge words) = changes (after_expunge s subject.matchers)
+carried s files subject (command.Edit selection what) = changes (after_edit s (remade what subject.ids))
+carried s files subject (command.Expunge words) = changes (after_edit s (without_paths subject.matchers))
 carried s files subject (command.Sample count start) = changes (after_sample s count start)
 carried s files subject (command.Names to) = reports s to (of_chosen s (λ repo. names_text repo.history))
 carried s files subject (command.Summary to) = reports s to (of_chosen s (λ repo. summary_text repo.name repo.history))

@@ -1,17 +1,23 @@
 //! Laws of the machine. Each function's contract is one; its body is empty, or calls the laws that it rests on.
-ghost use Rattle.std.specs.Prelude.{◌≡◌, ℕ, Bool, false, List, [], None, Ok, Err, Option};
+ghost use Rattle.std.specs.Prelude.{◌≡◌, ℕ, Bool, false, List, [], None, Ok, Err, Option, Result};
 ghost use Rattle.plain_model.specs.declared.event.PlainEvent.{PlainEvent};
 ghost use Rattle.plain_model.specs.declared.fault.Fault.{Fault};
 ghost use Rattle.plain_model.specs.Faults.{refusal};
 ghost use Rattle.plain_model.specs.Files.{Files};
 ghost use Rattle.byte_patterns.specs.Judging.{Denial};
 ghost use Rattle.plain_model.specs.Text.{text};
-ghost use Rattle.script_reader.specs.Added.{IsSpelledCommand};
+ghost use Rattle.edit_laws.specs.Editing.{IsEdit, IsLawfulHistory, Remade};
+ghost use Rattle.event_sets.specs.Once.{AreLive, IsOnce};
+ghost use Rattle.event_sets.specs.Sets.{Ids};
+ghost use Rattle.sample_history.specs.Sample.{sample};
+ghost use Rattle.script_reader.specs.Added.{IsSpelledCommand, IsSpelledEdit};
 ghost use Rattle.script_reader.specs.declared.command.Command.TheVariants as command;
 ghost use Rattle.script_reader.specs.declared.command.Command.{Command};
-ghost use Rattle.script_reader.specs.declared.edit.Edit.TheVariants as Edit;
+ghost use Rattle.script_reader.specs.declared.edit.Edit.TheVariants as edit;
+ghost use Rattle.script_reader.specs.declared.edit.Edit.{Edit};
 ghost use Rattle.script_reader.specs.declared.script.ScriptLine.{ScriptLine};
 ghost use Rattle.squash_laws.specs.declared.policy.Lean.{Lean};
+ghost use Rattle.stream_grammar.specs.Limits.{stream_of};
 ghost use Rattle.squash_laws.specs.declared.policy.Push.TheVariants as push;
 ghost use Rattle.expunge_laws.specs.Matching.{Matches, matched_by};
 ghost use Rattle.history_machine.specs.Kept.{
@@ -21,43 +27,36 @@ ghost use Rattle.history_machine.specs.Kept.{
   KeepsTreesOfRest,
   LosesPaths,
 };
-ghost use Rattle.history_machine.specs.Lawful.{IsLawful, IsLawfulHistory};
+ghost use Rattle.history_machine.specs.Lawful.{IsLawful};
 ghost use Rattle.history_machine.specs.Machine.{Turn, turn_of};
 ghost use Rattle.history_machine.specs.PathWords.{matches_of};
-ghost use Rattle.history_machine.specs.Sessions.{Repo, Session, chosen, line_step, sends, step};
+ghost use Rattle.history_machine.specs.Sessions.{Repo, Session, chosen, line_step, remade, sends, step};
+ghost use Rattle.history_machine.specs.Several.{
+  IsDivision,
+  IsJoining,
+  IsUniting,
+  after_dividing,
+  after_joining,
+  after_uniting,
+};
 
-use coalesce_laws::{
-    a_coalescing_keeps_soundness, a_coalescing_keeps_the_limits, a_coalescing_keeps_trees,
-};
+use coalesce_laws::{a_coalesce_is_an_edit, a_coalescing_keeps_trees};
 use expunge_laws::{
-    an_expunge_adds_nothing, an_expunge_comes_to_its_end, an_expunge_keeps_soundness,
-    an_expunge_keeps_the_limits, an_expunge_restricts_trees,
+    an_expunge_adds_nothing, an_expunge_comes_to_its_end, an_expunge_is_an_edit,
+    an_expunge_restricts_trees,
 };
-use renumbering::{
-    ids_stay, nothing_else_changes, renumbering_keeps_soundness, renumbering_keeps_trees,
-};
-use reorder_laws::{
-    a_reorder_keeps_soundness, a_reorder_keeps_the_ids, a_reorder_keeps_the_limits,
-};
-use reparent_laws::{
-    a_change_keeps_soundness, a_change_keeps_the_ids, a_change_keeps_the_limits,
-    other_parents_keep_trees,
-};
+use renumbering::{a_renumbering_is_an_edit, ids_stay, renumbering_keeps_trees};
+use reorder_laws::a_reorder_is_an_edit;
+use reparent_laws::{a_change_is_an_edit, a_change_keeps_the_ids, other_parents_keep_trees};
 use sample_history::samples_are_lawful;
-use script_reader::an_added_operation_is_spelled;
+use script_reader::a_command_is_spelled;
 use selection_eval::{
     selections_are_live, selections_are_without_repeats, sound_histories_are_such,
 };
-use simplify_laws::{
-    simplifying_keeps_soundness, simplifying_keeps_the_ids, simplifying_keeps_the_limits,
-    simplifying_keeps_trees,
-};
+use simplify_laws::{a_simplify_is_an_edit, simplifying_keeps_the_ids, simplifying_keeps_trees};
 use soundness_laws::{what_is_read_is_sound, what_is_read_passes_no_limit};
-use split_laws::{a_split_adds_one_id, a_split_keeps_soundness, a_split_keeps_the_limits};
-use squash_laws::{
-    a_push_forward_keeps_trees, a_squash_keeps_soundness, a_squash_keeps_the_limits,
-    nothing_is_added,
-};
+use split_laws::a_split_is_an_edit;
+use squash_laws::{a_push_forward_keeps_trees, a_squash_is_an_edit, nothing_is_added};
 
 /// A line that is refused leaves the session and the files as they were, one line is printed, and nothing is run in its place.
 pub fn a_refused_line_changes_nothing()
@@ -95,7 +94,7 @@ pub fn a_renumber_keeps_trees()
 pub fn a_squash_forward_keeps_trees()
     ensures { (denial : Option Denial) (s : Session) (files : Files) (selection : Option (List ℕ))
         (tags : Lean) (t : Turn Session) →
-        step denial s files (command.Edit selection (Edit.Squash (record {
+        step denial s files (command.Edit selection (edit.Squash (record {
           push = push.Forward;
           tags = tags;
         }))) ≡ Ok t → IsLawful s → Each KeepsTreesOfRest s.repos t.session.repos }
@@ -109,17 +108,17 @@ pub fn a_squash_forward_keeps_trees()
 pub fn new_parents_keep_trees()
     ensures reparent { (denial : Option Denial) (s : Session) (files : Files)
         (selection : Option (List ℕ)) (use_order : Bool) (t : Turn Session) →
-        step denial s files (command.Edit selection (Edit.Reparent (record {
+        step denial s files (command.Edit selection (edit.Reparent (record {
           use_order = use_order;
           rebase = false;
         }))) ≡ Ok t → IsLawful s → Each KeepsEveryTree s.repos t.session.repos }
     ensures merge { (denial : Option Denial) (s : Session) (files : Files)
         (selection : Option (List ℕ)) (t : Turn Session) →
-        step denial s files (command.Edit selection Edit.Merge) ≡ Ok t → IsLawful s →
+        step denial s files (command.Edit selection edit.Merge) ≡ Ok t → IsLawful s →
         Each KeepsEveryTree s.repos t.session.repos }
     ensures unmerge { (denial : Option Denial) (s : Session) (files : Files)
         (selection : Option (List ℕ)) (t : Turn Session) →
-        step denial s files (command.Edit selection Edit.Unmerge) ≡ Ok t → IsLawful s →
+        step denial s files (command.Edit selection edit.Unmerge) ≡ Ok t → IsLawful s →
         Each KeepsEveryTree s.repos t.session.repos }
 {
     other_parents_keep_trees();
@@ -133,7 +132,7 @@ pub fn new_parents_keep_trees()
 pub fn a_coalesce_keeps_trees()
     ensures { (denial : Option Denial) (s : Session) (files : Files)
         (selection : Option (List ℕ)) (seconds : ℕ) (t : Turn Session) →
-        step denial s files (command.Edit selection (Edit.Coalesce seconds)) ≡ Ok t →
+        step denial s files (command.Edit selection (edit.Coalesce seconds)) ≡ Ok t →
         IsLawful s → Each KeepsTreesOfRest s.repos t.session.repos }
 {
     a_coalescing_keeps_trees();
@@ -144,7 +143,7 @@ pub fn a_coalesce_keeps_trees()
 pub fn a_simplify_keeps_trees()
     ensures { (denial : Option Denial) (s : Session) (files : Files)
         (selection : Option (List ℕ)) (t : Turn Session) →
-        step denial s files (command.Edit selection Edit.Simplify) ≡ Ok t → IsLawful s →
+        step denial s files (command.Edit selection edit.Simplify) ≡ Ok t → IsLawful s →
         Each KeepsEveryTree s.repos t.session.repos }
 {
     simplifying_keeps_trees();
@@ -165,8 +164,37 @@ pub fn an_expunge_takes_paths_out_of_trees()
     an_expunge_comes_to_its_end();
 }
 
-/// A lawful session, whose histories are sound and within the limits, stays one by every command that is done, if the operation
-/// that it may add is one that a script can spell. So it does by every line.
+/// What is read of a stream is a lawful history.
+pub fn what_is_read_is_lawful()
+    ensures { (bytes : List ℕ) (events : List PlainEvent) → stream_of bytes ≡ Ok events →
+        IsLawfulHistory events }
+{
+    what_is_read_is_sound();
+    what_is_read_passes_no_limit();
+}
+
+/// So is each sample.
+pub fn a_sample_is_lawful()
+    ensures { (count start : ℕ) → IsLawfulHistory (sample count start) }
+{
+    samples_are_lawful();
+}
+
+/// Each edit makes lawful histories of lawful ones, if the operation that it may add is one that a script can spell.
+pub fn every_edit_is_one()
+    ensures { (what : Edit) → IsSpelledEdit what →
+        IsEdit (λ set next events. remade what set next events) }
+{
+    a_squash_is_an_edit();
+    a_split_is_an_edit();
+    a_reorder_is_an_edit();
+    a_change_is_an_edit();
+    a_coalesce_is_an_edit();
+    a_simplify_is_an_edit();
+}
+
+/// A lawful session, whose histories are lawful and whose names are right, stays one by every command that is done, if a script
+/// can spell it. So it does by every line.
 pub fn a_step_keeps_it()
     ensures command { (denial : Option Denial) (s : Session) (files : Files) (what : Command)
         (t : Turn Session) → step denial s files what ≡ Ok t → IsLawful s →
@@ -175,39 +203,33 @@ pub fn a_step_keeps_it()
         (what : ScriptLine) (t : Turn Session) → line_step denial s files depth what ≡ Ok t →
         IsLawful s → IsLawful t.session }
 {
-    what_is_read_is_sound();
-    what_is_read_passes_no_limit();
-    renumbering_keeps_soundness();
-    ids_stay();
-    nothing_else_changes();
+    what_is_read_is_lawful();
+    a_sample_is_lawful();
     selections_are_without_repeats();
     selections_are_live();
     sound_histories_are_such();
-    samples_are_lawful();
-    a_squash_keeps_soundness();
-    a_squash_keeps_the_limits();
-    nothing_is_added();
-    a_split_keeps_soundness();
-    a_split_keeps_the_limits();
-    a_split_adds_one_id();
-    a_reorder_keeps_soundness();
-    a_reorder_keeps_the_limits();
-    a_reorder_keeps_the_ids();
-    a_change_keeps_soundness();
-    a_change_keeps_the_limits();
-    reparent_laws::nothing_is_added();
-    an_added_operation_is_spelled();
-    a_coalescing_keeps_soundness();
-    a_coalescing_keeps_the_limits();
-    coalesce_laws::nothing_is_added();
-    simplifying_keeps_soundness();
-    simplifying_keeps_the_limits();
-    simplify_laws::nothing_is_added();
-    an_expunge_keeps_soundness();
-    an_expunge_keeps_the_limits();
-    an_expunge_adds_nothing();
-    an_expunge_comes_to_its_end();
+    every_edit_is_one();
+    an_expunge_is_an_edit();
+    a_renumbering_is_an_edit();
+    a_command_is_spelled();
 }
+
+/// A command that takes another repository in leaves such a session, where what it makes of the two is an edit; and so do one that
+/// makes one repository of several and one that makes two of one, where what they make is lawful.
+pub fn several_repositories_keep_it()
+    ensures joining { (s after : Session) (name : List ℕ)
+        (edit : Repo → Ids → ℕ → List PlainEvent → Result Remade Fault) (ids : Ids) →
+        IsJoining edit → IsLawful s → IsOnce ids →
+        ((repo : Repo) → chosen s ≡ Ok repo → AreLive repo.history ids) →
+        after_joining s name (λ part. edit part ids) ≡ Ok after → IsLawful after }
+    ensures uniting { (s after : Session) (names : List (List ℕ))
+        (united : List Repo → Result Repo Fault) → IsUniting united → IsLawful s →
+        after_uniting s names united ≡ Ok after → IsLawful after }
+    ensures dividing { (s after : Session)
+        (halves_of : List PlainEvent → Result (List PlainEvent × List PlainEvent) Fault) →
+        IsDivision halves_of → IsLawful s →
+        after_dividing s halves_of ≡ Ok after → IsLawful after }
+{}
 
 /// The chosen history of such a session is sound and within the limits.
 pub fn the_chosen_history_is_lawful()

@@ -136,13 +136,13 @@ edit_fits word None words = go (needs_selection word) (made_fits None (said_of w
 
 -- ---- the other commands
 
-file_fits : (b : Bool) (file name : Bytes) (what : Command) → cond b (Some (command.Read file name)) None ≡ Some what → IsSpelledCommand what
-file_fits true file name what is = let same : command.Read file name ≡ what = cc in subst IsSpelledCommand same tt
-file_fits false file name what is = absurd cc
+file_fits : (b : Bool) (file name : Bytes) (what : Command) → is_repo_name name ≡ b → cond b (Some (command.Read file name)) None ≡ Some what → IsSpelledCommand what
+file_fits true file name what fits is = let same : command.Read file name ≡ what = cc in subst IsSpelledCommand same fits
+file_fits false file name what fits is = absurd cc
 
 read_of_fits : (file : Option Bytes) (what : Command) → read_of file ≡ Some what → IsSpelledCommand what
 read_of_fits None what is = absurd cc
-read_of_fits (Some file) what is = file_fits (is_repo_name (repo_name file)) file (repo_name file) what is
+read_of_fits (Some file) what is = file_fits (is_repo_name (repo_name file)) file (repo_name file) what refl is
 
 read_fits : (words : List Word) → IfAnswered IsSpelledCommand (read_form words)
 unfolding read_form

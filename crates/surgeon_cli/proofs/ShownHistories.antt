@@ -1,5 +1,5 @@
 -- Each history that a run holds is sound, and so it is shown by what is written of it.
-use Rattle.std.proofs.Common.{◌≡◌, ℕ, zero, suc, ◌+◌, ◌++◌, Bool, true, false, List, [], ◌∷◌, Option, Some, None, Result, Ok, Err, refl, sym, subst}
+use Rattle.std.proofs.Common.{arith, ◌≡◌, ℕ, zero, suc, ◌+◌, ◌++◌, Bool, true, false, List, [], ◌∷◌, Option, Some, None, Result, Ok, Err, refl, sym, subst}
 use Rattle.std.specs.Prelude.{if◌then◌else◌, map}
 use Rattle.std.specs.List.{AllByRecursion}
 use Rattle.plain_model.specs.declared.event.PlainEvent.{PlainEvent}
@@ -21,13 +21,17 @@ use Rattle.script_reader.specs.declared.script.ScriptItem.{ScriptItem}
 use Rattle.script_reader.specs.declared.script.ScriptLine.{ScriptLine}
 use Rattle.script_reader.specs.declared.script.ScriptLine.TheVariants.{Define, Plain}
 use Rattle.history_machine.specs.declared.waiting.Waiting.{Waiting}
-use Rattle.history_machine.specs.Lawful.{IsLawful, IsLawfulHistory, IsLawfulRepo}
+use Rattle.edit_laws.specs.Editing.{IsLawfulHistory}
+use Rattle.history_machine.specs.Lawful.{IsLawful, IsLawfulRepo}
 use Rattle.script_reader.specs.Answering.{◌>>=◌}
 use Rattle.history_machine.specs.Machine.{Run, Turn, called_by, ended, files_after, first_of, goes_on, others_of, run_on, status_after, turn_of}
 use Rattle.history_machine.specs.Sessions.{Repo, Session, chosen, empty_session, line_step, ordered, sends, step}
 use Rattle.history_machine.specs.Whole.{Denials, run, run_asked, run_read, script_in, waiting_of}
 use Rattle.history_machine.specs.Words.{Asked, asked}
 use Rattle.surgeon_cli.specs.Headline.{AreShown, AreShownWrites, IsShownLine, IsShownWrite, ShowsHistories, ShowsWrites}
+
+nothing_loaded : IsLawful empty_session
+nothing_loaded = record { repos = tt; names = record { few = omega arith; apart = refl; choice = tt } }
 
 module _
     (keeps : (denial : Option Denial) (s : Session) (files : Files) (depth : ℕ) (what : ScriptLine) (t : Turn Session) → line_step denial s files depth what ≡ Ok t → IsLawful s → IsLawful t.session)
@@ -57,19 +61,19 @@ module _
     lines_show : (keep : Bool) (left : ℕ) (denials : Denials) (so_far : Status) (s : Session) (files : Files) (lines : List Waiting) → IsLawful s
         → Show (run_on line_step keep left denials so_far s files lines).turns
     lines_show keep left denials so_far s files [] h = tt
-    lines_show keep zero denials so_far s files (w ∷ lines) h = (shown s.repos h, tt)
+    lines_show keep zero denials so_far s files (w ∷ lines) h = (shown s.repos h.repos, tt)
     lines_show keep (suc left) denials so_far s files (w ∷ lines) h =
         let done = line_step (first_of denials) s files w.depth w.what in
         let t = turn_of s w.line done in
         let lawful = turn_lawful (first_of denials) s files w h in
         let rest : List Waiting = called_by w.line (w.depth + 1) t.calls ++ lines in (
-          shown t.session.repos lawful,
+          shown t.session.repos lawful.repos,
           cut_or_not (goes_on keep done) (run_on line_step keep left (others_of denials) (status_after so_far done) t.session (files_after t.to t.bytes files) rest) (ended status.Refused)
               (lines_show keep left (others_of denials) (status_after so_far done) t.session (files_after t.to t.bytes files) rest lawful) tt,
         )
 
     read_show : (denials : Denials) (what : Asked) (files : Files) (script : Result (List ScriptItem) Fault) → Show (run_read denials what files script).turns
-    read_show denials what files (Ok items) = lines_show what.keep_going MAX_COMMANDS denials status.Done empty_session files (map waiting_of items) tt
+    read_show denials what files (Ok items) = lines_show what.keep_going MAX_COMMANDS denials status.Done empty_session files (map waiting_of items) nothing_loaded
     read_show denials what files (Err why) = (tt, tt)
 
     asked_show : (denials : Denials) (files : Files) (what : Option Asked) → Show (run_asked denials files what).turns
@@ -148,7 +152,7 @@ module _
         asked_shown denials files (Some what) = go (script_in files what.script)
           where
             go : (r : Result (List ScriptItem) Fault) → AreShownWrites (run_read denials what files r).ran (run_read denials what files r).turns
-            go (Ok items) = lines_shown what.keep_going MAX_COMMANDS denials status.Done empty_session files (map waiting_of items) tt
+            go (Ok items) = lines_shown what.keep_going MAX_COMMANDS denials status.Done empty_session files (map waiting_of items) nothing_loaded
             go (Err why) = tt
 
         pub writes_shown : (words : List Bytes) (files : Files) → ShowsWrites words files

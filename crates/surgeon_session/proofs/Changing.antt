@@ -1,6 +1,6 @@
 -- The repository at a place of the load list: what is found there, and what a change of it makes of all.
 use Rattle.std.proofs.Common.{Vec, ◌≡◌, ℕ, false, List, [], ◌∷◌, ◌++◌, Option, Some, None, Result, Ok, Err, refl, sym, ap, subst, ◌∙◌, nat_eq}
-use Rattle.std.specs.Prelude.{is_some, option_map, OnErr}
+use Rattle.std.specs.Prelude.{is_some, option_map, IfOk, OnErr}
 use Rattle.std.specs.Cmp.Lexicographic.{pointwise}
 use Rattle.std.specs.List.{position}
 use Rattle.std.specs.Map.{keys_of, lookup}
@@ -12,13 +12,13 @@ use Rattle.plain_model.specs.declared.fault.Fault.{Fault}
 use Rattle.plain_model.specs.declared.fault.Halt.{Halt}
 use Rattle.plain_model.specs.declared.fault.Halt.TheVariants as halt
 use Rattle.event_sets.specs.Sets.{Ids}
-use Rattle.expunge_laws.specs.Expunged.{expunge_of}
-use Rattle.expunge_laws.specs.Matching.{Matches, matched_by}
+use Rattle.edit_laws.specs.Editing.{Remade, with_number}
+use Rattle.event_arena.specs.Graphs.{Change, Graph}
+use Rattle.event_arena.specs.Plans.{IsPlanOf, Plans}
 use Rattle.selection_eval.specs.Names.{assigned}
 use Rattle.script_reader.specs.Answering.{◌>>=◌}
-use Rattle.script_reader.specs.declared.edit.Edit.{Edit}
-use Rattle.history_machine.specs.Sessions.{Repo, Session, after_edit, after_expunge, chosen, chosen_by, edited, expunged, find_repo, unassigned, with_history, with_live_names, with_repo}
-use Rattle.surgeon_session.specs.Entries.{Loaded, assigned_in, edited_in, expunged_in, found_repo, repo_under, repos_of, with_given}
+use Rattle.history_machine.specs.Sessions.{Repo, Session, after_edit, chosen, chosen_by, edited, find_repo, unassigned, with_remade, with_repo}
+use Rattle.surgeon_session.specs.Entries.{Loaded, assigned_in, edited_in, found_repo, made_by, repo_under, repos_of, with_given}
 use Rattle.surgeon_session.proofs.Entries.{found_under, same_repos, set_repos}
 
 none_is : {X : Type 0} (o : Option X) → false ≡ is_some o → o ≡ None
@@ -65,36 +65,44 @@ assigned_at r name given ids old new repos all found is h =
     let f : Loaded → List Repo = λ x. with_repo (repo_under name x) repos in
     rw (found, is) (subst (Returns (λ _. f new) r) (named (unassigned given (assigned given old.names)) g f) (lifted r (with_given given ids old) f new h))
 
-pub edited_at : {X : Type 0} (r : Result X Halt) (name : Bytes) (what : Edit) (ids : Ids) (old new : Loaded) (repos all : List Repo) → find_repo name repos ≡ Some (repo_under name old)
-    → all ≡ with_repo (repo_under name new) repos → Returns (λ _. repo_under name new) r (edited what ids (repo_under name old)) → Returns (λ _. all) r (edited_in name what ids repos)
-edited_at r name what ids old new repos all found is h =
-    rw (found, is) (lifted r (edited what ids (repo_under name old)) (λ x. with_repo x repos) (repo_under name new) h)
-
-pub expunged_at : {X : Type 0} (r : Result X Halt) (name : Bytes) (matchers : List Matches) (old new : Loaded) (repos all : List Repo) → find_repo name repos ≡ Some (repo_under name old)
-    → all ≡ with_repo (repo_under name new) repos → Returns (λ _. repo_under name new) r (expunged matchers (repo_under name old)) → Returns (λ _. all) r (expunged_in name matchers repos)
-expunged_at r name matchers old new repos all found is h =
-    rw (found, is) (lifted r (expunged matchers (repo_under name old)) (λ x. with_repo x repos) (repo_under name new) h)
+pub edited_at : {X : Type 0} (r : Result X Halt) (name : Bytes) (edit : ℕ → List PlainEvent → Result Remade Fault) (old new : Loaded) (repos all : List Repo)
+    → find_repo name repos ≡ Some (repo_under name old)
+    → all ≡ with_repo (repo_under name new) repos → Returns (λ _. repo_under name new) r (edited edit (repo_under name old)) → Returns (λ _. all) r (edited_in name edit repos)
+edited_at r name edit old new repos all found is h =
+    rw (found, is) (lifted r (edited edit (repo_under name old)) (λ x. with_repo x repos) (repo_under name new) h)
 
 -- ---- a plan that is carried out
 
--- what is made of a repository, with lists under names of what is still there
-pub live_after : (r : Result Repo Fault) (made new : Repo) → r ≡ Ok made → new ≡ with_live_names made → (r >>= λ after. Ok (with_live_names after)) ≡ Ok new
-live_after r made new is live = ap (λ (x : Result Repo Fault). x >>= λ after. Ok (with_live_names after)) is ∙ ap ok (sym live)
+-- what a plan leaves, with the number that it gives next
+pub numbered : (r : Result Change Halt) (next : ℕ) (specified : Result (List PlainEvent) Fault) → Returns (λ plan. plan.after) r specified → IfOk r (λ plan. plan.next ≡ next)
+    → Returns made_by r (with_number next specified)
+numbered (Ok plan) next specified h k = rw h (ap (λ (n : ℕ). made n plan.after) (sym k))
   where
-    ok : Repo → Result Repo Fault
-    ok repo = Ok repo
+    made : ℕ → List PlainEvent → Result Remade Fault
+    made next history = Ok (record { history = history; next = next })
+numbered (Err (halt.Refused why)) next specified h k = rw h refl
+numbered (Err halt.Memory) next specified h k = tt
 
--- a repository that was looked at alone is the same
-pub with_same : (name : Bytes) (old looked new : Loaded) (after : List PlainEvent) (next : ℕ) → looked ≡ old
-    → repo_under name new ≡ with_live_names (record (repo_under name looked) { history = after; next = next })
-    → repo_under name new ≡ with_live_names (record (repo_under name old) { history = after; next = next })
-with_same name old looked new after next same h =
-    h ∙ ap (λ (l : Loaded). with_live_names (record (repo_under name l) { history = after; next = next })) same
+-- the same of a call that plans
+pub planned : (events : Graph) (next : ℕ) (r : Result Change Halt) (specified : Result (List PlainEvent) Fault) → Plans events next r specified → Returns made_by r (with_number next specified)
+planned events next (Ok plan) specified h = rw h.0 (ap (λ (n : ℕ). made n plan.after) (sym h.1.next))
+  where
+    made : ℕ → List PlainEvent → Result Remade Fault
+    made next history = Ok (record { history = history; next = next })
+planned events next (Err (halt.Refused why)) specified h = rw h refl
+planned events next (Err halt.Memory) specified h = tt
 
-pub without_paths : (name : Bytes) (old : Loaded) (matchers : List Matches) (after : List PlainEvent) (next : ℕ) → expunge_of (matched_by matchers) old.history ≡ Ok after → next ≡ old.next
-    → with_history (repo_under name old) (expunge_of (matched_by matchers) old.history) ≡ Ok (record (repo_under name old) { history = after; next = next })
-without_paths name old matchers after next made same =
-    ap (with_history (repo_under name old)) made ∙ ap (λ (n : ℕ). ok (record (repo_under name old) { history = after; next = n })) (sym same)
+pub plan_holds : (events : Graph) (next : ℕ) (r : Result Change Halt) (specified : Result (List PlainEvent) Fault) → Plans events next r specified → IfOk r (IsPlanOf events next)
+plan_holds events next (Ok plan) specified h = h.1
+plan_holds events next (Err (halt.Refused why)) specified h = tt
+plan_holds events next (Err halt.Memory) specified h = tt
+
+-- what was planned of a repository that was looked at alone, and is carried out
+pub carried : (name : Bytes) (old looked new : Loaded) (edit : ℕ → List PlainEvent → Result Remade Fault) (made : Remade) → looked ≡ old → edit old.next old.history ≡ Ok made
+    → repo_under name new ≡ with_remade (repo_under name looked) made → edited edit (repo_under name old) ≡ Ok (repo_under name new)
+carried name old looked new edit made same planned is =
+    ap (λ (x : Result Remade Fault). x >>= λ m. Ok (with_remade (repo_under name old) m)) planned
+    ∙ ap ok (sym (is ∙ ap (λ (l : Loaded). with_remade (repo_under name l) made) same))
   where
     ok : Repo → Result Repo Fault
     ok repo = Ok repo
@@ -123,12 +131,7 @@ changed_of_chosen r s change name given new is same h =
     subst (λ (found : Result Repo Fault). Returns (λ _. record s { repos = new }) r (found >>= λ repo. change repo >>= λ new. Ok (record s { repos = with_repo new s.repos })))
     (sym (ap (chosen_by s.repos) is)) (subst (Returns (λ _. record s { repos = new }) r) (in_place s change (found_repo name s.repos)) all)
 
-pub edited_of_chosen : {X : Type 0} (r : Result X Halt) (s : Session) (what : Edit) (ids : Ids) (name given : Bytes) (new : List Repo) → s.choice ≡ Some name → given ≡ name
-    → Returns (λ _. new) r (edited_in given what ids s.repos) → Returns (λ _. record s { repos = new }) r (after_edit s ids what)
+pub edited_of_chosen : {X : Type 0} (r : Result X Halt) (s : Session) (edit : ℕ → List PlainEvent → Result Remade Fault) (name given : Bytes) (new : List Repo) → s.choice ≡ Some name → given ≡ name
+    → Returns (λ _. new) r (edited_in given edit s.repos) → Returns (λ _. record s { repos = new }) r (after_edit s edit)
 unfolding after_edit
-edited_of_chosen r s what ids name given new is same h = changed_of_chosen r s (edited what ids) name given new is same h
-
-pub expunged_of_chosen : {X : Type 0} (r : Result X Halt) (s : Session) (matchers : List Matches) (name given : Bytes) (new : List Repo) → s.choice ≡ Some name → given ≡ name
-    → Returns (λ _. new) r (expunged_in given matchers s.repos) → Returns (λ _. record s { repos = new }) r (after_expunge s matchers)
-unfolding after_expunge
-expunged_of_chosen r s matchers name given new is same h = changed_of_chosen r s (expunged matchers) name given new is same h
+edited_of_chosen r s edit name given new is same h = changed_of_chosen r s (edited edit) name given new is same h

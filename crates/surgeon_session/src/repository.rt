@@ -3,22 +3,21 @@ ghost use Rattle.std.specs.Prelude.{◌≡◌, ◌<◌, ◌≤◌, ◌^◌, [], 
 ghost use Rattle.byte_patterns.specs.Judging.{Judges};
 ghost use Rattle.coalesce_laws.specs.Coalesce.{coalesce_of};
 ghost use Rattle.event_sets.specs.Once.{AreLive, IsOnce};
-ghost use Rattle.expunge_laws.specs.Expunged.{expunge_of};
+ghost use Rattle.edit_laws.specs.Editing.{with_number};
 ghost use Rattle.history_machine.specs.Sessions.{
   edited,
-  expunged,
   remade,
   shown,
   stands_for,
-  with_live_names,
+  with_remade,
+  without_paths,
 };
-ghost use Rattle.expunge_laws.specs.Matching.{matched_by};
 ghost use Rattle.plain_model.specs.Faults.{Returns};
 ghost use Rattle.plain_model.specs.Lookups.{next_number};
 ghost use Rattle.plain_model.specs.Soundness.{IsSound};
 ghost use Rattle.renumbering.specs.Renumbered.{renumbered};
 ghost use Rattle.selection_parser.specs.Reading.{selection_at};
-ghost use Rattle.surgeon_session.specs.Entries.{repo_under, with_given};
+ghost use Rattle.surgeon_session.specs.Entries.{made_by, repo_under, with_given};
 
 use crate::path_words::path_of;
 use byte_patterns::Patterns;
@@ -159,11 +158,10 @@ impl Repository {
 
     // The plan of a coalesce, which is never refused.
     fn coalesced(&self, seconds: u64, ids: &[AnyId]) -> Result<Plan, Halt>
-        ensures answer { Returns (λ plan. plan.after) result
-            (Ok (coalesce_of seconds ids.now self.now.history)) }
+        ensures plans { Returns made_by result
+            (with_number self.now.next (Ok (coalesce_of seconds ids.now self.now.history))) }
         ensures before { IfOk result (λ plan. plan.before ≡ self.now.history) }
         ensures made_at { IfOk result (λ plan. plan.made_at ≡ self.now.next) }
-        ensures next { IfOk result (λ plan. plan.next ≡ self.now.next) }
         ensures sound { IfOk result (λ plan. IsSound plan.after) }
     {
         match coalesce(self.alloc, &self.events, ids, seconds) {
@@ -176,11 +174,8 @@ impl Repository {
     fn plan_of(&mut self, what: &Edit, ids: &[AnyId]) -> Result<Plan, Halt>
         requires once { IsOnce ids.now }
         requires live { AreLive self.old.history ids.now }
-        ensures plans { (name : _) →
-            Returns (λ plan. record (repo_under name self.old) {
-              history = plan.after;
-              next = plan.next;
-            }) result (remade what.now ids.now (repo_under name self.old)) }
+        ensures plans { Returns made_by result
+            (remade what.now ids.now self.old.next self.old.history) }
         ensures before { IfOk result (λ plan. plan.before ≡ self.old.history) }
         ensures made_at { IfOk result (λ plan. plan.made_at ≡ self.old.next) }
         ensures sound { IfOk result (λ plan. IsSound plan.after) }
@@ -234,10 +229,7 @@ impl Repository {
         requires made_at { plan.made_at ≡ self.old.next }
         requires sound { IsSound plan.after }
         ensures ok { (name : _) → OnOk result
-            (repo_under name self.new ≡ with_live_names (record (repo_under name self.old) {
-              history = plan.after;
-              next = plan.next;
-            })) }
+            (repo_under name self.new ≡ with_remade (repo_under name self.old) (made_by plan)) }
         ensures err { OnErr result (self.new ≡ self.old) }
     {
         self.events.reserve_for(&plan)?;
@@ -252,7 +244,7 @@ impl Repository {
         requires once { IsOnce ids.now }
         requires live { AreLive self.old.history ids.now }
         ensures returns { (name : _) → Returns (λ _. repo_under name self.new) result
-            (edited what.now ids.now (repo_under name self.old)) }
+            (edited (remade what.now ids.now) (repo_under name self.old)) }
         ensures err { OnErr result (self.new ≡ self.old) }
     {
         let plan = self.plan_of(what, ids)?;
@@ -261,11 +253,10 @@ impl Repository {
 
     // The plan of an expunge.
     fn plan_without(&mut self, matchers: &[Matcher]) -> Result<Plan, Halt>
-        ensures answer { Returns (λ plan. plan.after) result
-            (expunge_of (matched_by matchers.now) self.old.history) }
+        ensures plans { Returns made_by result
+            (without_paths matchers.now self.old.next self.old.history) }
         ensures before { IfOk result (λ plan. plan.before ≡ self.old.history) }
         ensures made_at { IfOk result (λ plan. plan.made_at ≡ self.old.next) }
-        ensures next { IfOk result (λ plan. plan.next ≡ self.old.next) }
         ensures sound { IfOk result (λ plan. IsSound plan.after) }
         ensures same { self.new ≡ self.old }
     {
@@ -275,7 +266,7 @@ impl Repository {
     /// Takes the matched paths out of its history, or leaves all as it was.
     pub fn expunge(&mut self, matchers: &[Matcher]) -> Result<(), Halt>
         ensures returns { (name : _) → Returns (λ _. repo_under name self.new) result
-            (expunged matchers.now (repo_under name self.old)) }
+            (edited (without_paths matchers.now) (repo_under name self.old)) }
         ensures err { OnErr result (self.new ≡ self.old) }
     {
         let plan = self.plan_without(matchers)?;

@@ -1,5 +1,5 @@
 use Rattle.std.proofs.Common.{◌≡◌, Some, None, refl, sym, ◌∙◌}
-use Rattle.history_machine.specs.Sessions.{find_repo}
+use Rattle.history_machine.specs.Sessions.{find_repo, remade}
 use Rattle.surgeon_session.specs.Entries.{repo_under, repos_of}
 use Rattle.surgeon_session.proofs.Changing.{edited_at, not_there, on_err, stays, there}
 use Rattle.surgeon_session.proofs.Entries.{set_repos}
@@ -22,7 +22,7 @@ returns-in-Some-clause-returns c =
     let old = c.index_mut.result.now in
     let found : find_repo name (repos_of es) ≡ Some (repo_under name old) =
     (there name es old (sym c.in-Some.ensures.value ∙ c.index_mut.ensures.value)) in
-    rw (← c.self.view_is) (edited_at c.edit.result name c.args.what.now c.args.ids.now old c.edit.new.self (repos_of es) _ found (set_repos name c.edit.new.self es c.in-Some.place c.in-Some.ensures.index) (c.edit.ensures.returns name))
+    rw (← c.self.view_is) (edited_at c.edit.result name (remade c.args.what.now c.args.ids.now) old c.edit.new.self (repos_of es) _ found (set_repos name c.edit.new.self es c.in-Some.place c.in-Some.ensures.index) (c.edit.ensures.returns name))
 
 pub returns-in-Some-clause-err : goal.returns-in-Some-clause-err
 returns-in-Some-clause-err c =

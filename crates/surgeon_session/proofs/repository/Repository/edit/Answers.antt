@@ -1,8 +1,9 @@
-use Rattle.surgeon_session.proofs.Changing.{live_after, with_same}
+use Rattle.history_machine.specs.Sessions.{remade}
+use Rattle.surgeon_session.specs.Entries.{made_by}
+use Rattle.surgeon_session.proofs.Changing.{carried}
 use Rattle.surgeon_session.proofs.repository.Repository.edit.Goals as goal
 
 pub returns-clause-returns : goal.returns-clause-returns
 returns-clause-returns c = λ name.
-    let plan = c.in_ok-plan.plan in
-    live_after _ _ _ (c.in_ok-plan.ensures.plans name)
-    (with_same name c.args.self.now c.plan_of.new.self c.carry_out.new.self plan.after plan.next c.plan_of.ensures.same (c.in_ok-carry_out.ensures.ok name))
+    carried name c.args.self.now c.plan_of.new.self c.carry_out.new.self (remade c.args.what.now c.args.ids.now) (made_by c.in_ok-plan.plan) c.plan_of.ensures.same c.in_ok-plan.ensures.plans
+    (c.in_ok-carry_out.ensures.ok name)

@@ -1,0 +1,28 @@
+use Rattle.std.proofs.Common.{◌+◌}
+use Rattle.edit_laws.specs.Editing.{IsEdit, with_number}
+use Rattle.reparent_laws.specs.Operations.{remove_of}
+use Rattle.reparent_laws.specs.declared.removal.Removal.TheVariants.{At, Index}
+use Rattle.script_reader.specs.Added.{IsSpelledEdit}
+use Rattle.script_reader.specs.declared.edit.Edit.{Edit}
+use Rattle.script_reader.specs.declared.edit.Edit.TheVariants as edit
+use Rattle.split_laws.specs.Split.{split_by_of}
+use Rattle.history_machine.specs.Sessions.{remade}
+use Rattle.history_machine.proofs.Edits.{of_path}
+use Rattle.history_machine.proofs.laws.every_edit_is_one.Goals as goal
+
+pub returns : goal.returns
+returns c = each
+  where
+    each : (what : Edit) → IsSpelledEdit what → IsEdit (λ set next events. remade what set next events)
+    each (edit.Squash how) fits = c.a_squash_is_an_edit.ensures how
+    each (edit.SplitAt number) fits = c.a_split_is_an_edit.ensures.at number
+    each (edit.SplitBy text) fits = of_path text (λ path set next events. with_number (next + 1) (split_by_of next path set events)) (c.a_split_is_an_edit.ensures.by text)
+    each edit.Reorder fits = c.a_reorder_is_an_edit.ensures
+    each (edit.Reparent how) fits = c.a_change_is_an_edit.ensures.reparent how.use_order how.rebase
+    each edit.Merge fits = c.a_change_is_an_edit.ensures.merge
+    each edit.Unmerge fits = c.a_change_is_an_edit.ensures.unmerge
+    each (edit.Add op) fits = c.a_change_is_an_edit.ensures.add op fits.content fits.fits
+    each (edit.RemoveAt number) fits = c.a_change_is_an_edit.ensures.remove (Index number)
+    each (edit.RemoveBy text) fits = of_path text (λ path set next events. with_number next (remove_of (At path) set events)) (c.a_change_is_an_edit.ensures.remove (At text))
+    each (edit.Coalesce seconds) fits = c.a_coalesce_is_an_edit.ensures seconds
+    each edit.Simplify fits = c.a_simplify_is_an_edit.ensures
