@@ -3,7 +3,6 @@ ghost use Rattle.std.specs.Prelude.{
   ◌≡◌,
   ◌++◌,
   Some,
-  length,
   map,
   slice_get,
   IfOk,
@@ -14,11 +13,23 @@ ghost use Rattle.std.specs.Prelude.{
 };
 ghost use Rattle.coalesce_laws.specs.Coalesce.{coalesce_of, joined_ones};
 ghost use Rattle.coalesce_laws.specs.Remaining.{parents_of_oldest};
-ghost use Rattle.coalesce_simplify.specs.Joining.{AreEndsFrom, AreJoined, end_of, joined_event, joins};
-ghost use Rattle.event_arena.specs.Changes.{changed, has_target, with_ops, with_parents, with_target};
+ghost use Rattle.coalesce_simplify.specs.Joining.{
+  AreEndsFrom,
+  AreJoined,
+  end_of,
+  joined_event,
+  joins,
+};
+ghost use Rattle.event_arena.specs.Changes.{
+  changed,
+  has_target,
+  with_ops,
+  with_parents,
+  with_target,
+};
+ghost use Rattle.event_arena.specs.Plans.{IsPlanOf, leaving};
 ghost use Rattle.history_laws.specs.FirstParents.{ops_along};
 ghost use Rattle.plain_model.specs.Lookups.{find_event, id_of};
-ghost use Rattle.plain_model.specs.Soundness.{IsSound};
 ghost use Rattle.plain_model.specs.declared.id.AnyId.TheVariants.{Commit};
 ghost use Rattle.squash_laws.specs.Removed.{without_set};
 ghost use Rattle.squash_laws.specs.Squash.{links};
@@ -172,11 +183,9 @@ fn ones_of(alloc: Global, events: &Events, set: &[AnyId], seconds: u64) -> Resul
 // The plan in which joined commits are gone, and the others have what they had. It isn't settled yet.
 fn joined_up(alloc: Global, events: &Events, ids: &IdList) -> Result<Plan, NoMemory>
     requires { AreJoined ids.now events.now.list }
-    ensures before { IfOk result (λ plan. plan.before ≡ events.now.list) }
-    ensures after { IfOk result (λ plan. plan.after
-        ≡ without_set ids.now events.now.list (joins ids.now events.now.list)) }
-    ensures made_at { IfOk result (λ plan. plan.made_at ≡ events.now.next_id) }
-    ensures next { IfOk result (λ plan. plan.next ≡ events.now.next_id) }
+    ensures { IfOk result (λ plan. plan
+        ≡ leaving events.now
+        (without_set ids.now events.now.list (joins ids.now events.now.list))) }
 {
     let _count = events.count();
     let going = Flagged::new(alloc, events, ids.as_slice())?;
@@ -198,11 +207,8 @@ pub fn coalesce(
     set: &[AnyId],
     seconds: u64,
 ) -> Result<Plan, NoMemory>
-    ensures answer { IfOk result (λ plan. plan.after ≡ coalesce_of seconds set.now events.now.list) }
-    ensures before { IfOk result (λ plan. plan.before ≡ events.now.list) }
-    ensures made_at { IfOk result (λ plan. plan.made_at ≡ events.now.next_id) }
-    ensures next { IfOk result (λ plan. plan.next ≡ events.now.next_id) }
-    ensures sound { IfOk result (λ plan. IsSound plan.after) }
+    ensures plan { IfOk result (IsPlanOf events.now events.now.next_id) }
+    ensures after { IfOk result (λ plan. plan.after ≡ coalesce_of seconds set.now events.now.list) }
 {
     let _count = events.count();
     let ids = ones_of(alloc, events, set, seconds)?;

@@ -1,10 +1,9 @@
 //! The plan of a simplifying.
 ghost use Rattle.std.specs.Prelude.{◌≡◌, Some, map, slice_get, IfOk, OnOk};
 ghost use Rattle.event_arena.specs.Changes.{changed};
+ghost use Rattle.event_arena.specs.Plans.{Plans, leaving};
 ghost use Rattle.manifest_cache.specs.Kept.{AgreesWith};
-ghost use Rattle.plain_model.specs.Faults.{Returns};
 ghost use Rattle.plain_model.specs.Lookups.{find_event, id_of};
-ghost use Rattle.plain_model.specs.Soundness.{IsSound};
 ghost use Rattle.coalesce_simplify.specs.Voiding.{simple_event};
 ghost use Rattle.simplify_laws.specs.Simplify.{simplified, simplified_event, simplify_of};
 
@@ -71,10 +70,7 @@ fn simplify_all(alloc: Global, chosen: &Flagged, plan: &mut Plan) -> Result<(), 
 
 // The plan in which the commits of a set are without void operations, and the blobs are gone that only those named.
 fn simplified(alloc: Global, events: &Events, set: &[AnyId]) -> Result<Plan, NoMemory>
-    ensures before { IfOk result (λ plan. plan.before ≡ events.now.list) }
-    ensures after { IfOk result (λ plan. plan.after ≡ simplified set.now events.now.list) }
-    ensures made_at { IfOk result (λ plan. plan.made_at ≡ events.now.next_id) }
-    ensures next { IfOk result (λ plan. plan.next ≡ events.now.next_id) }
+    ensures { IfOk result (λ plan. plan ≡ leaving events.now (simplified set.now events.now.list)) }
 {
     let chosen = Flagged::new(alloc, events, set)?;
     let mut plan = Plan::new(alloc, events)?;
@@ -93,11 +89,8 @@ pub fn simplify(
     set: &[AnyId],
 ) -> Result<Plan, Halt>
     requires agrees { AgreesWith events.now.list manifests.old }
-    ensures answer { Returns (λ plan. plan.after) result (simplify_of set.now events.now.list) }
-    ensures before { IfOk result (λ plan. plan.before ≡ events.now.list) }
-    ensures made_at { IfOk result (λ plan. plan.made_at ≡ events.now.next_id) }
-    ensures next { IfOk result (λ plan. plan.next ≡ events.now.next_id) }
-    ensures sound { IfOk result (λ plan. IsSound plan.after) }
+    ensures plans { Plans events.now events.now.next_id result
+        (simplify_of set.now events.now.list) }
     ensures kept { manifests.new ≡ manifests.old }
 {
     let _count = events.count();

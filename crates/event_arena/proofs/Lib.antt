@@ -8,6 +8,7 @@ pub mod MeasureLemmas
 pub mod OnceLemmas
 pub mod OrderLemmas
 pub mod PlaceLemmas
+pub mod Plans
 pub mod PointerLemmas
 pub mod RowLemmas
 pub mod SoundLemmas

@@ -7,6 +7,10 @@ use Rattle.plain_model.specs.declared.fault.Halt.TheVariants as halt
 use Rattle.plain_model.specs.Soundness.{IsSound}
 use Rattle.event_arena.specs.Graphs.{Change, Graph}
 
+-- the plan for a history that leaves these events and gives no number
+abbrev pub leaving : Graph → List PlainEvent → Change
+leaving events after = record { before = events.list; after = after; made_at = events.next_id; next = events.next_id }
+
 -- A plan of a history that can be carried out: it was made for it, gives a number next, and leaves a sound list.
 pub record IsPlanOf (events : Graph) (number : ℕ) (plan : Change) : Type 0 where
   pub before : plan.before ≡ events.list

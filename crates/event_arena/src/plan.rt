@@ -43,6 +43,7 @@ ghost use Rattle.event_arena.specs.Changes.{
   without_all,
 };
 ghost use Rattle.event_arena.specs.Once.{AreDistinct};
+ghost use Rattle.event_arena.specs.Plans.{leaving};
 ghost use Rattle.event_arena.specs.Spent.{BringsNoneBack};
 ghost use Rattle.event_arena.specs.Weights.{weight_of};
 ghost use Rattle.plain_model.specs.Lookups.{
@@ -91,10 +92,7 @@ impl Model for Plan {
 impl Plan {
     /// The plan that changes nothing.
     pub fn new(alloc: Global, events: &Events) -> Result<Plan, NoMemory>
-        ensures before { IfOk result (λ plan. plan.before ≡ events.now.list) }
-        ensures after { IfOk result (λ plan. plan.after ≡ events.now.list) }
-        ensures made_at { IfOk result (λ plan. plan.made_at ≡ events.now.next_id) }
-        ensures next { IfOk result (λ plan. plan.next ≡ events.now.next_id) }
+        ensures { IfOk result (λ plan. plan ≡ leaving events.now events.now.list) }
     {
         let before = events.share(alloc)?;
         let after = before.renewed(alloc)?;

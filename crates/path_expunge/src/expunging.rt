@@ -1,10 +1,9 @@
 //! The plan of an expunge.
 ghost use Rattle.std.specs.Prelude.{◌≡◌, Ok, IfOk, OnOk};
+ghost use Rattle.event_arena.specs.Plans.{Plans, leaving};
 ghost use Rattle.expunge_laws.specs.Expunged.{expunge_of, expunged};
 ghost use Rattle.manifest_cache.specs.Kept.{AgreesWith};
 ghost use Rattle.expunge_laws.specs.Matching.{matched_by};
-ghost use Rattle.plain_model.specs.Faults.{Returns};
-ghost use Rattle.plain_model.specs.Soundness.{IsSound};
 ghost use Rattle.squash_laws.specs.Squash.{is_none};
 
 use crate::commits::replace_ops;
@@ -76,9 +75,7 @@ fn expunged(
     requires { AgreesWith events.now.list manifests.old }
     ensures after { IfOk result (λ plan.
         expunged (matched_by matchers.now) events.now.list ≡ Ok plan.after) }
-    ensures before { IfOk result (λ plan. plan.before ≡ events.now.list) }
-    ensures made_at { IfOk result (λ plan. plan.made_at ≡ events.now.next_id) }
-    ensures next { IfOk result (λ plan. plan.next ≡ events.now.next_id) }
+    ensures made { IfOk result (λ plan. plan ≡ leaving events.now plan.after) }
     ensures kept { AgreesWith events.now.list manifests.new }
 {
     let mut matching = Matching::new(alloc, matchers)?;
@@ -97,12 +94,8 @@ pub fn expunge(
     matchers: &[Matcher],
 ) -> Result<Plan, Halt>
     requires agrees { AgreesWith events.now.list manifests.old }
-    ensures answer { Returns (λ plan. plan.after) result
+    ensures plans { Plans events.now events.now.next_id result
         (expunge_of (matched_by matchers.now) events.now.list) }
-    ensures before { IfOk result (λ plan. plan.before ≡ events.now.list) }
-    ensures made_at { IfOk result (λ plan. plan.made_at ≡ events.now.next_id) }
-    ensures next { IfOk result (λ plan. plan.next ≡ events.now.next_id) }
-    ensures sound { IfOk result (λ plan. IsSound plan.after) }
     ensures kept { AgreesWith events.now.list manifests.new }
 {
     let _count = events.count();

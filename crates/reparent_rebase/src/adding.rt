@@ -2,18 +2,11 @@
 ghost use Rattle.std.specs.Prelude.{◌≡◌, IfOk, IsOk};
 ghost use Rattle.commit_laws.specs.Rewriting.{rewritten_all};
 ghost use Rattle.edit_laws.specs.Settling.{settle};
+ghost use Rattle.event_arena.specs.Plans.{Plans, leaving};
 ghost use Rattle.manifest_cache.specs.Kept.{AgreesWith};
 ghost use Rattle.plain_model.specs.Faults.{Returns};
 ghost use Rattle.plain_model.specs.Fields.{HasItsContent, OpFits};
-ghost use Rattle.plain_model.specs.Soundness.{IsSound};
-ghost use Rattle.reparent_laws.specs.Operations.{
-  add_of,
-  add_to,
-  adds,
-  as_blob,
-  content_of,
-  op_of,
-};
+ghost use Rattle.reparent_laws.specs.Operations.{add_of, add_to, adds, as_blob, content_of, op_of};
 
 use crate::judging::judge;
 use event_arena::{Events, Plan};
@@ -112,11 +105,8 @@ fn known(spelled: &RawOp)
 
 // The plan in which a commit has an operation more, the last, which is not settled yet.
 fn added(alloc: Global, events: &Events, commit: CommitId, op: FileOp) -> Result<Plan, NoMemory>
-    ensures before { IfOk result (λ plan. plan.before ≡ events.now.list) }
-    ensures after { IfOk result
-        (λ plan. plan.after ≡ rewritten_all commit (adds op) events.now.list) }
-    ensures made_at { IfOk result (λ plan. plan.made_at ≡ events.now.next_id) }
-    ensures next { IfOk result (λ plan. plan.next ≡ events.now.next_id) }
+    ensures { IfOk result (λ plan. plan
+        ≡ leaving events.now (rewritten_all commit (adds op) events.now.list)) }
 {
     let _count = events.count();
     let mut plan = Plan::new(alloc, events)?;
@@ -137,9 +127,7 @@ fn add_to(
     requires agrees { AgreesWith events.now.list manifests.old }
     requires ends { IsOk (settle (rewritten_all commit (adds op) events.now.list)) }
     ensures answer { Returns (λ plan. plan.after) result (add_to events.now.list commit op) }
-    ensures before { IfOk result (λ plan. plan.before ≡ events.now.list) }
-    ensures made_at { IfOk result (λ plan. plan.made_at ≡ events.now.next_id) }
-    ensures next { IfOk result (λ plan. plan.next ≡ events.now.next_id) }
+    ensures made { IfOk result (λ plan. plan ≡ leaving events.now plan.after) }
     ensures kept { manifests.new ≡ manifests.old }
 {
     let _count = events.count();
@@ -165,12 +153,8 @@ pub fn add_op(
     requires agrees { AgreesWith events.now.list manifests.old }
     // A link to another repository has an object's id.
     requires content { HasItsContent spelled.now }
-    ensures answer { Returns (λ plan. plan.after) result
+    ensures plans { Plans events.now events.now.next_id result
         (add_of spelled.now set.now events.now.list) }
-    ensures before { IfOk result (λ plan. plan.before ≡ events.now.list) }
-    ensures made_at { IfOk result (λ plan. plan.made_at ≡ events.now.next_id) }
-    ensures next { IfOk result (λ plan. plan.next ≡ events.now.next_id) }
-    ensures sound { IfOk result (λ plan. IsSound plan.after) }
     ensures kept { manifests.new ≡ manifests.old }
 {
     let _count = events.count();

@@ -1,8 +1,8 @@
 //! The plans of a merge and of an unmerge.
 ghost use Rattle.std.specs.Prelude.{◌≡◌, take, IfOk};
 ghost use Rattle.commit_laws.specs.Rewriting.{rewritten_all};
+ghost use Rattle.event_arena.specs.Plans.{Plans, leaving};
 ghost use Rattle.plain_model.specs.Faults.{Returns};
-ghost use Rattle.plain_model.specs.Soundness.{IsSound};
 ghost use Rattle.reparent_laws.specs.Merge.{
   merge_of,
   merge_these,
@@ -38,10 +38,8 @@ fn with_parent(
 
 // The plan in which a commit has one more as its parent. A root begins without files then, as it did.
 fn joined(alloc: Global, events: &Events, low: CommitId, high: CommitId) -> Result<Plan, NoMemory>
-    ensures before { IfOk result (λ plan. plan.before ≡ events.now.list) }
-    ensures after { IfOk result (λ plan. plan.after ≡ rewritten_all high (merges low) events.now.list) }
-    ensures made_at { IfOk result (λ plan. plan.made_at ≡ events.now.next_id) }
-    ensures next { IfOk result (λ plan. plan.next ≡ events.now.next_id) }
+    ensures { IfOk result (λ plan. plan
+        ≡ leaving events.now (rewritten_all high (merges low) events.now.list)) }
 {
     let _count = events.count();
     let mut plan = Plan::new(alloc, events)?;
@@ -56,9 +54,7 @@ fn joined(alloc: Global, events: &Events, low: CommitId, high: CommitId) -> Resu
 // The plan in which the second of two commits has the first as one of its parents.
 fn merge_these(alloc: Global, events: &Events, commits: &[CommitId]) -> Result<Plan, Halt>
     ensures answer { Returns (λ plan. plan.after) result (merge_these events.now.list commits.now) }
-    ensures before { IfOk result (λ plan. plan.before ≡ events.now.list) }
-    ensures made_at { IfOk result (λ plan. plan.made_at ≡ events.now.next_id) }
-    ensures next { IfOk result (λ plan. plan.next ≡ events.now.next_id) }
+    ensures made { IfOk result (λ plan. plan ≡ leaving events.now plan.after) }
 {
     let [low, high] = commits else {
         let found = commits.len() as u64;
@@ -76,11 +72,7 @@ fn merge_these(alloc: Global, events: &Events, commits: &[CommitId]) -> Result<P
 /// isn't two events, where one of them isn't a commit, and by the first limit that is passed. (reposurgeon manual,
 /// `merge`.)
 pub fn merge(alloc: Global, events: &Events, set: &[AnyId]) -> Result<Plan, Halt>
-    ensures answer { Returns (λ plan. plan.after) result (merge_of set.now events.now.list) }
-    ensures before { IfOk result (λ plan. plan.before ≡ events.now.list) }
-    ensures made_at { IfOk result (λ plan. plan.made_at ≡ events.now.next_id) }
-    ensures next { IfOk result (λ plan. plan.next ≡ events.now.next_id) }
-    ensures sound { IfOk result (λ plan. IsSound plan.after) }
+    ensures { Plans events.now events.now.next_id result (merge_of set.now events.now.list) }
 {
     let _count = events.count();
     if set.len() != 2 {
@@ -112,10 +104,8 @@ fn first_alone(alloc: Global, parents: &[CommitId]) -> Result<ParentList, NoMemo
 
 // The plan in which a commit keeps its first parent alone.
 fn parted(alloc: Global, events: &Events, commit: CommitId) -> Result<Plan, NoMemory>
-    ensures before { IfOk result (λ plan. plan.before ≡ events.now.list) }
-    ensures after { IfOk result (λ plan. plan.after ≡ rewritten_all commit unmerges events.now.list) }
-    ensures made_at { IfOk result (λ plan. plan.made_at ≡ events.now.next_id) }
-    ensures next { IfOk result (λ plan. plan.next ≡ events.now.next_id) }
+    ensures { IfOk result (λ plan. plan
+        ≡ leaving events.now (rewritten_all commit unmerges events.now.list)) }
 {
     let _count = events.count();
     let mut plan = Plan::new(alloc, events)?;
@@ -127,11 +117,7 @@ fn parted(alloc: Global, events: &Events, commit: CommitId) -> Result<Plan, NoMe
 /// The plan that leaves a commit its first parent alone, and its tree with it. Refused where it isn't one commit.
 /// (reposurgeon manual, `unmerge`.)
 pub fn unmerge(alloc: Global, events: &Events, set: &[AnyId]) -> Result<Plan, Halt>
-    ensures answer { Returns (λ plan. plan.after) result (unmerge_of set.now events.now.list) }
-    ensures before { IfOk result (λ plan. plan.before ≡ events.now.list) }
-    ensures made_at { IfOk result (λ plan. plan.made_at ≡ events.now.next_id) }
-    ensures next { IfOk result (λ plan. plan.next ≡ events.now.next_id) }
-    ensures sound { IfOk result (λ plan. IsSound plan.after) }
+    ensures { Plans events.now events.now.next_id result (unmerge_of set.now events.now.list) }
 {
     let _count = events.count();
     let commit = match the_commit(events, set) {

@@ -2,9 +2,8 @@
 ghost use Rattle.std.specs.Prelude.{◌≡◌, ◌<◌, None, bytes_eq, filter, length, not, remove, IfOk};
 ghost use Rattle.std.specs.List.{list_any};
 ghost use Rattle.commit_laws.specs.Selected.{node_of};
+ghost use Rattle.event_arena.specs.Plans.{Plans, leaving};
 ghost use Rattle.manifest_cache.specs.Kept.{AgreesWith};
-ghost use Rattle.plain_model.specs.Faults.{Returns};
-ghost use Rattle.plain_model.specs.Soundness.{IsSound};
 ghost use Rattle.reparent_laws.specs.declared.removal.Removal.TheVariants.{At, Index};
 ghost use Rattle.reparent_laws.specs.Operations.{
   is_at,
@@ -131,10 +130,8 @@ fn removed(
     what: &Removal,
 ) -> Result<Plan, NoMemory>
     requires { removal_fault what.now (node_of events.now.list commit).ops ≡ None }
-    ensures before { IfOk result (λ plan. plan.before ≡ events.now.list) }
-    ensures after { IfOk result (λ plan. plan.after ≡ removed events.now.list commit what.now) }
-    ensures made_at { IfOk result (λ plan. plan.made_at ≡ events.now.next_id) }
-    ensures next { IfOk result (λ plan. plan.next ≡ events.now.next_id) }
+    ensures { IfOk result (λ plan. plan
+        ≡ leaving events.now (removed events.now.list commit what.now)) }
 {
     let _count = events.count();
     let mut plan = Plan::new(alloc, events)?;
@@ -155,12 +152,8 @@ pub fn remove_op(
     what: &Removal,
 ) -> Result<Plan, Halt>
     requires agrees { AgreesWith events.now.list manifests.old }
-    ensures answer { Returns (λ plan. plan.after) result
+    ensures plans { Plans events.now events.now.next_id result
         (remove_of what.now set.now events.now.list) }
-    ensures before { IfOk result (λ plan. plan.before ≡ events.now.list) }
-    ensures made_at { IfOk result (λ plan. plan.made_at ≡ events.now.next_id) }
-    ensures next { IfOk result (λ plan. plan.next ≡ events.now.next_id) }
-    ensures sound { IfOk result (λ plan. IsSound plan.after) }
     ensures kept { manifests.new ≡ manifests.old }
 {
     let _count = events.count();

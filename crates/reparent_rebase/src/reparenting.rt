@@ -4,13 +4,14 @@ ghost use Rattle.std.specs.List.{AllByRecursion};
 ghost use Rattle.ancestry_laws.specs.Ancestry.{descendants_of, descends};
 ghost use Rattle.commit_laws.specs.Rewriting.{rewritten_all};
 ghost use Rattle.edit_laws.specs.Selecting.{IsSelection};
+ghost use Rattle.event_arena.specs.Plans.{Plans, leaving};
 ghost use Rattle.graph_walk.specs.Flags.{FlagsOf};
 ghost use Rattle.manifest_cache.specs.Kept.{AgreesWith};
 ghost use Rattle.plain_model.specs.Faults.{Returns};
 ghost use Rattle.plain_model.specs.Histories.{IsLinkedPast, past};
 ghost use Rattle.plain_model.specs.Lookups.{find_event};
 ghost use Rattle.plain_model.specs.Snapshots.{commit_mark};
-ghost use Rattle.plain_model.specs.Soundness.{IsCommitOf, IsSound, are_distinct};
+ghost use Rattle.plain_model.specs.Soundness.{IsCommitOf, are_distinct};
 ghost use Rattle.plain_model.specs.declared.id.AnyId.TheVariants.{Commit};
 ghost use Rattle.reparent_laws.specs.Faults.{unless_fault};
 ghost use Rattle.reparent_laws.specs.Reparent.{
@@ -101,11 +102,9 @@ fn with_parents(
     rebase: bool,
 ) -> Result<Plan, NoMemory>
     requires agrees { AgreesWith events.now.list manifests.old }
-    ensures before { IfOk result (λ plan. plan.before ≡ events.now.list) }
-    ensures after { IfOk result (λ plan. plan.after
-        ≡ rewritten_all commit (reparents rebase events.now.list parents.now) events.now.list) }
-    ensures made_at { IfOk result (λ plan. plan.made_at ≡ events.now.next_id) }
-    ensures next { IfOk result (λ plan. plan.next ≡ events.now.next_id) }
+    ensures made { IfOk result (λ plan. plan
+        ≡ leaving events.now
+        (rewritten_all commit (reparents rebase events.now.list parents.now) events.now.list)) }
     ensures kept { AgreesWith events.now.list manifests.new }
 {
     let _count = events.count();
@@ -150,9 +149,7 @@ fn reparent_commit(
     requires once { IsTrue (are_distinct parents.now) }
     ensures answer { Returns (λ plan. plan.after) result
         (reparent_commit rebase events.now.list commit parents.now) }
-    ensures before { IfOk result (λ plan. plan.before ≡ events.now.list) }
-    ensures made_at { IfOk result (λ plan. plan.made_at ≡ events.now.next_id) }
-    ensures next { IfOk result (λ plan. plan.next ≡ events.now.next_id) }
+    ensures made { IfOk result (λ plan. plan ≡ leaving events.now plan.after) }
     ensures kept { AgreesWith events.now.list manifests.new }
 {
     let _count = events.count();
@@ -183,9 +180,7 @@ fn reparent_last(
     requires once { IsTrue (are_distinct commits.now) }
     ensures answer { Returns (λ plan. plan.after) result
         (reparent_last rebase events.now.list commits.now) }
-    ensures before { IfOk result (λ plan. plan.before ≡ events.now.list) }
-    ensures made_at { IfOk result (λ plan. plan.made_at ≡ events.now.next_id) }
-    ensures next { IfOk result (λ plan. plan.next ≡ events.now.next_id) }
+    ensures made { IfOk result (λ plan. plan ≡ leaving events.now plan.after) }
     ensures kept { AgreesWith events.now.list manifests.new }
 {
     match commits.split_last() {
@@ -227,12 +222,8 @@ pub fn reparent(
 ) -> Result<Plan, Halt>
     requires selection { IsSelection events.now.list set.now }
     requires agrees { AgreesWith events.now.list manifests.old }
-    ensures answer { Returns (λ plan. plan.after) result
+    ensures plans { Plans events.now events.now.next_id result
         (reparent_of use_order rebase set.now events.now.list) }
-    ensures before { IfOk result (λ plan. plan.before ≡ events.now.list) }
-    ensures made_at { IfOk result (λ plan. plan.made_at ≡ events.now.next_id) }
-    ensures next { IfOk result (λ plan. plan.next ≡ events.now.next_id) }
-    ensures sound { IfOk result (λ plan. IsSound plan.after) }
     ensures kept { AgreesWith events.now.list manifests.new }
 {
     let _count = events.count();

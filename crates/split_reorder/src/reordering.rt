@@ -2,9 +2,9 @@
 ghost use Rattle.std.specs.Prelude.{◌≡◌, ◌∷◌, None, IfOk, OnOk};
 ghost use Rattle.commit_laws.specs.Selected.{chosen, listed};
 ghost use Rattle.edit_laws.specs.Selecting.{IsSelection};
+ghost use Rattle.event_arena.specs.Plans.{Plans};
 ghost use Rattle.manifest_cache.specs.Kept.{AgreesWith};
 ghost use Rattle.plain_model.specs.Faults.{Returns};
-ghost use Rattle.plain_model.specs.Soundness.{IsSound};
 ghost use Rattle.reorder_laws.specs.Reorder.{
   filled,
   line_fault,
@@ -71,9 +71,7 @@ fn reorder_these(
     requires agrees { AgreesWith places.now.events manifests.old }
     ensures answer { Returns (λ made. made.after) result
         (reorder_these places.now.set places.now.events line.now wanted.now) }
-    ensures before { IfOk result (λ made. made.before ≡ plan.before) }
-    ensures made_at { IfOk result (λ made. made.made_at ≡ plan.made_at) }
-    ensures next { IfOk result (λ made. made.next ≡ plan.next) }
+    ensures made { IfOk result (λ made. made ≡ record plan { after = made.after }) }
     ensures kept { manifests.new ≡ manifests.old }
 {
     let _count = plan.old_count();
@@ -108,11 +106,8 @@ pub fn reorder(
 ) -> Result<Plan, Halt>
     requires selection { IsSelection events.now.list list.now }
     requires agrees { AgreesWith events.now.list manifests.old }
-    ensures answer { Returns (λ plan. plan.after) result (reorder_of list.now events.now.list) }
-    ensures before { IfOk result (λ plan. plan.before ≡ events.now.list) }
-    ensures made_at { IfOk result (λ plan. plan.made_at ≡ events.now.next_id) }
-    ensures next { IfOk result (λ plan. plan.next ≡ events.now.next_id) }
-    ensures sound { IfOk result (λ plan. IsSound plan.after) }
+    ensures plans { Plans events.now events.now.next_id result
+        (reorder_of list.now events.now.list) }
     ensures kept { manifests.new ≡ manifests.old }
 {
     let _count = events.count();

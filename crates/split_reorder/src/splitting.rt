@@ -1,19 +1,7 @@
 //! The plan of a split.
-ghost use Rattle.std.specs.Prelude.{
-  ◌≡◌,
-  ◌+◌,
-  ◌^◌,
-  ◌<◌,
-  ◌≤◌,
-  None,
-  length,
-  map,
-  IfOk,
-  IsSome,
-  OnOk,
-};
+ghost use Rattle.std.specs.Prelude.{◌≡◌, ◌+◌, ◌^◌, ◌<◌, ◌≤◌, None, length, map, IfOk, IsSome, OnOk};
 ghost use Rattle.commit_laws.specs.Selected.{node_of};
-ghost use Rattle.event_arena.specs.Plans.{Plans};
+ghost use Rattle.event_arena.specs.Plans.{Plans, leaving};
 ghost use Rattle.plain_model.specs.Lookups.{find_event};
 ghost use Rattle.plain_model.specs.declared.id.AnyId.TheVariants.{Commit};
 ghost use Rattle.split_laws.specs.Split.{split_at_of, split_by_of, split_from, split_list};
@@ -93,11 +81,10 @@ fn halved(
     requires within { kept ≤ length (node_of events.now.list commit).ops }
     requires there { IsSome (find_event (Commit commit) events.now.list) }
     requires room { events.now.next_id < 2 ^ 63 }
-    ensures before { IfOk result (λ plan. plan.before ≡ events.now.list) }
-    ensures after { IfOk result (λ plan. plan.after
-        ≡ split_list commit events.now.next_id mark kept events.now.list) }
-    ensures made_at { IfOk result (λ plan. plan.made_at ≡ events.now.next_id) }
-    ensures next { IfOk result (λ plan. plan.next ≡ events.now.next_id + 1) }
+    ensures { IfOk result (λ plan. plan
+        ≡ record (leaving events.now (split_list commit events.now.next_id mark kept events.now.list)) {
+          next = events.now.next_id + 1;
+        }) }
 {
     let _next = events.next_id();
     let mut plan = Plan::new(alloc, events)?;

@@ -1,5 +1,6 @@
 //! The plan of a squash.
 ghost use Rattle.std.specs.Prelude.{◌≡◌, map, IfOk, MatchOption, None, OnOk};
+ghost use Rattle.event_arena.specs.Plans.{Plans};
 ghost use Rattle.graph_walk.specs.Expansions.{AreFew, parent_changes};
 ghost use Rattle.manifest_cache.specs.Kept.{AgreesWith};
 ghost use Rattle.plain_model.specs.Faults.{Returns};
@@ -158,11 +159,8 @@ pub fn squash(
     how: Policy,
 ) -> Result<Plan, Halt>
     requires { AgreesWith events.now.list manifests.old }
-    ensures answer { Returns (λ plan. plan.after) result (squash_of how set.now events.now.list) }
-    ensures before { IfOk result (λ plan. plan.before ≡ events.now.list) }
-    ensures made_at { IfOk result (λ plan. plan.made_at ≡ events.now.next_id) }
-    ensures next { IfOk result (λ plan. plan.next ≡ events.now.next_id) }
-    ensures sound { IfOk result (λ plan. IsSound plan.after) }
+    ensures plans { Plans events.now events.now.next_id result
+        (squash_of how set.now events.now.list) }
     ensures kept { manifests.new ≡ manifests.old }
 {
     let _count = events.count();

@@ -5,6 +5,7 @@ use Rattle.plain_model.specs.declared.event.PlainEvent.{PlainEvent}
 use Rattle.plain_model.specs.Soundness.{IsCommitOf}
 use Rattle.ancestry_laws.specs.Ancestry.{descends}
 use Rattle.event_arena.proofs.SoundLemmas.{has_id-find}
+use Rattle.event_arena.specs.Graphs.{Change}
 use Rattle.edit_laws.specs.Settling.{settle}
 use Rattle.edit_laws.proofs.Sound.{in_parts}
 use Rattle.commit_laws.specs.Rewriting.{rewritten_all}
@@ -22,7 +23,7 @@ commit_mark-mark-requires c =
 
 pub put_in_order-requires : goal.put_in_order-requires
 put_in_order-requires c =
-    subst (λ (es : List PlainEvent). IsOk (settle es)) (sym c.in_ok-plan.ensures.after)
+    subst (λ (es : List PlainEvent). IsOk (settle es)) (ap (λ (p : Change). p.after) (sym c.in_ok-plan.ensures.made))
     (c.settling_comes_to_its_end.ensures.reparent c.args.rebase c.args.events.now.list c.args.commit c.args.parents.now c.count-count.ensures.sound c.requires.commit c.requires.parents c.requires.once
     (sym c.in_ok-found.ensures ∙ c.in_default.is))
 
@@ -31,5 +32,5 @@ judge_after-requires-clause-earlier c =
     let events = c.args.events.now.list in
     let how = reparents c.args.rebase events c.args.parents.now in
     let left = rewritten_all c.args.commit how events in
-    settled_linked left c.put_in_order.new.plan.after (ap settle (sym c.in_ok-plan.ensures.after) ∙ c.in_ok-put_in_order.ensures.settled)
+    settled_linked left c.put_in_order.new.plan.after (ap (λ (p : Change). settle p.after) (sym c.in_ok-plan.ensures.made) ∙ c.in_ok-put_in_order.ensures.settled)
     (once_same c.args.commit how events (in_parts events c.count-count.ensures.sound).once)

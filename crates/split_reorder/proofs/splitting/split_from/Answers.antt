@@ -4,6 +4,7 @@ use Rattle.plain_model.specs.declared.id.AnyId.TheVariants as any
 use Rattle.plain_model.specs.declared.operation.FileOp.{FileOp}
 use Rattle.edit_laws.specs.Passing.{limit_fault}
 use Rattle.event_arena.proofs.SoundLemmas.{has_id-find}
+use Rattle.event_arena.specs.Graphs.{Change}
 use Rattle.split_reorder.proofs.Halving.{never_given}
 use Rattle.plan_steps.proofs.Nodes.{there_with_ops}
 use Rattle.split_reorder.proofs.SplitDone.{split_done}
@@ -25,13 +26,13 @@ returns c =
     let high = subst (λ (ops : List FileOp). c.args.number ≤ length ops) c.ops_of.ensures.node c.if-ops_of-number.false in
     let there = there_with_ops events c.args.commit (omega arith) in
     let fresh = ap is_some (never_given copy events c.next_id-next.ensures.spent) in
-    let within = ap limit_fault (sym given.after) ∙ sym c.limit_passed.ensures ∙ c.in_default-limit_passed.is in
-    let done = split_done copy c.args.commit c.args.number c.in-Some.mark events plan.after low high (sym c.fresh_mark.ensures ∙ c.in-Some.is) given.after within in (
+    let within = ap (λ (p : Change). limit_fault p.after) (sym given) ∙ sym c.limit_passed.ensures ∙ c.in_default-limit_passed.is in
+    let done = split_done copy c.args.commit c.args.number c.in-Some.mark events plan.after low high (sym c.fresh_mark.ensures ∙ c.in-Some.is) (ap (λ (p : Change). p.after) given) within in (
       done,
       record {
-        before = given.before;
-        made_at = given.made_at;
-        next = given.next;
+        before = ap (λ (p : Change). p.before) given;
+        made_at = ap (λ (p : Change). p.made_at) given;
+        next = ap (λ (p : Change). p.next) given;
         sound = c.a_split_keeps_soundness.ensures.at copy c.args.number c.args.commit events plan.after c.count-count.ensures.sound
             (has_id-find events (any.Commit c.args.commit) ∙ there) (has_id-find events (any.Commit copy) ∙ fresh) done;
       },
