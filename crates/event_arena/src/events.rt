@@ -135,7 +135,7 @@ impl Events {
         self.table.event(id)
     }
 
-    /// The event before which so many are.
+    /// The event at this place, from 0.
     pub fn nth(&self, place: usize) -> &PlainEvent
         requires { place < length self.now.list }
         ensures event { slice_get self.now.list place ≡ Some result.now }

@@ -134,7 +134,7 @@ impl Plan {
         self.after.event(id)
     }
 
-    /// The event before which so many are after.
+    /// The event at this place after, from 0.
     pub fn nth(&self, place: usize) -> &PlainEvent
         requires { place < length self.now.after }
         ensures event { slice_get self.now.after place ≡ Some result.now }
@@ -151,7 +151,7 @@ impl Plan {
         self.after.place(id)
     }
 
-    /// The event before which so many were before.
+    /// The event at this place before, from 0.
     pub fn old_nth(&self, place: usize) -> &PlainEvent
         requires { place < length self.now.before }
         ensures event { slice_get self.now.before place ≡ Some result.now }

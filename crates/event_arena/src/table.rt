@@ -191,7 +191,7 @@ impl EventTable {
         self.store.event(self.rows.as_ref()[place].at)
     }
 
-    /// The event before which so many are.
+    /// The event at this place, from 0.
     pub fn nth(&self, place: usize) -> &PlainEvent
         requires { place < length self.now }
         ensures event { slice_get self.now place ≡ Some result.now }

@@ -28,7 +28,7 @@ pub fn event_of(events: &Events, id: AnyId) -> Option<&PlainEvent>
     events.event(id)
 }
 
-/// The event before which so many are. Its dates are within their limit, since the history is
+/// The event at this place, from 0. Its dates are within their limit, since the history is
 /// sound.
 pub fn event_at(events: &Events, place: usize) -> &PlainEvent
     requires { place < length events.now.list }

@@ -78,7 +78,7 @@ impl<'a> Removal<'a> {
         self.plan.count()
     }
 
-    /// The event before which so many are.
+    /// The event at this place, from 0.
     pub fn nth(&self, place: usize) -> &PlainEvent
         requires { place < length self.now.events }
         ensures event { slice_get self.now.events place ≡ Some result.now }

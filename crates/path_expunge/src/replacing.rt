@@ -9,7 +9,7 @@ ghost use Rattle.plain_model.specs.Trees.{IsTree, apply};
 
 use crate::clearing::{are_all_matched, is_clear};
 use crate::matching::Matching;
-use crate::rewriting::{push_rewritten, push_way};
+use crate::rewriting::{push_rewritten, push_way_clear};
 use path_tree::{ApplyFault, PathTree};
 use plain_model::{Copied, FileOp, NoMemory, OpList, Path, Steps};
 use std::alloc::Global;
@@ -81,7 +81,7 @@ fn push_replaced(
     match op {
         FileOp::Modify { path, .. } => {
             if matching.matches(path.as_bytes()) {
-                push_way(matching, path, old, new, made)
+                push_way_clear(matching, path, old, new, made)
             } else {
                 push_same(op, made)
             }

@@ -81,7 +81,7 @@ fn push_delete(path: &Path, made: &mut OpList) -> Result<(), NoMemory>
 }
 
 // Deletes each path that isn't matched and isn't in the new tree.
-fn push_gone(
+fn push_deletes(
     matching: &mut Matching<'_>,
     old: &[(Path, Entry)],
     new: &PathTree,
@@ -100,7 +100,7 @@ fn push_gone(
 }
 
 // Puts an entry at its path.
-fn push_put(path: &Path, entry: Entry, made: &mut OpList) -> Result<(), NoMemory>
+fn push_modify(path: &Path, entry: Entry, made: &mut OpList) -> Result<(), NoMemory>
     ensures { OnOk result
         (made.new ≡ made.old ++ FileOp.Modify entry.mode entry.content path.now ∷ []) }
 {
@@ -113,7 +113,7 @@ fn push_put(path: &Path, entry: Entry, made: &mut OpList) -> Result<(), NoMemory
 }
 
 // Puts each entry that isn't at a matched path and isn't in the old tree.
-fn push_come(
+fn push_new_entries(
     matching: &mut Matching<'_>,
     old: &PathTree,
     new: &[(Path, Entry)],
@@ -126,7 +126,7 @@ fn push_come(
 {
     for entry in new {
         if !matching.matches(entry.0.as_bytes()) && !has_entry(old.get(&entry.0), entry.1) {
-            push_put(&entry.0, entry.1, made)?;
+            push_modify(&entry.0, entry.1, made)?;
         }
     }
     Ok(())
@@ -171,9 +171,9 @@ pub fn push_rewritten(
     ensures same { matching.new ≡ matching.old }
 {
     let was = entries_gone(copied, source, target, old, new)?;
-    push_gone(matching, was.as_slice(), new, made)?;
+    push_deletes(matching, was.as_slice(), new, made)?;
     let is = new.entries_below(target)?;
-    push_come(matching, old, is.as_slice(), made)
+    push_new_entries(matching, old, is.as_slice(), made)
 }
 
 // Whether the second path is below the first.
@@ -203,7 +203,7 @@ fn is_free(path: &Path, old: &PathTree, new: &PathTree) -> bool
 }
 
 /// Deletes what gave way to what was put at a path, but for matched paths.
-pub fn push_way(
+pub fn push_way_clear(
     matching: &mut Matching<'_>,
     path: &Path,
     old: &PathTree,

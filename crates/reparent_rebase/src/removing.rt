@@ -86,7 +86,7 @@ fn removal_fault(alloc: Global, what: &Removal, ops: &[FileOp]) -> Result<Option
     }
 }
 
-// All operations but the one before which so many are.
+// All operations but the one at this place, from 0.
 fn without_place(alloc: Global, ops: &[FileOp], place: usize) -> Result<OpList, NoMemory>
     requires { place < length ops.now }
     ensures { IfOk result (λ made. made ≡ remove ops.now place) }

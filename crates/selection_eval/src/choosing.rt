@@ -14,7 +14,7 @@ fn id_at(ids: &[AnyId], place: usize) -> Option<AnyId>
     ids.get(place).copied()
 }
 
-// The event of a set before which so many are in its list, if there is one.
+// The event at this place of the list of a set, from 0, if there is one.
 fn one_of<'e>(alloc: Global, set: &EventSet<'e>, place: usize) -> Result<EventSet<'e>, NoMemory>
     ensures events { IfOk result (λ one. one.events ≡ set.now.events) }
     ensures ids { IfOk result (λ one. one.ids

@@ -15,11 +15,11 @@ returns-clause-made c =
     let new = c.args.new.now in
     let target = c.args.target.now in
     let come : List Matches → Tree → List FileOp = λ ms es. puts_of (filter (λ e. not (has_entry (at old e.0) e.1)) (restricted (matched_by ms) es)) in
-    on_ok c.push_come.result _ _ (λ is.
+    on_ok c.push_new_entries.result _ _ (λ is.
     is
-    ∙ ap (λ (es : Tree). c.push_gone.new.made ++ come c.push_gone.new.matching es) (c.as_slice-2.ensures ∙ c.in_ok-is.ensures)
-    ∙ ap (λ (ms : List Matches). c.push_gone.new.made ++ come ms (subtree target new)) c.push_gone.ensures.same
+    ∙ ap (λ (es : Tree). c.push_deletes.new.made ++ come c.push_deletes.new.matching es) (c.as_slice-2.ensures ∙ c.in_ok-is.ensures)
+    ∙ ap (λ (ms : List Matches). c.push_deletes.new.made ++ come ms (subtree target new)) c.push_deletes.ensures.same
     ∙ ap (λ (ops : List FileOp). ops ++ come c.args.matching.now (subtree target new))
-    (c.in_ok-push_gone.ensures.made ∙ ap (λ (es : Tree). c.args.made.now ++ deletes_of (gone_of m new es)) c.as_slice.ensures ∙ ap (λ (es : Tree). c.args.made.now ++ deletes_of es) (c.in_ok-was.ensures m))
+    (c.in_ok-push_deletes.ensures.made ∙ ap (λ (es : Tree). c.args.made.now ++ deletes_of (gone_of m new es)) c.as_slice.ensures ∙ ap (λ (es : Tree). c.args.made.now ++ deletes_of es) (c.in_ok-was.ensures m))
     ∙ append_assoc c.args.made.now (deletes_of (gone_of m new old)) (come c.args.matching.now (subtree target new))
-    ∙ ap (λ (ops : List FileOp). c.args.made.now ++ ops) (written c.args.source.now target old new c.requires.tree m c.args.copied c.requires.applied)) c.push_come.ensures.made
+    ∙ ap (λ (ops : List FileOp). c.args.made.now ++ ops) (written c.args.source.now target old new c.requires.tree m c.args.copied c.requires.applied)) c.push_new_entries.ensures.made

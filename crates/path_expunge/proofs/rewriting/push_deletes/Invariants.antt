@@ -2,7 +2,7 @@ use Rattle.std.proofs.Common.{◌≡◌, ◌++◌, drop, not}
 use Rattle.expunge_laws.specs.Replaced.{deletes_of, restricted}
 use Rattle.plain_model.specs.Trees.{has, where_path}
 use Rattle.expunge_laws.specs.Matching.{matched_by}
-use Rattle.path_expunge.proofs.rewriting.push_gone.Given as goal
+use Rattle.path_expunge.proofs.rewriting.push_deletes.Given as goal
 
 abbrev pub invariant-loop-entry : goal.invariant-loop-entry
 invariant-loop-entry l = record {

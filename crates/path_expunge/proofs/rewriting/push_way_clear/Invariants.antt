@@ -3,7 +3,7 @@ use Rattle.expunge_laws.specs.Replaced.{deletes_of, restricted}
 use Rattle.plain_model.specs.Paths.{do_conflict}
 use Rattle.plain_model.specs.Trees.{where_path}
 use Rattle.expunge_laws.specs.Matching.{matched_by}
-use Rattle.path_expunge.proofs.rewriting.push_way.Given as goal
+use Rattle.path_expunge.proofs.rewriting.push_way_clear.Given as goal
 
 abbrev pub invariant-loop-entry : goal.invariant-loop-entry
 invariant-loop-entry l = record {
