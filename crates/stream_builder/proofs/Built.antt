@@ -27,7 +27,7 @@ use Rattle.stream_builder.specs.declared.open.OpenCommit.{OpenCommit}
 use Rattle.stream_builder.specs.declared.open.Open.{Open}
 use Rattle.stream_builder.specs.declared.open.Open.TheVariants.{Nothing, Blob, Commit, Tag, Reset, Alias}
 use Rattle.stream_builder.specs.Building.{IsBuilt, open_of, ops_in, parents_in}
-use Rattle.stream_builder.specs.Minding.{HasAtMost, IsOpened, Minds, open_tree}
+use Rattle.stream_builder.specs.Agreement.{HasAtMost, IsOpened, TreesAgree, open_tree}
 
 pub open_count : (current : Open) → open_ops (open_of current) ≡ length (ops_in current)
 open_count Nothing = refl
@@ -40,7 +40,7 @@ open_count (Alias mark) = refl
 -- what was taken of the trees, and what is left
 abbrev pub Taken : Trees → OpenTree → List PlainEvent → Open → Type 0
 Taken left tree events current =
-    Minds left events [] [] × IsOpened tree (open_tree events (parents_in current) (ops_in current)) × HasAtMost left.most (open_tree events (parents_in current) (ops_in current))
+    TreesAgree left events [] [] × IsOpened tree (open_tree events (parents_in current) (ops_in current)) × HasAtMost left.most (open_tree events (parents_in current) (ops_in current))
 
 module _ (events : List PlainEvent) (current other : Open) (trees : Trees) (ops count : ℕ) (b : IsBuilt events current trees ops) (same : other ≡ current) (count_is : count ≡ length (ops_in other)) where
   counted : ops ≡ count_in events + length (ops_in other)
@@ -57,18 +57,18 @@ module _ (events : List PlainEvent) (current other : Open) (trees : Trees) (ops 
     pub sum_fits : ops - count + n ≤ MAX_OPERATIONS
     sum_fits = let all = counted in let most = b.within in omega (arith, all, most, count_is, within)
 
-    pub over : (o : Open) → o ≡ Nothing → Minds kept new [] [] → IsBuilt new o kept (ops - count + n)
-    over o is minds = subst (λ (x : Open). IsBuilt new x kept (ops - count + n)) (sym is) (record {
-      minds = minds;
+    pub over : (o : Open) → o ≡ Nothing → TreesAgree kept new [] [] → IsBuilt new o kept (ops - count + n)
+    over o is agrees = subst (λ (x : Open). IsBuilt new x kept (ops - count + n)) (sym is) (record {
+      agrees = agrees;
       counted = let all = counted in omega (arith, all, count_is, more);
       within = sum_fits;
     })
 
 -- an event begins where there is none
 pub begun : (events : List PlainEvent) (old current : Open) (trees left : Trees) (ops : ℕ) → IsBuilt events old trees ops → open_of old ≡ NoEvent → ops_in current ≡ []
-    → Minds left events (parents_in current) [] → IsBuilt events current left ops
-begun events old current trees left ops b none empty minds = record {
-  minds = subst (Minds left events (parents_in current)) (sym empty) minds;
+    → TreesAgree left events (parents_in current) [] → IsBuilt events current left ops
+begun events old current trees left ops b none empty agrees = record {
+  agrees = subst (TreesAgree left events (parents_in current)) (sym empty) agrees;
   counted =
       let all = b.counted in
       let own : open_ops (open_of old) ≡ 0 = (λ i. open_ops (none i)) in
@@ -81,7 +81,7 @@ begun events old current trees left ops b none empty minds = record {
 pub beside : (events new : List PlainEvent) (e : PlainEvent) (current : Open) (trees : Trees) (ops : ℕ) → IsBuilt events current trees ops → new ≡ with_event events e
     → nodes (e ∷ []) ≡ [] → ops_in_event e ≡ 0 → IsBuilt new current trees ops
 beside events new e current trees ops b is none no_ops = record {
-  minds = subst (λ (es : List PlainEvent). Minds trees es (parents_in current) (ops_in current)) (sym is) (one_beside trees events e none (parents_in current) (ops_in current) b.minds);
+  agrees = subst (λ (es : List PlainEvent). TreesAgree trees es (parents_in current) (ops_in current)) (sym is) (one_beside trees events e none (parents_in current) (ops_in current) b.agrees);
   counted =
       let all = b.counted in
       let more = ops_more events new e is in
@@ -91,9 +91,9 @@ beside events new e current trees ops b is none no_ops = record {
 
 -- a merge without a first parent is the first parent, and takes all files away
 pub merged_first : (events : List PlainEvent) (old new : OpenCommit) (trees left : Trees) (ops count : ℕ) → IsBuilt events (Commit old) trees ops
-    → new.ops ≡ DeleteAll ∷ [] → count ≡ ops - length old.ops + 1 → count ≤ MAX_OPERATIONS → Minds left events new.parents [] → left.opened ≡ NotFolded → IsBuilt events (Commit new) left count
-merged_first events old new trees left ops count b all_go is fits minds none = record {
-  minds = subst (λ (l : List FileOp). Minds left events new.parents l) (sym all_go) (emptied left events new.parents minds none);
+    → new.ops ≡ DeleteAll ∷ [] → count ≡ ops - length old.ops + 1 → count ≤ MAX_OPERATIONS → TreesAgree left events new.parents [] → left.opened ≡ NotFolded → IsBuilt events (Commit new) left count
+merged_first events old new trees left ops count b all_go is fits agrees none = record {
+  agrees = subst (λ (l : List FileOp). TreesAgree left events new.parents l) (sym all_go) (emptied left events new.parents agrees none);
   counted = let all = b.counted in let one : length new.ops ≡ 1 = (λ i. length (all_go i)) in omega (arith, all, is, one);
   within = fits;
 }
@@ -104,7 +104,7 @@ module _ (events new : List PlainEvent) (e : PlainEvent) (trees : Trees) (ops : 
   emptied_of old no_parents empty b =
       let after = beside events new e old trees ops b is none no_ops in
       record {
-        minds = subst (λ (l : List FileOp). Minds trees new [] l) empty (subst (λ (l : List ℕ). Minds trees new l (ops_in old)) no_parents after.minds);
+        agrees = subst (λ (l : List FileOp). TreesAgree trees new [] l) empty (subst (λ (l : List ℕ). TreesAgree trees new l (ops_in old)) no_parents after.agrees);
         counted = let all = after.counted in let own = open_count old in let zero : length (ops_in old) ≡ 0 = (λ i. length (empty i)) in omega (arith, all, own, zero);
         within = after.within;
       }

@@ -12,7 +12,7 @@ use Rattle.stream_builder.specs.declared.known.OpenTree.{OpenTree}
 use Rattle.stream_builder.specs.declared.known.OpenTree.TheVariants.{NotFolded}
 use Rattle.stream_builder.specs.declared.known.Trees.{Trees}
 use Rattle.stream_builder.specs.Keeping.{AreEarlier, IsEarlier}
-use Rattle.stream_builder.specs.Minding.{HasAtMost, IsOpened, Minds, open_tree}
+use Rattle.stream_builder.specs.Agreement.{HasAtMost, IsOpened, TreesAgree, open_tree}
 use Rattle.stream_builder.proofs.TreesAfter.{tree_beside, tree_after}
 
 -- what a commit begins with has no more paths than any tree
@@ -38,7 +38,7 @@ module _ (t : Trees) (events : List PlainEvent) (e : PlainEvent) where
       (same c own.1 ∙ own.0, let before = own.1 in let more = next_more events e in omega (arith, before, more))
 
   -- an event that is no commit is after the others
-  pub one_beside : nodes (e ∷ []) ≡ [] → (parents : List ℕ) (ops : List FileOp) → Minds t events parents ops → Minds t (with_event events e) parents ops
+  pub one_beside : nodes (e ∷ []) ≡ [] → (parents : List ℕ) (ops : List FileOp) → TreesAgree t events parents ops → TreesAgree t (with_event events e) parents ops
   one_beside none parents ops m =
       let same = tree_beside events e none in
       let begins_same : begun (tree (with_event events e)) parents ≡ begun (tree events) parents = go parents same in
@@ -54,7 +54,7 @@ module _ (t : Trees) (events : List PlainEvent) (e : PlainEvent) where
       go (p ∷ ps) same = same p
 
   -- a commit is after the others
-  module _ (commit : ℕ) (parents : List ℕ) (ops : List FileOp) (m : Minds t events [] []) (within : HasAtMost t.most (open_tree events parents ops))
+  module _ (commit : ℕ) (parents : List ℕ) (ops : List FileOp) (m : TreesAgree t events [] []) (within : HasAtMost t.most (open_tree events parents ops))
       (one : nodes (e ∷ []) ≡ record { id = commit; parents = parents; ops = ops } ∷ []) (is : commit ≡ next_id events) where
     there : (c : ℕ) → tree (with_event events e) c ≡ cond (commit == c) (open_tree events parents ops) (tree events c)
     there c = tree_after events e (record { id = commit; parents = parents; ops = ops }) one c
@@ -69,7 +69,7 @@ module _ (t : Trees) (events : List PlainEvent) (e : PlainEvent) where
         go true = within
         go false = m.all c
 
-    pub one_after : Minds t (with_event events e) [] []
+    pub one_after : TreesAgree t (with_event events e) [] []
     one_after = record {
       earlier = earlier_beside before t.kept m.earlier;
       is_opened = m.is_opened;
@@ -88,7 +88,7 @@ module _ (t : Trees) (events : List PlainEvent) (e : PlainEvent) where
     )
 
     -- other trees are kept
-    pub own_after : (kept : KeptTrees) → AreEarlier (with_event events e) kept → Minds (record { kept = kept; opened = t.opened; most = t.most }) (with_event events e) [] []
+    pub own_after : (kept : KeptTrees) → AreEarlier (with_event events e) kept → TreesAgree (record { kept = kept; opened = t.opened; most = t.most }) (with_event events e) [] []
     own_after kept earlier = record {
       earlier = earlier;
       is_opened = m.is_opened;
@@ -97,7 +97,7 @@ module _ (t : Trees) (events : List PlainEvent) (e : PlainEvent) where
     }
 
 -- all files of a commit go
-pub emptied : (t : Trees) (events : List PlainEvent) (parents : List ℕ) → Minds t events parents [] → t.opened ≡ NotFolded → Minds t events parents (DeleteAll ∷ [])
+pub emptied : (t : Trees) (events : List PlainEvent) (parents : List ℕ) → TreesAgree t events parents [] → t.opened ≡ NotFolded → TreesAgree t events parents (DeleteAll ∷ [])
 emptied t events parents m none = record {
   earlier = m.earlier;
   is_opened = subst (λ (o : OpenTree). IsOpened o (open_tree events parents (DeleteAll ∷ []))) (sym none) tt;

@@ -21,7 +21,7 @@ use Rattle.stream_builder.specs.declared.open.Open.{Open}
 use Rattle.stream_builder.specs.declared.open.Open.TheVariants.{Commit}
 use Rattle.stream_builder.specs.declared.open.OpenCommit.{OpenCommit}
 use Rattle.stream_builder.specs.Building.{commit_of, known_of, open_of, with_op}
-use Rattle.stream_builder.specs.Minding.{open_tree}
+use Rattle.stream_builder.specs.Agreement.{open_tree}
 use Rattle.stream_builder.specs.Operating.{PutsLast}
 
 length_last : (ops : List FileOp) (op : FileOp) → length (ops ++ op ∷ []) ≡ length ops + 1

@@ -13,7 +13,7 @@ use Rattle.history_laws.proofs.LineLaws.{folded_more}
 use Rattle.stream_builder.specs.declared.known.OpenTree.{OpenTree}
 use Rattle.stream_builder.specs.declared.known.OpenTree.TheVariants.{NotFolded, Folded}
 use Rattle.stream_builder.specs.declared.known.Trees.{Trees}
-use Rattle.stream_builder.specs.Minding.{HasAtMost, IsOpened, Minds, open_tree}
+use Rattle.stream_builder.specs.Agreement.{HasAtMost, IsOpened, TreesAgree, open_tree}
 use Rattle.stream_builder.specs.Pushing.{Applies, CanApply, is_folded, may_be_refused, most_after}
 use Rattle.stream_builder.proofs.TreeSizes.{modified, deleted}
 
@@ -25,7 +25,7 @@ at_most_more m n (Some t) le h = omega (arith, le, h)
 one_more : (events : List PlainEvent) (parents : List ℕ) (ops : List FileOp) (op : FileOp) → open_tree events parents (ops ++ op ∷ []) ≡ folded (op ∷ []) (open_tree events parents ops)
 one_more events parents ops op = folded_more ops (op ∷ []) (begun (tree events) parents)
 
-module _ (t : Trees) (events : List PlainEvent) (parents : List ℕ) (ops : List FileOp) (op : FileOp) (m : Minds t events parents ops) where
+module _ (t : Trees) (events : List PlainEvent) (parents : List ℕ) (ops : List FileOp) (op : FileOp) (m : TreesAgree t events parents ops) where
   expected : Option Tree
   expected = open_tree events parents ops
 
@@ -38,7 +38,7 @@ module _ (t : Trees) (events : List PlainEvent) (parents : List ℕ) (ops : List
     new_is : new ≡ open_tree events parents (ops ++ op ∷ [])
     new_is = applied.0 ∙ ap (folded (op ∷ [])) found_is ∙ sym (one_more events parents ops op)
 
-    pub on_folded : Minds (record { kept = t.kept; opened = Folded new; most = most }) events parents (ops ++ op ∷ []) × (limit_on op (open_tree events parents ops) ≡ None)
+    pub on_folded : TreesAgree (record { kept = t.kept; opened = Folded new; most = most }) events parents (ops ++ op ∷ []) × (limit_on op (open_tree events parents ops) ≡ None)
     on_folded = (
       record {
         earlier = m.earlier;
@@ -87,7 +87,7 @@ module _ (t : Trees) (events : List PlainEvent) (parents : List ℕ) (ops : List
     here : AppliesTo op (open_tree events parents ops)
     here = applies_to op may most_is (open_tree events parents ops) m.own
 
-    pub on_none : Minds (record { kept = t.kept; opened = t.opened; most = most }) events parents (ops ++ op ∷ []) × (limit_on op (open_tree events parents ops) ≡ None)
+    pub on_none : TreesAgree (record { kept = t.kept; opened = t.opened; most = most }) events parents (ops ++ op ∷ []) × (limit_on op (open_tree events parents ops) ≡ None)
     on_none = (
       record {
         earlier = m.earlier;

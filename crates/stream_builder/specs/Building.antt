@@ -15,7 +15,7 @@ use Rattle.stream_builder.specs.declared.known.Trees.{Trees}
 use Rattle.stream_builder.specs.declared.open.Open.{Open}
 use Rattle.stream_builder.specs.declared.open.Open.TheVariants.{Nothing, Blob, Commit, Tag, Reset, Alias}
 use Rattle.stream_builder.specs.declared.open.OpenCommit.{OpenCommit}
-use Rattle.stream_builder.specs.Minding.{Minds}
+use Rattle.stream_builder.specs.Agreement.{TreesAgree}
 
 abbrev pub commit_of : OpenCommit → KnownCommit
 commit_of c = record {
@@ -59,7 +59,7 @@ known_of events aliases current = record { events = events; current = open_of cu
 
 -- what is kept beside the events: the trees, and how many operations there are
 pub record IsBuilt (events : List PlainEvent) (current : Open) (trees : Trees) (ops : ℕ) : Type 0 where
-  pub minds : Minds trees events (parents_in current) (ops_in current)
+  pub agrees : TreesAgree trees events (parents_in current) (ops_in current)
   pub counted : ops ≡ op_count (known_of events [] current)
   pub within : ops ≤ MAX_OPERATIONS
 

@@ -1,6 +1,6 @@
 pub mod Judging
 pub mod Building
-pub mod Minding
+pub mod Agreement
 pub mod Pushing
 pub mod Operating
 pub mod Lines

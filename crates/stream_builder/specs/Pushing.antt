@@ -12,7 +12,7 @@ use Rattle.stream_builder.specs.declared.fault.LineFault.TheVariants as line
 use Rattle.stream_builder.specs.declared.known.OpenTree.{OpenTree}
 use Rattle.stream_builder.specs.declared.known.OpenTree.TheVariants.{NotFolded, Folded}
 use Rattle.stream_builder.specs.declared.known.Trees.{Trees}
-use Rattle.stream_builder.specs.Minding.{HasAtMost, Minds, open_tree}
+use Rattle.stream_builder.specs.Agreement.{HasAtMost, TreesAgree, open_tree}
 
 -- the tree was folded
 abbrev pub is_folded : OpenTree → Bool
@@ -48,7 +48,7 @@ Applies op old (Err (line.Bad why)) new = ⊥
 
 -- the operation is after the others, or it passes a limit
 abbrev pub Pushes : List PlainEvent → List ℕ → List FileOp → FileOp → Result (Unit {0}) LineFault → Trees → Type 0
-Pushes events parents ops op (Ok tt) new = Minds new events parents (ops ++ op ∷ []) × (limit_on op (open_tree events parents ops) ≡ None)
-Pushes events parents ops op (Err (line.Limit which)) new = Minds new events parents ops × (limit_on op (open_tree events parents ops) ≡ Some which)
-Pushes events parents ops op (Err line.Memory) new = Minds new events parents ops
+Pushes events parents ops op (Ok tt) new = TreesAgree new events parents (ops ++ op ∷ []) × (limit_on op (open_tree events parents ops) ≡ None)
+Pushes events parents ops op (Err (line.Limit which)) new = TreesAgree new events parents ops × (limit_on op (open_tree events parents ops) ≡ Some which)
+Pushes events parents ops op (Err line.Memory) new = TreesAgree new events parents ops
 Pushes events parents ops op (Err (line.Bad why)) new = ⊥

@@ -3,7 +3,7 @@ ghost use Rattle.std.specs.Prelude.{◌≡◌, [], length, unwrap_or, IfOk, OnEr
 ghost use Rattle.stream_grammar.specs.Known.{closed, closed_commit};
 ghost use Rattle.stream_grammar.specs.Limits.{ops_in as count_in};
 ghost use Rattle.stream_builder.specs.Building.{commit_of, known_of, ops_in, parents_in};
-ghost use Rattle.stream_builder.specs.Minding.{HasAtMost, IsOpened, Minds, open_tree};
+ghost use Rattle.stream_builder.specs.Agreement.{HasAtMost, IsOpened, TreesAgree, open_tree};
 
 use crate::known::{OpenTree, Trees};
 use crate::open::{Open, OpenCommit};
@@ -43,10 +43,10 @@ fn push_commit(
         (drafts.new ≡ closed_commit drafts.old (commit_of commit) commit.committer) }
     ensures count { IfOk result (λ n. count_in drafts.new ≡ count_in drafts.old + n) }
     ensures within { IfOk result (λ n. n ≤ length commit.ops) }
-    ensures trees { OnOk result (Minds trees.old drafts.old [] [] →
+    ensures trees { OnOk result (TreesAgree trees.old drafts.old [] [] →
         IsOpened tree (open_tree drafts.old commit.parents commit.ops) →
         HasAtMost trees.old.most (open_tree drafts.old commit.parents commit.ops) →
-        Minds trees.new drafts.new [] []) }
+        TreesAgree trees.new drafts.new [] []) }
     ensures err { OnErr result ((drafts.new ≡ drafts.old) × (trees.new ≡ trees.old)) }
 {
     let OpenCommit {
@@ -91,10 +91,10 @@ pub fn push_open(
     ensures events { OnOk result (drafts.new ≡ closed (known_of drafts.old [] current)) }
     ensures count { IfOk result (λ n. count_in drafts.new ≡ count_in drafts.old + n) }
     ensures within { IfOk result (λ n. n ≤ length (ops_in current)) }
-    ensures trees { OnOk result (Minds trees.old drafts.old [] [] →
+    ensures trees { OnOk result (TreesAgree trees.old drafts.old [] [] →
         IsOpened tree (open_tree drafts.old (parents_in current) (ops_in current)) →
         HasAtMost trees.old.most (open_tree drafts.old (parents_in current) (ops_in current)) →
-        Minds trees.new drafts.new [] []) }
+        TreesAgree trees.new drafts.new [] []) }
     ensures err { OnErr result ((drafts.new ≡ drafts.old) × (trees.new ≡ trees.old)) }
 {
     match current {

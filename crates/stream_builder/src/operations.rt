@@ -2,7 +2,7 @@
 ghost use Rattle.std.specs.Prelude.{◌≡◌, ◌∷◌, ◌++◌, [], codes};
 ghost use Rattle.stream_fields.specs.Answers.{Gives};
 ghost use Rattle.stream_grammar.specs.Known.{modify_after};
-ghost use Rattle.stream_builder.specs.Minding.{Minds};
+ghost use Rattle.stream_builder.specs.Agreement.{TreesAgree};
 ghost use Rattle.stream_builder.specs.Operating.{PutsLast};
 
 use crate::fault::LineFault;
@@ -40,7 +40,7 @@ pub fn put_last(
     commit: &mut OpenCommit,
     op: FileOp,
 ) -> Result<(), LineFault>
-    requires { Minds trees.old drafts.now commit.old.parents commit.old.ops }
+    requires { TreesAgree trees.old drafts.now commit.old.parents commit.old.ops }
     ensures { PutsLast drafts.now commit.old op result commit.new trees.new }
 {
     let before = commit.ops.as_slice().len();

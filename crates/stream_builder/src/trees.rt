@@ -7,10 +7,10 @@ ghost use Rattle.plain_model.specs.Histories.{begun, nodes, tree};
 ghost use Rattle.plain_model.specs.Trees.{Tree};
 ghost use Rattle.stream_builder.specs.declared.known.OpenTree.TheVariants.{NotFolded};
 ghost use Rattle.stream_builder.specs.Keeping.{AreEarlier};
-ghost use Rattle.stream_builder.specs.Minding.{
+ghost use Rattle.stream_builder.specs.Agreement.{
   HasAtMost,
   IsOpened,
-  Minds,
+  TreesAgree,
   open_tree,
 };
 ghost use Rattle.stream_builder.specs.Pushing.{
@@ -107,7 +107,7 @@ fn apply_to(tree: &mut Option<PathTree>, op: &FileOp) -> Result<u64, LineFault>
 impl Trees {
     /// Before the first event.
     pub fn new(alloc: Global) -> Trees
-        ensures { Minds result [] [] [] }
+        ensures { TreesAgree result [] [] [] }
     {
         Trees {
             kept: KeptTrees::new(alloc),
@@ -148,8 +148,8 @@ impl Trees {
         parents: &[CommitId],
         ops: &[FileOp],
     ) -> Result<(), NoMemory>
-        requires { Minds self.old drafts.now parents.now ops.now }
-        ensures kept { Minds self.new drafts.now parents.now ops.now }
+        requires { TreesAgree self.old drafts.now parents.now ops.now }
+        ensures kept { TreesAgree self.new drafts.now parents.now ops.now }
         ensures folded { OnOk result (is_folded self.new.opened ≡ true) }
     {
         if self.is_folded() {
@@ -163,7 +163,7 @@ impl Trees {
     }
 
     /// The commit has these parents and operations from now on.
-    pub fn turn_to(
+    pub fn restart(
         &mut self,
         alloc: Global,
         drafts: &Drafts,
@@ -171,10 +171,10 @@ impl Trees {
         ops: &[FileOp],
     ) -> Result<(), NoMemory>
         requires { AreEarlier drafts.now self.old.kept }
-        ensures ok { OnOk result ((p : List ℕ) → (o : List FileOp) → Minds self.old drafts.now p o →
-            Minds self.new drafts.now parents.now ops.now) }
-        ensures err { OnErr result ((p : List ℕ) → (o : List FileOp) → Minds self.old drafts.now p o →
-            Minds self.new drafts.now p o) }
+        ensures ok { OnOk result ((p : List ℕ) → (o : List FileOp) → TreesAgree self.old drafts.now p o →
+            TreesAgree self.new drafts.now parents.now ops.now) }
+        ensures err { OnErr result ((p : List ℕ) → (o : List FileOp) → TreesAgree self.old drafts.now p o →
+            TreesAgree self.new drafts.now p o) }
     {
         if ops.is_empty() {
             self.opened = OpenTree::NotFolded;
@@ -191,7 +191,7 @@ impl Trees {
     pub fn forget(&mut self)
         ensures gone { self.new.opened ≡ NotFolded }
         ensures kept { (events : List PlainEvent) → (parents : List ℕ) → (ops : List FileOp) →
-            (others : List ℕ) → Minds self.old events parents ops → Minds self.new events others [] }
+            (others : List ℕ) → TreesAgree self.old events parents ops → TreesAgree self.new events others [] }
     {
         self.opened = OpenTree::NotFolded;
     }
@@ -199,8 +199,8 @@ impl Trees {
     /// The tree of the commit that was read, which is over.
     pub fn take(&mut self) -> OpenTree
         ensures { (events : List PlainEvent) → (parents : List ℕ) → (ops : List FileOp) →
-            Minds self.old events parents ops →
-            Minds self.new events [] [] × IsOpened result (open_tree events parents ops)
+            TreesAgree self.old events parents ops →
+            TreesAgree self.new events [] [] × IsOpened result (open_tree events parents ops)
             × HasAtMost self.new.most (open_tree events parents ops) }
     {
         mem::replace(&mut self.opened, OpenTree::NotFolded)
@@ -209,11 +209,11 @@ impl Trees {
     /// A commit is after the other events, with its tree, if it was folded.
     pub fn keep(&mut self, commit: CommitId, tree: OpenTree)
         ensures { (events : List PlainEvent) → (e : PlainEvent) → (parents : List ℕ) →
-            (ops : List FileOp) → Minds self.old events [] [] →
+            (ops : List FileOp) → TreesAgree self.old events [] [] →
             IsOpened tree (open_tree events parents ops) →
             HasAtMost self.old.most (open_tree events parents ops) →
             nodes (e ∷ []) ≡ record { id = commit; parents = parents; ops = ops } ∷ [] →
-            commit ≡ next_id events → Minds self.new (with_event events e) [] [] }
+            commit ≡ next_id events → TreesAgree self.new (with_event events e) [] [] }
     {
         if let OpenTree::Folded(Some(tree)) = tree {
             self.kept.put(commit, tree);
@@ -235,7 +235,7 @@ impl Trees {
     // Applies an operation that can't be refused, or to the tree that was folded.
     fn apply(&mut self, op: &FileOp) -> Result<(), LineFault>
         ensures { (events : List PlainEvent) → (parents : List ℕ) → (ops : List FileOp) →
-            Minds self.old events parents ops → CanApply self.old op.now →
+            TreesAgree self.old events parents ops → CanApply self.old op.now →
             Pushes events parents ops op.now result self.new }
     {
         match &mut self.opened {
@@ -259,7 +259,7 @@ impl Trees {
         ops: &[FileOp],
         op: &FileOp,
     ) -> Result<(), LineFault>
-        requires { Minds self.old drafts.now parents.now ops.now }
+        requires { TreesAgree self.old drafts.now parents.now ops.now }
         ensures { Pushes drafts.now parents.now ops.now op.now result self.new }
     {
         if may_be_refused(self.most, op) {

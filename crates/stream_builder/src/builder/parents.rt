@@ -67,7 +67,7 @@ impl Builder {
                 let parents = Items::of(alloc, &[commit])?;
                 let ops = open.ops.as_slice();
                 self.trees
-                    .turn_to(alloc, &self.drafts, parents.as_slice(), ops)?;
+                    .restart(alloc, &self.drafts, parents.as_slice(), ops)?;
                 open.parents = parents;
             }
             Open::Tag { target, .. } => *target = commit,

@@ -2,7 +2,7 @@ use Rattle.std.proofs.Common.{◌+◌, List, [], length, sym, ap, subst, ◌∙�
 use Rattle.plain_model.specs.declared.event.PlainEvent.{PlainEvent}
 use Rattle.plain_model.specs.declared.operation.FileOp.{FileOp}
 use Rattle.stream_grammar.specs.Limits.{ops_in}
-use Rattle.stream_builder.specs.Minding.{HasAtMost, IsOpened, Minds, open_tree}
+use Rattle.stream_builder.specs.Agreement.{HasAtMost, IsOpened, TreesAgree, open_tree}
 use Rattle.stream_builder.proofs.Counting.{ops_more, same_node}
 use Rattle.stream_builder.proofs.closing.push_commit.Goals as goal
 
@@ -14,7 +14,7 @@ pub returns-clause-trees : goal.returns-clause-trees
 returns-clause-trees c = λ m opened within.
     let parents = c.args.commit.parents in
     let shared = sym c.in_ok-ops.ensures in
-    subst (λ (es : List PlainEvent). Minds c.keep.new.self es [] []) (sym c.in_ok-id.ensures.ok)
+    subst (λ (es : List PlainEvent). TreesAgree c.keep.new.self es [] []) (sym c.in_ok-id.ensures.ok)
     (c.keep.ensures c.args.drafts.now _ parents c.in_ok-ops.ops m
     (subst (λ (l : List FileOp). IsOpened c.args.tree (open_tree c.args.drafts.now parents l)) shared opened)
     (subst (λ (l : List FileOp). HasAtMost c.args.trees.now.most (open_tree c.args.drafts.now parents l)) shared within)

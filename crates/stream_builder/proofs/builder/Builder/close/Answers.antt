@@ -13,7 +13,7 @@ overflow_add-self c =
 pub invariant_of-self-2 : goal.invariant_of-self-2
 invariant_of-self-2 c =
     let taken = subst (λ (o : Open). Taken c.take-tree.new.self c.take-tree.result c.self.inside.drafts o) (sym c.replace-current.ensures.value)
-    (c.take-tree.ensures c.self.inside.drafts (parents_in c.self.inside.current) (ops_in c.self.inside.current) c.self.invariant.minds) in
+    (c.take-tree.ensures c.self.inside.drafts (parents_in c.self.inside.current) (ops_in c.self.inside.current) c.self.invariant.agrees) in
     over c.self.inside.drafts c.self.inside.current c.replace-current.result c.self.inside.trees c.self.inside.ops c.count_ops.result c.self.invariant
     c.replace-current.ensures.value c.count_ops.ensures c.push_open.new.drafts c.push_open.new.trees c.in_ok-count.count c.in_ok-count.ensures.count c.in_ok-count.ensures.within
     c.replace-current.new.dest c.replace-current.ensures.after (c.in_ok-count.ensures.trees taken.0 taken.1 taken.2)

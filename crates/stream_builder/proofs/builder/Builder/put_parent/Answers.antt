@@ -14,5 +14,5 @@ invariant_of-self-then-is_empty c =
     c.self.inside.trees c.forget.new.self c.self.inside.ops (c.self.inside.ops - length c.as_slice-then-is_empty.result.now + 1)
     (subst (λ (o : Open). IsBuilt c.self.inside.drafts o c.self.inside.trees c.self.inside.ops) c.in-Commit.is c.self.invariant)
     c.in_ok-ops.ensures (ap (λ (l : List FileOp). c.self.inside.ops - length l + 1) c.as_slice-then-is_empty.ensures) fits
-    (c.forget.ensures.kept c.self.inside.drafts (parents_in c.self.inside.current) (ops_in c.self.inside.current) c.in_ok-parents.parents c.self.invariant.minds)
+    (c.forget.ensures.kept c.self.inside.drafts (parents_in c.self.inside.current) (ops_in c.self.inside.current) c.in_ok-parents.parents c.self.invariant.agrees)
     c.forget.ensures.gone

@@ -1,7 +1,7 @@
 use Rattle.std.proofs.Common.{subst, sym, ◌∙◌}
 use Rattle.stream_grammar.specs.Known.{with_event}
 use Rattle.stream_builder.specs.declared.known.OpenTree.{OpenTree}
-use Rattle.stream_builder.specs.Minding.{IsOpened, open_tree}
+use Rattle.stream_builder.specs.Agreement.{IsOpened, open_tree}
 use Rattle.stream_builder.proofs.Kept.{earlier_after, one_after, own_after, own_earlier}
 use Rattle.stream_builder.proofs.known.Trees.keep.Goals as goal
 

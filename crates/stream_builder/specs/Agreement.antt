@@ -24,7 +24,7 @@ IsOpened NotFolded expected = Unit {0}
 IsOpened (Folded t) expected = t ≡ expected
 
 -- what is known agrees with a history, and with a commit that has these parents and operations so far
-pub record Minds (t : Trees) (events : List PlainEvent) (parents : List ℕ) (ops : List FileOp) : Type 0 where
+pub record TreesAgree (t : Trees) (events : List PlainEvent) (parents : List ℕ) (ops : List FileOp) : Type 0 where
   pub earlier : AreEarlier events t.kept
   pub is_opened : IsOpened t.opened (open_tree events parents ops)
   pub all : (c : ℕ) → HasAtMost t.most (tree events c)
