@@ -19,7 +19,7 @@ use Rattle.plain_model.specs.Soundness.{AreSoundAfter, IsCommitOf, IsFormedEvent
 use Rattle.plain_model.specs.Streams.{is_marked}
 use Rattle.plain_model.specs.Trees.{Tree}
 use Rattle.plain_model.proofs.Numbers.{eqb_lower}
-use Rattle.event_arena.proofs.SoundLemmas.{has_id-find}
+use Rattle.history_laws.proofs.SoundOnce.{has_id-find}
 use Rattle.history_laws.proofs.Commits.{nodes_append}
 use Rattle.std.proofs.Math.Bool.{or-false, or-true}
 use Rattle.history_laws.proofs.Ids.{has_id-append, is_marked-append}

@@ -1,5 +1,5 @@
 -- A coalescing adds nothing, and keeps the limits.
-use Rattle.std.proofs.Common.{◌≡◌, ℕ, ◌≤◌, List, [], ◌∷◌, length, refl, sym, ◌∙◌, arith, le_trans}
+use Rattle.std.proofs.Common.{◌≡◌, ℕ, ◌≤◌, List, [], ◌∷◌, length, refl, arith, le_trans}
 use Rattle.plain_model.specs.declared.id.AnyId.{AnyId}
 use Rattle.plain_model.specs.declared.event.PlainEvent.{PlainEvent}
 use Rattle.plain_model.specs.declared.operation.FileOp.{FileOp}
@@ -7,12 +7,13 @@ use Rattle.plain_model.specs.Histories.{nodes}
 use Rattle.plain_model.specs.Lookups.{AreIdsBelow}
 use Rattle.plain_model.specs.Soundness.{IsSound}
 use Rattle.history_laws.specs.FirstParents.{ops_along}
-use Rattle.event_arena.proofs.SoundLemmas.{has_id-find}
+use Rattle.edit_laws.specs.Keeping.{AddsNothing}
 use Rattle.edit_laws.specs.Passing.{IsWithinLimits}
-use Rattle.coalesce_laws.specs.Remaining.{AddsNothing, weigh}
+use Rattle.edit_laws.proofs.Edits.{fewer_below}
+use Rattle.squash_laws.proofs.Added.{adds_nothing}
+use Rattle.coalesce_laws.specs.Remaining.{weigh}
 use Rattle.coalesce_laws.proofs.Coalesced.{done, few_parents, joins, new, set}
 use Rattle.coalesce_laws.proofs.MovedOps.{same_operations}
-use Rattle.coalesce_laws.proofs.Pushed.{adds_nothing}
 
 -- each operation counts for one
 each_one : (ops : List FileOp) → weigh (λ op. 1) ops ≡ length ops
@@ -21,10 +22,10 @@ each_one (op ∷ ops) = let rest = each_one ops in omega arith
 
 module _ (seconds : ℕ) (sel : List AnyId) (events : List PlainEvent) (h : IsSound events) where
   pub added_nothing : AddsNothing events (new seconds sel events h)
-  added_nothing = adds_nothing (set seconds sel events h) events (joins seconds sel events h) (new seconds sel events h) (done seconds sel events h)
+  added_nothing = adds_nothing (set seconds sel events h) events (joins seconds sel events h) events (new seconds sel events h) (done seconds sel events h)
 
   pub still_below : (next : ℕ) → AreIdsBelow next events → AreIdsBelow next (new seconds sel events h)
-  still_below next below id there = below id (sym (has_id-find events id) ∙ added_nothing.ids id (has_id-find (new seconds sel events h) id ∙ there))
+  still_below next below = fewer_below events (new seconds sel events h) next added_nothing.ids below
 
   pub still_within : IsWithinLimits events → IsWithinLimits (new seconds sel events h)
   still_within within = record {

@@ -13,33 +13,34 @@ use Rattle.plain_model.specs.Histories.{Node, node_at, nodes, past, tree}
 use Rattle.plain_model.specs.Lookups.{find_event, id_of, is_listed}
 use Rattle.plain_model.specs.Soundness.{IsCommitOf, IsSound, are_distinct, has_id}
 use Rattle.history_laws.specs.FirstParents.{ops_along}
+use Rattle.history_laws.proofs.Ids.{each_found}
 use Rattle.history_laws.proofs.Lists.{all_imply}
 use Rattle.ancestry_laws.proofs.Pasts.{all_reverse, linked_past}
-use Rattle.event_arena.proofs.SoundLemmas.{sound-once}
+use Rattle.history_laws.proofs.SoundOnce.{sound-once}
 use Rattle.edit_laws.specs.Blobs.{HasBytesOf}
 use Rattle.edit_laws.specs.Equations.{Fits}
+use Rattle.edit_laws.specs.Keeping.{HasTreesOf, IsOneOf}
 use Rattle.edit_laws.specs.Parts.{CanBeSettled, HasFewParents, IsLawful}
 use Rattle.edit_laws.specs.Removal.{expand}
 use Rattle.edit_laws.specs.Sweeping.{is_left_over}
+use Rattle.edit_laws.proofs.Fine.{IsFine}
 use Rattle.edit_laws.proofs.Lists.{OfNodes, all_filter, all_flat, events_of_nodes, nodes_of_events}
-use Rattle.edit_laws.proofs.Settles.{settled_all, settled_ids, settled_sound, settled_trees, settling_ends, sound_settles}
+use Rattle.edit_laws.proofs.Settles.{fine_nodes, settled_all, settled_ids, settled_sound, settled_trees, settling_ends, sound_settles}
 use Rattle.edit_laws.proofs.Shown.{has_own_bytes, shown_alike}
 use Rattle.edit_laws.proofs.Sound.{in_parts}
 use Rattle.edit_laws.proofs.Swept.{swept_commit, swept_nodes}
+use Rattle.edit_laws.proofs.Trees.{nodes_found}
 use Rattle.squash_laws.specs.Removed.{Takings, all_left, is_removed, left_of, parents_after, without_set}
 use Rattle.squash_laws.specs.Squash.{links}
 use Rattle.squash_laws.specs.declared.policy.Lean.TheVariants as lean
 use Rattle.squash_laws.specs.declared.policy.Push.TheVariants as push
 use Rattle.squash_laws.proofs.Forward.{left_fits}
-use Rattle.squash_laws.proofs.Left.{IsFine, commits_left, one_left, one_moved, without_settles}
-use Rattle.squash_laws.proofs.Shows.{found}
-use Rattle.squash_laws.proofs.Squashed.{fine_nodes}
+use Rattle.squash_laws.proofs.Left.{commits_left, one_left, one_moved, without_settles}
 use Rattle.squash_laws.proofs.Takes.{taken_ops, target_stays}
 use Rattle.coalesce_laws.specs.Coalesce.{coalesce_of, coalesced, joined_ones}
 use Rattle.expunge_laws.specs.PushForward.{comment_taken, forward_takes}
-use Rattle.coalesce_laws.specs.Remaining.{IsOneOf, KeepsTrees, TakesOver, parents_of_oldest}
+use Rattle.coalesce_laws.specs.Remaining.{TakesOver, parents_of_oldest}
 use Rattle.coalesce_laws.proofs.Joined.{all_single}
-use Rattle.coalesce_laws.proofs.Pushed.{each_found}
 use Rattle.coalesce_laws.proofs.Single.{AreSingle, few_all, few_expanded, few_none, none_anew, of_oldest}
 
 module _ (seconds : ℕ) (sel : List AnyId) (events : List PlainEvent) (h : IsSound events) where
@@ -160,7 +161,7 @@ module _ (seconds : ℕ) (sel : List AnyId) (events : List PlainEvent) (h : IsSo
       (all_filter (HasBytesOf events) (λ e. not (is_left_over events left e)) left
       (all_flat (HasBytesOf events) (HasBytesOf events) (left_of set events joins) bytes_left events (has_own_bytes events (in_parts events h).once))) done
 
-  pub keeps_trees : KeepsTrees events new
+  pub keeps_trees : HasTreesOf events new
   keeps_trees = record {
     trees = same_trees;
     shown = λ c there. shown_alike events new same_bytes (sound_settles new stays_sound).complete c c (same_trees c there);
@@ -246,7 +247,7 @@ module _ (seconds : ℕ) (sel : List AnyId) (events : List PlainEvent) (h : IsSo
   pub all_over : AllByRecursion (TakesOver set events) (nodes new)
   all_over =
       let left = all_left set events joins in
-      let its = subst (AllByRecursion (λ (n : Node). node_at (past events) n.id ≡ Some n)) (reverse-reverse (nodes events)) (all_reverse (λ (n : Node). node_at (past events) n.id ≡ Some n) (past events) (found (past events) (linked_past events h))) in
+      let its = subst (AllByRecursion (λ (n : Node). node_at (past events) n.id ≡ Some n)) (reverse-reverse (nodes events)) (all_reverse (λ (n : Node). node_at (past events) n.id ≡ Some n) (past events) (nodes_found (past events) (linked_past events h))) in
       events_of_nodes (TakesOver set events) new
       (settled_all (OfNodes (TakesOver set events)) (without_set set events joins) new
       (all_filter (OfNodes (TakesOver set events)) (λ e. not (is_left_over events left e)) left

@@ -10,12 +10,12 @@ use Rattle.plain_model.specs.declared.event.PlainEvent.TheVariants.{Blob, Commit
 use Rattle.plain_model.specs.Histories.{Node, nodes}
 use Rattle.plain_model.specs.Lookups.{children_of, event_parents, find_event, id_number, id_of, is_listed, own_child, same_id}
 use Rattle.plain_model.specs.Soundness.{IsSound}
-use Rattle.history_laws.proofs.Ids.{same_id-true}
-use Rattle.event_arena.proofs.SoundLemmas.{sound-once}
+use Rattle.history_laws.specs.Finding.{is_only}
+use Rattle.history_laws.proofs.Ids.{each_found, same_id-true}
+use Rattle.history_laws.proofs.SoundOnce.{sound-once}
 use Rattle.squash_laws.specs.Removed.{is_removed}
-use Rattle.coalesce_laws.specs.Coalesce.{is_joined_to, is_only, joined_ones}
+use Rattle.coalesce_laws.specs.Coalesce.{is_joined_to, joined_ones}
 use Rattle.coalesce_laws.specs.Remaining.{IsJoinedTo}
-use Rattle.coalesce_laws.proofs.Pushed.{each_found}
 use Rattle.coalesce_laws.proofs.Single.{AreSingle}
 
 -- one of a list that passes a test, with what is true of all

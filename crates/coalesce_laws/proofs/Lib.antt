@@ -5,7 +5,6 @@ pub mod Deciding
 pub mod Joined
 pub mod Moved
 pub mod MovedOps
-pub mod Pushed
 mod Rows
 pub mod Single
 pub mod Staying

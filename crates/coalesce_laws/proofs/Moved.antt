@@ -7,11 +7,12 @@ use Rattle.std.proofs.lemmas.Bool.{cases_Bool, or_from, or_left, cond-true, cond
 use Rattle.plain_model.specs.declared.operation.FileOp.{FileOp}
 use Rattle.plain_model.specs.Histories.{IsLinkedPast, Node, Past, knows}
 use Rattle.history_laws.specs.FirstParents.{ops_along}
+use Rattle.history_laws.proofs.LineLaws.{along_more, first_known}
 use Rattle.edit_laws.specs.Parts.{one_if}
 use Rattle.edit_laws.specs.Removal.{chain}
-use Rattle.edit_laws.proofs.Chains.{along_more, chain_gone}
+use Rattle.edit_laws.proofs.Chains.{chain_gone}
 use Rattle.edit_laws.proofs.Following.{chain_later, chain_none}
-use Rattle.edit_laws.proofs.Trees.{first_known, known_later}
+use Rattle.edit_laws.proofs.Trees.{known_later}
 use Rattle.squash_laws.specs.Faults.{is_first}
 use Rattle.squash_laws.proofs.Hung.{kids}
 use Rattle.coalesce_laws.specs.Remaining.{weigh}

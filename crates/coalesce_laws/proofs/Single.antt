@@ -1,9 +1,9 @@
 -- Where a removed commit is the only parent of each of its children: no commit gets more parents than one had, a chain
 -- from a root leaves a root, and the parents of a commit are those of the oldest one in its chain.
-use Rattle.std.proofs.Common.{◌≡◌, ℕ, suc, ◌≤◌, Bool, true, false, cond, not, List, [], ◌∷◌, ◌++◌, length, filter, refl, sym, ap, subst, ◌∙◌, inl, inr, arith, eq-eqb, true≢false, append-nil}
+use Rattle.std.proofs.Common.{◌≡◌, ℕ, ◌≤◌, Bool, true, false, cond, not, List, [], ◌∷◌, ◌++◌, length, refl, sym, ap, subst, ◌∙◌, inl, inr, arith, eq-eqb, true≢false, append-nil}
 use Rattle.std.specs.Prelude.{◌&&◌, ◌==◌, flat_map}
 use Rattle.std.specs.List.{AllByRecursion, list_any}
-use Rattle.std.proofs.lemmas.Bool.{cases_Bool, and_parts, or_cases, or_left, or_parts, or_right}
+use Rattle.std.proofs.lemmas.Bool.{cases_Bool, or_cases, or_left, or_parts, or_right}
 use Rattle.plain_model.specs.declared.limit.TheConstants.{MAX_PARENTS}
 use Rattle.plain_model.specs.declared.operation.FileOp.TheVariants.{DeleteAll}
 use Rattle.plain_model.specs.Histories.{Node, Past}
@@ -11,6 +11,7 @@ use Rattle.plain_model.specs.Soundness.{are_distinct}
 use Rattle.edit_laws.specs.Removal.{chain, expand, expand_all, once_each}
 use Rattle.edit_laws.proofs.Chains.{chain_gone, chain_other, expand_gone, expand_other, expand_stays, once_each_distinct}
 use Rattle.edit_laws.proofs.Following.{chain_none, expand_itself}
+use Rattle.edit_laws.proofs.Repeats.{distinct_once, shorter_once}
 use Rattle.squash_laws.specs.Squash.{anew, is_from_root, is_none}
 use Rattle.coalesce_laws.specs.Remaining.{parents_of_oldest}
 
@@ -18,35 +19,6 @@ use Rattle.coalesce_laws.specs.Remaining.{parents_of_oldest}
 
 pub few_none : 0 ≤ MAX_PARENTS
 few_none = omega arith
-
-shorter_filter : (test : ℕ → Bool) (xs : List ℕ) → length (filter test xs) ≤ length xs
-shorter_filter test [] = omega arith
-shorter_filter test (x ∷ xs) =
-    let rest = shorter_filter test xs in
-    elim (test x) as (λ b. length (cond b (x ∷ filter test xs) (filter test xs)) ≤ suc (length xs)) [ true ↦ omega arith | false ↦ omega arith ]
-
-shorter_once : (xs : List ℕ) → length (once_each xs) ≤ length xs
-shorter_once [] = omega arith
-shorter_once (x ∷ xs) = let one = shorter_filter (λ y. not (y == x)) (once_each xs) in let rest = shorter_once xs in omega arith
-
--- where nothing is twice, no repeat is dropped
-all_others : (x : ℕ) (xs : List ℕ) → list_any (λ m. m == x) xs ≡ false → filter (λ y. not (y == x)) xs ≡ xs
-all_others x [] h = refl
-all_others x (y ∷ xs) h =
-    let parts = or_parts (y == x) (list_any (λ m. m == x) xs) h in
-    ap (λ b. cond (not b) (y ∷ filter (λ z. not (z == x)) xs) (filter (λ z. not (z == x)) xs)) parts.0
-    ∙ ap (λ (l : List ℕ). y ∷ l) (all_others x xs parts.1)
-
-pub distinct_once : (xs : List ℕ) → are_distinct xs ≡ true → once_each xs ≡ xs
-distinct_once [] h = refl
-distinct_once (x ∷ xs) h =
-    let parts = and_parts (not (list_any (λ m. m == x) xs)) (are_distinct xs) h in
-    ap (λ (l : List ℕ). x ∷ filter (λ y. not (y == x)) l) (distinct_once xs parts.1)
-    ∙ ap (λ (l : List ℕ). x ∷ l) (all_others x xs (none (list_any (λ m. m == x) xs) parts.0))
-  where
-    none : (b : Bool) → not b ≡ true → b ≡ false
-    none true h = absurd (true≢false (sym h))
-    none false h = refl
 
 module _ (removed : ℕ → Bool) where
   -- a commit with a removed parent has no other

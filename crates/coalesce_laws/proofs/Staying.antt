@@ -12,14 +12,15 @@ use Rattle.plain_model.specs.declared.event.PlainEvent.TheVariants.{Blob, Commit
 use Rattle.plain_model.specs.Histories.{Node, nodes}
 use Rattle.plain_model.specs.Lookups.{event_parents, find_event, id_number, id_of, is_listed, same_id}
 use Rattle.plain_model.specs.Soundness.{IsSound, has_id}
-use Rattle.history_laws.proofs.Ids.{has_id-append, has_id-cons, same_id-true}
+use Rattle.history_laws.proofs.Ids.{has_id-append, same_id-true}
+use Rattle.edit_laws.specs.Keeping.{IsNoBlob}
 use Rattle.edit_laws.specs.Parts.{IsAbove}
 use Rattle.edit_laws.specs.Removal.{forward}
-use Rattle.edit_laws.specs.Sweeping.{is_left_over, swept}
 use Rattle.edit_laws.proofs.Children.{forward_at}
 use Rattle.edit_laws.proofs.Lists.{own_id}
 use Rattle.edit_laws.proofs.Numbered.{sound_numbered}
 use Rattle.edit_laws.proofs.Settles.{settled_ids}
+use Rattle.edit_laws.proofs.Swept.{swept_others}
 use Rattle.squash_laws.specs.Removed.{Takings, all_left, is_removed, left_of, parents_after, without_set}
 use Rattle.squash_laws.specs.Squash.{back_of, forward_of}
 use Rattle.coalesce_laws.specs.Coalesce.{is_joined_to}
@@ -27,7 +28,7 @@ use Rattle.coalesce_laws.proofs.Blobs.{blobs_stay}
 use Rattle.coalesce_laws.proofs.Coalesced.{commits_stay, done, joins, new, set}
 use Rattle.coalesce_laws.proofs.Joined.{joined}
 
--- ---- sweeping
+-- ---- other events
 
 -- neither a blob nor a commit
 abbrev IsOther : AnyId → Type 0
@@ -35,12 +36,12 @@ IsOther (any.Blob b) = ⊥
 IsOther (any.Commit c) = ⊥
 IsOther other = Unit {0}
 
-no_blob : (id : AnyId) → IsOther id → (i : ℕ) → same_id id (any.Blob i) ≡ false
-no_blob (any.Blob b) h i = absurd h
-no_blob (any.Commit c) h i = absurd h
-no_blob (any.Tag t) h i = refl
-no_blob (any.Reset r) h i = refl
-no_blob (any.Pass p) h i = refl
+no_blob : (id : AnyId) → IsOther id → IsNoBlob id
+no_blob (any.Blob b) h = absurd h
+no_blob (any.Commit c) h = absurd h
+no_blob (any.Tag t) h = tt
+no_blob (any.Reset r) h = tt
+no_blob (any.Pass p) h = tt
 
 no_commit : (id : AnyId) → IsOther id → (i : ℕ) → same_id id (any.Commit i) ≡ false
 no_commit (any.Blob b) h i = absurd h
@@ -48,32 +49,6 @@ no_commit (any.Commit c) h i = absurd h
 no_commit (any.Tag t) h i = refl
 no_commit (any.Reset r) h i = refl
 no_commit (any.Pass p) h i = refl
-
-module _ (old whole : List PlainEvent) (id : AnyId) (other : IsOther id) where
-  abbrev left : List PlainEvent → List PlainEvent
-  left es = filter (λ e. not (is_left_over old whole e)) es
-
-  still : (e : PlainEvent) (xs ys : List PlainEvent) → has_id xs id ≡ has_id ys id → has_id (e ∷ xs) id ≡ has_id (e ∷ ys) id
-  still e xs ys h = has_id-cons e xs id ∙ ap (λ t. same_id id (id_of e) || t) h ∙ sym (has_id-cons e ys id)
-
-  others_kept : (es : List PlainEvent) → has_id (left es) id ≡ has_id es id
-  others_kept [] = refl
-  others_kept (Blob i mark bytes ∷ es) =
-      go (not (is_left_over old whole (Blob i mark bytes)))
-      ∙ others_kept es
-      ∙ sym (has_id-cons (Blob i mark bytes) es id ∙ ap (λ t. t || has_id es id) (no_blob id other i))
-    where
-      go : (t : Bool) → has_id (cond t (Blob i mark bytes ∷ left es) (left es)) id ≡ has_id (left es) id
-      go true = has_id-cons (Blob i mark bytes) (left es) id ∙ ap (λ t. t || has_id (left es) id) (no_blob id other i)
-      go false = refl
-  others_kept (Commit i mark branch author committer encoding comment parents ops aliases ∷ es) =
-      still (Commit i mark branch author committer encoding comment parents ops aliases) (left es) es (others_kept es)
-  others_kept (Tag i name target tagger comment mark ∷ es) = still (Tag i name target tagger comment mark) (left es) es (others_kept es)
-  others_kept (Reset i branch target ∷ es) = still (Reset i branch target) (left es) es (others_kept es)
-  others_kept (Pass i line ∷ es) = still (Pass i line) (left es) es (others_kept es)
-
-  swept_others : has_id (swept old whole) id ≡ has_id whole id
-  swept_others = others_kept whole
 
 -- ---- numbers
 
@@ -125,7 +100,7 @@ found_node P (x ∷ es) d e a f = go x (same_id (any.Commit d) (id_of x)) refl a
 
 -- ---- ids
 
-none_any : (f : PlainEvent → Bool) → ((x : PlainEvent) → f x ≡ false) → (xs : List PlainEvent) → list_any f xs ≡ false
+pub none_any : (f : PlainEvent → Bool) → ((x : PlainEvent) → f x ≡ false) → (xs : List PlainEvent) → list_any f xs ≡ false
 none_any f h [] = refl
 none_any f h (x ∷ xs) = ap (λ b. b || list_any f xs) (h x) ∙ none_any f h xs
 
@@ -281,7 +256,7 @@ module _ (seconds : ℕ) (sel : List AnyId) (events : List PlainEvent) (h : IsSo
     others_stay : has_id (new seconds sel events h) id ≡ has_id events id
     others_stay =
         settled_ids (without_set its_set events its_joins) (new seconds sel events h) (done seconds sel events h) id
-        ∙ swept_others events (all_left its_set events its_joins) id other
+        ∙ swept_others events (all_left its_set events its_joins) id (no_blob id other)
         ∙ each_left events
 
   unlisted : (id : AnyId) → IsNoCommit id → has_id (new seconds sel events h) id ≡ has_id events id →

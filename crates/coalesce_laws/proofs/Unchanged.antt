@@ -1,6 +1,6 @@
 -- Where no commit is joined, nothing changes.
-use Rattle.std.proofs.Common.{◌≡◌, ℕ, Bool, true, false, cond, not, List, [], ◌∷◌, ◌++◌, filter, refl, ap, ◌∙◌, Some, None, Result, Ok, Err}
-use Rattle.std.specs.Prelude.{◌&&◌, flat_map}
+use Rattle.std.proofs.Common.{◌≡◌, ℕ, true, false, List, [], ◌∷◌, ◌++◌, refl, ap, ◌∙◌, Some, None, Result, Ok, Err}
+use Rattle.std.specs.Prelude.{flat_map}
 use Rattle.std.specs.List.{AllByRecursion, list_any}
 use Rattle.plain_model.specs.declared.id.AnyId.{AnyId}
 use Rattle.plain_model.specs.declared.operation.FileOp.{FileOp}
@@ -12,37 +12,18 @@ use Rattle.history_laws.specs.FirstParents.{ops_along}
 use Rattle.edit_laws.specs.Parts.{IsLawful}
 use Rattle.edit_laws.specs.Removal.{chain, once_each}
 use Rattle.edit_laws.specs.Settling.{settle}
-use Rattle.edit_laws.specs.Sweeping.{is_left_over, is_named, swept}
+use Rattle.edit_laws.specs.Sweeping.{swept}
 use Rattle.edit_laws.proofs.Following.{chain_none}
+use Rattle.edit_laws.proofs.Repeats.{distinct_once}
 use Rattle.edit_laws.proofs.Settles.{sound_stays}
 use Rattle.edit_laws.proofs.Sound.{in_parts}
+use Rattle.edit_laws.proofs.Swept.{swept_itself}
 use Rattle.squash_laws.specs.Removed.{Takings, is_removed, left_of, parents_after}
 use Rattle.squash_laws.specs.Squash.{anew}
 use Rattle.squash_laws.specs.declared.policy.Lean.TheVariants as lean
 use Rattle.coalesce_laws.specs.Coalesce.{coalesce_of, coalesced, joined_ones}
 use Rattle.expunge_laws.specs.PushForward.{forward_takes, pushed_forward}
-use Rattle.coalesce_laws.proofs.Single.{all_itself, distinct_once}
-
--- what names the same as before loses nothing
-swept_itself : (es : List PlainEvent) → swept es es ≡ es
-swept_itself whole = go whole
-  where
-    no_more : (b : Bool) → not (b && not b) ≡ true
-    no_more true = refl
-    no_more false = refl
-
-    kept : (e : PlainEvent) → not (is_left_over whole whole e) ≡ true
-    kept (Blob i mark bytes) = no_more (is_named whole i)
-    kept (Commit i mark branch author committer encoding comment parents ops aliases) = refl
-    kept (Tag i name target tagger comment mark) = refl
-    kept (Reset i branch target) = refl
-    kept (Pass i line) = refl
-
-    go : (es : List PlainEvent) → filter (λ e. not (is_left_over whole whole e)) es ≡ es
-    go [] = refl
-    go (e ∷ es) =
-        ap (λ t. cond t (e ∷ filter (λ x. not (is_left_over whole whole x)) es) (filter (λ x. not (is_left_over whole whole x)) es)) (kept e)
-        ∙ ap (λ (l : List PlainEvent). e ∷ l) (go es)
+use Rattle.coalesce_laws.proofs.Single.{all_itself}
 
 module _ (events : List PlainEvent) where
   abbrev takes_none : Takings

@@ -1,6 +1,6 @@
 -- `coalesce`: a commit becomes part of the next one, which goes on with the same work (reposurgeon manual, `coalesce`;
 -- which commits are joined: own).
-use Rattle.std.specs.Prelude.{ℕ, ◌-◌, Bool, false, ◌&&◌, ◌==◌, nat_le, bytes_eq, List, [], ◌∷◌, filter, map, max, min, Result, Ok, Err}
+use Rattle.std.specs.Prelude.{ℕ, ◌-◌, Bool, false, ◌&&◌, nat_le, bytes_eq, List, filter, map, max, min, Result, Ok, Err}
 use Rattle.std.specs.List.{list_any}
 use Rattle.plain_model.specs.declared.id.AnyId.{AnyId}
 use Rattle.plain_model.specs.declared.id.AnyId.TheVariants as any
@@ -8,13 +8,9 @@ use Rattle.plain_model.specs.declared.person.Signed.{Signed}
 use Rattle.plain_model.specs.declared.event.PlainEvent.{PlainEvent}
 use Rattle.plain_model.specs.declared.event.PlainEvent.TheVariants.{Commit}
 use Rattle.plain_model.specs.Lookups.{children_of, id_of, is_listed}
+use Rattle.history_laws.specs.Finding.{is_only}
 use Rattle.squash_laws.specs.declared.policy.Lean.TheVariants as lean
 use Rattle.expunge_laws.specs.PushForward.{pushed_forward}
-
--- the list has this commit and no other
-abbrev pub is_only : ℕ → List ℕ → Bool
-is_only c (d ∷ []) = d == c
-is_only c other = false
 
 -- the same name and email, and at most so many seconds between the two
 abbrev pub are_near : ℕ → Signed → Signed → Bool

@@ -10,7 +10,8 @@ ghost use Rattle.plain_model.specs.Soundness.{IsSound, has_id};
 ghost use Rattle.edit_laws.specs.Editing.{IsEdit, with_number};
 ghost use Rattle.edit_laws.specs.Passing.{IsWithinLimits};
 ghost use Rattle.coalesce_laws.specs.Coalesce.{coalesce_of, coalesced, is_joined_to, joined_ones};
-ghost use Rattle.coalesce_laws.specs.Remaining.{AddsNothing, HasTheOperationsOf, IsJoinedTo, IsOneOf, KeepsTrees, TakesOver};
+ghost use Rattle.coalesce_laws.specs.Remaining.{HasTheOperationsOf, IsJoinedTo, TakesOver};
+ghost use Rattle.edit_laws.specs.Keeping.{IsOneOf, HasTreesOf, AddsNothing};
 
 /// Settling what a coalescing leaves comes to its end, so no parents run in a circle.
 pub fn a_coalescing_comes_to_its_end()
@@ -88,7 +89,7 @@ pub fn a_coalescing_keeps_the_limits()
 /// Each commit that is there has the tree that it had, with the same bytes in it.
 pub fn a_coalescing_keeps_trees()
     ensures { (seconds : ℕ) (set : List AnyId) (events : List PlainEvent) → IsSound events →
-        KeepsTrees events (coalesce_of seconds set events) }
+        HasTreesOf events (coalesce_of seconds set events) }
 {}
 
 /// A coalesce is an edit that gives no number and is never refused: of a lawful history it makes a lawful one.

@@ -10,21 +10,18 @@ use Rattle.plain_model.specs.declared.event.PlainEvent.{PlainEvent}
 use Rattle.plain_model.specs.declared.event.PlainEvent.TheVariants.{Blob, Commit, Tag, Reset, Pass}
 use Rattle.plain_model.specs.Lookups.{children_of, event_parents, find_event, id_number, id_of, is_listed, same_id}
 use Rattle.plain_model.specs.Soundness.{IsSound, has_id}
-use Rattle.history_laws.proofs.Ids.{same_id-true}
-use Rattle.event_arena.specs.Once.{AreDistinct}
-use Rattle.event_arena.proofs.SoundLemmas.{has_id-find, sound-once}
-use Rattle.event_arena.proofs.SpentLemmas.{find-id}
+use Rattle.history_laws.specs.Finding.{is_only}
+use Rattle.history_laws.proofs.Ids.{find-id, same_id-true}
+use Rattle.history_laws.specs.Once.{AreDistinct}
+use Rattle.history_laws.proofs.SoundOnce.{has_id-find, sound-once}
 use Rattle.manifest_cache.specs.Walks.{commit_id}
 use Rattle.squash_laws.specs.Removed.{is_removed}
 use Rattle.squash_delete.proofs.SweepLemmas.{listed_filter}
-use Rattle.coalesce_laws.specs.Coalesce.{are_near, is_joined_to, is_only, joined_ones}
+use Rattle.coalesce_laws.specs.Coalesce.{are_near, is_joined_to, joined_ones}
 use Rattle.coalesce_laws.proofs.Deciding.{decided}
 use Rattle.coalesce_laws.proofs.Joined.{joined}
+use Rattle.coalesce_laws.proofs.Staying.{none_any}
 use Rattle.coalesce_simplify.specs.Joining.{agree, are_linked, only_of}
-
-none_any : (f : PlainEvent → Bool) → ((x : PlainEvent) → f x ≡ false) → (xs : List PlainEvent) → list_any f xs ≡ false
-none_any f h [] = refl
-none_any f h (x ∷ xs) = ap (λ b. b || list_any f xs) (h x) ∙ none_any f h xs
 
 -- what links two commits, and what agrees
 both_parts : (a b c e f g : Bool) → (a && b && c) && (e && f && g) ≡ a && b && c && true && e && f && g

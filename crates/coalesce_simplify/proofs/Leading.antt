@@ -9,7 +9,7 @@ use Rattle.plain_model.specs.declared.id.AnyId.TheVariants as any
 use Rattle.plain_model.specs.declared.event.PlainEvent.{PlainEvent}
 use Rattle.plain_model.specs.Lookups.{children_of, find_event, id_number, id_of, place_of}
 use Rattle.plain_model.specs.Soundness.{IsSound}
-use Rattle.event_arena.proofs.SoundLemmas.{sound-once}
+use Rattle.history_laws.proofs.SoundOnce.{sound-once}
 use Rattle.edit_laws.proofs.Children.{forward_at}
 use Rattle.graph_walk.proofs.PlaceLemmas.{place_found, place_within}
 use Rattle.manifest_cache.specs.Walks.{commit_id}

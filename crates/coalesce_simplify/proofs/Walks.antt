@@ -14,7 +14,7 @@ use Rattle.plain_model.specs.Soundness.{IsSound, has_id}
 use Rattle.plain_model.specs.declared.operation.FileOp.{FileOp}
 use Rattle.history_laws.specs.FirstParents.{ops_along}
 use Rattle.ancestry_laws.proofs.Pasts.{known_past, linked_past}
-use Rattle.event_arena.proofs.SoundLemmas.{has_id-find, sound-once}
+use Rattle.history_laws.proofs.SoundOnce.{has_id-find, sound-once}
 use Rattle.edit_laws.specs.Removal.{chain}
 use Rattle.edit_laws.proofs.Chains.{chain_other}
 use Rattle.edit_laws.proofs.Following.{chain_at, chain_none}

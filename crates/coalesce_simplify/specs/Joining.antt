@@ -7,13 +7,14 @@ use Rattle.plain_model.specs.declared.event.PlainEvent.TheVariants.{Commit}
 use Rattle.plain_model.specs.Histories.{Node}
 use Rattle.plain_model.specs.Lookups.{id_of, is_listed}
 use Rattle.plain_model.specs.Soundness.{has_id}
+use Rattle.history_laws.specs.Finding.{is_only}
 use Rattle.manifest_cache.specs.Walks.{commit_id, ops_at}
 use Rattle.squash_laws.specs.Removed.{Takings, is_removed, parents_after}
 use Rattle.squash_laws.specs.Squash.{forward_of}
 use Rattle.squash_laws.specs.declared.policy.Lean.TheVariants as lean
 use Rattle.squash_delete.specs.Chains.{parents_at}
 use Rattle.squash_delete.specs.Leaving.{event_after}
-use Rattle.coalesce_laws.specs.Coalesce.{are_near, is_only, joined_ones}
+use Rattle.coalesce_laws.specs.Coalesce.{are_near, joined_ones}
 use Rattle.expunge_laws.specs.PushForward.{forward_takes}
 
 -- the item of a list of one

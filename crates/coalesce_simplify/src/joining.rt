@@ -1,7 +1,8 @@
 //! Which commits are joined to a next one.
 ghost use Rattle.std.specs.Prelude.{◌≡◌, ◌&&◌, ◌<◌, Some, bytes_eq, length, slice_get, IfOk};
 ghost use Rattle.std.specs.List.{list_any};
-ghost use Rattle.coalesce_laws.specs.Coalesce.{are_near, is_joined_to, is_only, joined_ones};
+ghost use Rattle.coalesce_laws.specs.Coalesce.{are_near, is_joined_to, joined_ones};
+ghost use Rattle.history_laws.specs.Finding.{is_only};
 ghost use Rattle.coalesce_simplify.specs.Joining.{agree, are_linked, only_of};
 ghost use Rattle.manifest_cache.specs.Walks.{commit_id};
 ghost use Rattle.plain_model.specs.Lookups.{children_of, find_event, id_of};

@@ -1,10 +1,8 @@
 -- What is given of each event of a sound history.
-use Rattle.std.proofs.Common.{◌≡◌, ℕ, true, List, [], ◌∷◌, ◌++◌, drop, map, take, subst, sym, ◌∙◌, Some, IsTrue}
+use Rattle.std.proofs.Common.{◌≡◌, ℕ, true, List, [], ◌∷◌, ◌++◌, drop, map, take, subst, sym, Some, IsTrue}
 use Rattle.std.specs.Prelude.{flat_map}
 use Rattle.std.specs.List.{AllByRecursion, list_all}
-use Rattle.std.proofs.lemmas.Bool.{or_left, or_right}
 use Rattle.std.proofs.lemmas.List.{take-append-drop}
-use Rattle.plain_model.specs.declared.id.AnyId.{AnyId}
 use Rattle.plain_model.specs.declared.id.AnyId.TheVariants as any
 use Rattle.plain_model.specs.declared.operation.FileOp.{FileOp}
 use Rattle.plain_model.specs.declared.event.PlainEvent.{PlainEvent}
@@ -14,24 +12,16 @@ use Rattle.plain_model.specs.Soundness.{IsFormedEvent, IsFormedOp, IsSound, has_
 use Rattle.edit_laws.specs.Equations.{Fits}
 use Rattle.edit_laws.specs.Parts.{HasFewParents, IsAbove, IsLawful, IsLawfulOp}
 use Rattle.edit_laws.specs.Settling.{is_ready}
-use Rattle.history_laws.proofs.Lists.{all_imply, all_join}
-use Rattle.history_laws.proofs.Ids.{has_id-append}
-use Rattle.edit_laws.proofs.Lists.{OfNodes, all_front, has_own_id, all_rear, all_true, nodes_of_events}
+use Rattle.edit_laws.proofs.Fine.{IsFine, There}
+use Rattle.edit_laws.proofs.Lists.{OfNodes, all_front, all_rear, all_true, nodes_of_events, own_here}
 use Rattle.edit_laws.proofs.Settles.{sound_settles}
 use Rattle.edit_laws.proofs.Sound.{in_parts}
 use Rattle.edit_laws.proofs.Trees.{trees_fit}
 use Rattle.commit_laws.proofs.Found.{all_found}
 
-abbrev pub There : List PlainEvent → AnyId → Type 0
-There events id = has_id events id ≡ true
-
 -- a commit of the history
 abbrev pub IsHere : List PlainEvent → ℕ → Type 0
 IsHere events c = has_id events (any.Commit c) ≡ true
-
--- an operation that is lawful and formed, and whose blob is there
-abbrev pub IsFine : List PlainEvent → FileOp → Type 0
-IsFine events op = IsLawfulOp op × IsFormedOp op × AllByRecursion (There events) (op_blobs op)
 
 -- the numbers of the commits
 abbrev pub rank : (events : List PlainEvent) → IsSound events → ℕ → ℕ
@@ -46,13 +36,6 @@ pub record IsGiven (events : List PlainEvent) (number : ℕ → ℕ) (e : PlainE
   pub fits : OfNodes (Fits (tree events)) e
   pub found : OfNodes (λ (n : Node). node_at (past events) n.id ≡ Some n) e
   pub here : has_id events (id_of e) ≡ true
-
-own_here : (es : List PlainEvent) → AllByRecursion (λ e. has_id es (id_of e) ≡ true) es
-own_here [] = tt
-own_here (e ∷ es) = (
-  has_id-append (e ∷ []) es (id_of e) ∙ or_left (has_id (e ∷ []) (id_of e)) (has_id es (id_of e)) (has_own_id e),
-  all_imply (λ x. has_id es (id_of x) ≡ true) (λ x. has_id (e ∷ es) (id_of x) ≡ true) (λ x k. has_id-append (e ∷ []) es (id_of x) ∙ or_right (has_id (e ∷ []) (id_of x)) (has_id es (id_of x)) k) es (own_here es),
-)
 
 given_each : (events : List PlainEvent) (number : ℕ → ℕ) (es : List PlainEvent) → AllByRecursion IsLawful es → AllByRecursion IsFormedEvent es → AllByRecursion HasFewParents es → AllByRecursion (λ e. IsTrue (is_ready events e)) es → AllByRecursion (OfNodes (IsAbove number)) es → AllByRecursion (OfNodes (Fits (tree events))) es
     → AllByRecursion (OfNodes (λ (n : Node). node_at (past events) n.id ≡ Some n)) es → AllByRecursion (λ e. has_id events (id_of e) ≡ true) es → AllByRecursion (IsGiven events number) es
@@ -99,11 +82,3 @@ all_take P n xs a = all_front P (take n xs) (drop n xs) (subst (AllByRecursion P
 
 pub all_drop : {X : Type 0} (P : X → Type 0) (n : ℕ) (xs : List X) → AllByRecursion P xs → AllByRecursion P (drop n xs)
 all_drop P n xs a = all_rear P (take n xs) (drop n xs) (subst (AllByRecursion P) (sym (take-append-drop n xs)) a)
-
-pub parted_blobs : (xs : List PlainEvent) (ops : List FileOp) → AllByRecursion (There xs) (flat_map op_blobs ops) → AllByRecursion (λ op. AllByRecursion (There xs) (op_blobs op)) ops
-parted_blobs xs [] a = tt
-parted_blobs xs (op ∷ ops) a = (all_front (There xs) (op_blobs op) (flat_map op_blobs ops) a, parted_blobs xs ops (all_rear (There xs) (op_blobs op) (flat_map op_blobs ops) a))
-
-pub joined_blobs : (xs : List PlainEvent) (ops : List FileOp) → AllByRecursion (λ op. AllByRecursion (There xs) (op_blobs op)) ops → AllByRecursion (There xs) (flat_map op_blobs ops)
-joined_blobs xs [] a = tt
-joined_blobs xs (op ∷ ops) a = all_join (There xs) (op_blobs op) (flat_map op_blobs ops) a.0 (joined_blobs xs ops a.1)

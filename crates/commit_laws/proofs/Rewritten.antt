@@ -19,32 +19,19 @@ use Rattle.edit_laws.specs.Parts.{AreInOrder, AreOnce, CanBeSettled, HasFewParen
 use Rattle.edit_laws.specs.Settling.{is_ready}
 use Rattle.history_laws.proofs.Lists.{all_imply, all_join}
 use Rattle.history_laws.proofs.Ids.{has_id-append}
-use Rattle.edit_laws.proofs.Lists.{OfNodes, all_flat, all_rear, all_true, events_of_nodes, own_id, true_all}
+use Rattle.edit_laws.specs.Keeping.{HasOperationsOf}
+use Rattle.edit_laws.proofs.Fine.{IsFine, There, fine_formed, fine_lawful, fine_there}
+use Rattle.edit_laws.proofs.Lists.{OfNodes, all_rear, all_true, events_of_nodes, own_id, true_all}
 use Rattle.edit_laws.proofs.Shown.{has_own_bytes}
 use Rattle.edit_laws.proofs.Sound.{in_parts}
-use Rattle.commit_laws.specs.Remaining.{HasOperationsOf}
 use Rattle.commit_laws.specs.Rewriting.{Rewrite, rewritten, rewritten_all}
-use Rattle.commit_laws.proofs.Given.{IsFine, IsGiven, IsHere, There, all_given, fine_ops, here_parents, parents_here, rank}
-
-pub fine_lawful : (xs : List PlainEvent) (ops : List FileOp) → AllByRecursion (IsFine xs) ops → AllByRecursion IsLawfulOp ops
-fine_lawful xs ops a = all_imply (IsFine xs) IsLawfulOp (λ op x. x.0) ops a
-
-pub fine_there : (xs : List PlainEvent) (ops : List FileOp) → AllByRecursion (IsFine xs) ops → AllByRecursion (There xs) (flat_map op_blobs ops)
-fine_there xs ops a = all_flat (IsFine xs) (There xs) op_blobs (λ op x. x.2) ops a
-
-pub fine_formed : (xs : List PlainEvent) (ops : List FileOp) → AllByRecursion (IsFine xs) ops → AllByRecursion IsFormedOp ops
-fine_formed xs ops a = all_imply (IsFine xs) IsFormedOp (λ op x. x.1) ops a
+use Rattle.commit_laws.proofs.Given.{IsGiven, IsHere, all_given, fine_ops, here_parents, parents_here, rank}
 
 -- a commit may have these parents and these operations, after some events
 pub record MayHave (xs : List PlainEvent) (parents : List ℕ) (ops : List FileOp) : Type 0 where
   pub distinct : are_distinct parents ≡ true
   pub here : AllByRecursion (IsHere xs) parents
   pub fine : AllByRecursion (IsFine xs) ops
-
-pub may_be_ready : (xs : List PlainEvent) (parents : List ℕ) (ops : List FileOp) → MayHave xs parents ops → list_all (has_id xs) (map any.Commit parents ++ flat_map op_blobs ops) ≡ true
-may_be_ready xs parents ops m =
-    true_all (has_id xs) (map any.Commit parents ++ flat_map op_blobs ops)
-    (all_join (There xs) (map any.Commit parents) (flat_map op_blobs ops) (here_parents xs parents m.here) (fine_there xs ops m.fine))
 
 module _ (c : ℕ) (how : Rewrite) where
   abbrev new_of : PlainEvent → PlainEvent

@@ -1,28 +1,19 @@
 -- What a removed commit stands for: what it expands to stays and isn't above it, and the chain below a commit, applied to
 -- the tree of the commit below it, gives the tree with which that commit began.
-use Rattle.std.proofs.Common.{◌≡◌, ℕ, ◌≤◌, ◌<◌, Bool, true, false, cond, not, List, [], ◌∷◌, ◌++◌, filter, refl, sym, ap, subst, ◌∙◌, inl, inr, arith, eqb-true, eq-eqb, true≢false, Option, Some, None, IsTrue, append-nil}
+use Rattle.std.proofs.Common.{◌≡◌, ℕ, ◌≤◌, ◌<◌, Bool, true, false, cond, not, List, [], ◌∷◌, ◌++◌, filter, refl, sym, ap, subst, ◌∙◌, inl, inr, arith, eqb-true, eq-eqb, true≢false, Option, Some, None, IsTrue}
 use Rattle.std.specs.Prelude.{◌||◌, ◌==◌, flat_map}
 use Rattle.std.specs.List.{AllByRecursion, list_any}
 use Rattle.std.proofs.lemmas.Bool.{cases_Bool, or_from, or_left, or_parts, or_right, and_from, and_parts, cond-true, cond-false}
-use Rattle.std.proofs.lemmas.List.Concat.{flat_map-append}
-use Rattle.plain_model.specs.declared.operation.FileOp.{FileOp}
 use Rattle.plain_model.specs.Histories.{Node, Past, folded, begun, tree_in, knows, IsLinkedPast}
 use Rattle.plain_model.specs.Trees.{Tree}
 use Rattle.plain_model.specs.Soundness.{are_distinct}
-use Rattle.history_laws.proofs.LineLaws.{folded_more}
+use Rattle.history_laws.proofs.LineLaws.{FirstKnown, along_more, first_known, folded_more, known_before}
 use Rattle.history_laws.specs.FirstParents.{ops_along}
 use Rattle.edit_laws.specs.Parts.{IsAbove}
 use Rattle.edit_laws.specs.Removal.{back, chain, expand, expand_all, forward, once_each}
 use Rattle.edit_laws.proofs.Lists.{all_filter}
 use Rattle.history_laws.proofs.Lists.{all_imply, all_join}
-use Rattle.edit_laws.proofs.Trees.{FirstKnown, begun_alike, first_known, known_before, known_later, not_fresh, tree_here, tree_other}
-
--- ---- one list of operations after another
-
-pub along_more : (links : List Node) (n : Node) → ops_along (links ++ n ∷ []) ≡ ops_along links ++ n.ops
-along_more links n =
-    flat_map-append (λ (m : Node). m.ops) links (n ∷ [])
-    ∙ ap (λ (o : List FileOp). ops_along links ++ o) (append-nil n.ops)
+use Rattle.edit_laws.proofs.Trees.{begun_alike, known_later, not_fresh, tree_here, tree_other}
 
 -- ---- repeats dropped
 

@@ -1,24 +1,15 @@
 -- Edits by what they make of a history, with the number that comes next.
-use Rattle.std.proofs.Common.{◌≡◌, ◌∙◌, ℕ, ◌≤◌, Bool, true, false, cond, ◌||◌, List, [], ◌∷◌, Option, Some, None, Result, Ok, Err, refl, sym, ap, arith}
-use Rattle.std.specs.Prelude.{is_some, IsFalse, IsTrue}
+use Rattle.std.proofs.Common.{◌≡◌, ◌∙◌, ℕ, ◌≤◌, Bool, true, false, List, None, Result, Ok, Err, refl, sym, arith}
+use Rattle.std.specs.Prelude.{IsFalse, IsTrue}
 use Rattle.plain_model.specs.declared.fault.Fault.{Fault}
 use Rattle.plain_model.specs.declared.id.AnyId.{AnyId}
 use Rattle.plain_model.specs.declared.id.AnyId.TheVariants as any
 use Rattle.plain_model.specs.declared.event.PlainEvent.{PlainEvent}
-use Rattle.plain_model.specs.Lookups.{AreIdsBelow, find_event, id_of, same_id}
+use Rattle.plain_model.specs.Lookups.{AreIdsBelow}
 use Rattle.plain_model.specs.Soundness.{has_id}
-use Rattle.history_laws.proofs.Ids.{has_id-cons}
+use Rattle.history_laws.proofs.SoundOnce.{has_id-find}
 use Rattle.edit_laws.specs.Editing.{IsEdit, IsLawfulHistory, LeavesLawful, with_number}
 use Rattle.edit_laws.specs.Selecting.{IsSelection}
-
--- what is there is found
-pub there_found : (es : List PlainEvent) (id : AnyId) → has_id es id ≡ is_some (find_event id es)
-there_found [] id = refl
-there_found (e ∷ es) id = has_id-cons e es id ∙ ap (λ b. same_id id (id_of e) || b) (there_found es id) ∙ either (same_id id (id_of e)) (find_event id es)
-  where
-    either : (b : Bool) (o : Option PlainEvent) → b || is_some o ≡ is_some (cond b (Some e) o)
-    either true o = refl
-    either false o = refl
 
 -- a number above all ids is no commit's
 pub unspent : (events : List PlainEvent) (next : ℕ) → AreIdsBelow next events → IsFalse (has_id events (any.Commit next))
@@ -26,11 +17,11 @@ unspent events next below = go (has_id events (any.Commit next)) refl
   where
     go : (b : Bool) → has_id events (any.Commit next) ≡ b → b ≡ false
     go false e = refl
-    go true e = let low = below (any.Commit next) (sym (there_found events (any.Commit next)) ∙ e) in absurd (omega arith)
+    go true e = let low = below (any.Commit next) (sym (has_id-find events (any.Commit next)) ∙ e) in absurd (omega arith)
 
 -- a bound of the ids is one where no event comes
 pub fewer_below : (events new : List PlainEvent) (next : ℕ) → ((id : AnyId) → IsTrue (has_id new id) → IsTrue (has_id events id)) → AreIdsBelow next events → AreIdsBelow next new
-fewer_below events new next nothing below id there = below id (sym (there_found events id) ∙ nothing id (there_found new id ∙ there))
+fewer_below events new next nothing below id there = below id (sym (has_id-find events id) ∙ nothing id (has_id-find new id ∙ there))
 
 -- an edit that gives ids below a number
 pub edit_with : (number : ℕ → ℕ) (edit : List AnyId → ℕ → List PlainEvent → Result (List PlainEvent) Fault) → ((next : ℕ) → next ≤ number next)

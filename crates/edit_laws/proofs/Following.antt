@@ -4,10 +4,11 @@ use Rattle.std.specs.Prelude.{◌||◌, ◌==◌, flat_map}
 use Rattle.std.specs.List.{AllByRecursion}
 use Rattle.std.proofs.lemmas.Bool.{cases_Bool, cond-true, cond-false}
 use Rattle.plain_model.specs.Histories.{IsLinkedPast, Node, Past, knows, node_at}
+use Rattle.history_laws.proofs.LineLaws.{FirstKnown, first_known}
 use Rattle.edit_laws.specs.Removal.{back, chain, expand, expand_all, once_each}
 use Rattle.edit_laws.proofs.Chains.{chain_gone, chain_other, chain_stays, expand_gone, expand_other, expand_stays}
 use Rattle.history_laws.proofs.Lists.{all_imply}
-use Rattle.edit_laws.proofs.Trees.{FirstKnown, first_known, known_later, not_fresh}
+use Rattle.edit_laws.proofs.Trees.{known_later, not_fresh}
 
 -- the parents of a commit that is found are known, and so is it
 parents_known : (a : Past) → IsLinkedPast a → (p : ℕ) (n : Node) → node_at a p ≡ Some n →

@@ -1,11 +1,15 @@
 pub mod Chains
+pub mod Checked
 pub mod Children
 pub mod Circles
 pub mod Edits
+pub mod Fine
 pub mod Following
 pub mod Limits
 pub mod Lists
+pub mod Naming
 pub mod Numbered
+pub mod Repeats
 mod Rows
 pub mod Settled
 pub mod Settles
@@ -13,4 +17,5 @@ pub mod Shown
 pub mod Sound
 pub mod Stuck
 pub mod Swept
+pub mod Tallies
 pub mod Trees

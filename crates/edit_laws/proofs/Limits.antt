@@ -22,7 +22,7 @@ not_if true x o h = absurd cc
 not_if false x o h = refl
 
 -- not above a number
-few : (most n : ℕ) → nat_lt most n ≡ false → n ≤ most
+pub few : (most n : ℕ) → nat_lt most n ≡ false → n ≤ most
 few most n h = grind (arith, nat_tests)
 
 pub not_many : (most n : ℕ) → n ≤ most → nat_lt most n ≡ false

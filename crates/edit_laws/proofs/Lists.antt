@@ -10,9 +10,9 @@ use Rattle.plain_model.specs.declared.event.PlainEvent.TheVariants.{Blob, Commit
 use Rattle.plain_model.specs.Histories.{Node, nodes}
 use Rattle.plain_model.specs.Lookups.{id_of, same_id}
 use Rattle.plain_model.specs.Soundness.{has_id}
-use Rattle.history_laws.proofs.Ids.{has_id-cons, same_id-refl}
-use Rattle.history_laws.proofs.Lists.{all_join}
-use Rattle.edit_laws.specs.Parts.{tally, one_if}
+use Rattle.history_laws.proofs.Ids.{has_id-append, has_id-cons, same_id-refl}
+use Rattle.history_laws.proofs.Lists.{all_imply, all_join}
+use Rattle.edit_laws.specs.Parts.{tally, one_if, of_id}
 
 -- ---- all of a list
 
@@ -155,3 +155,13 @@ events_of_nodes P (Blob id mark bytes ∷ es) a = events_of_nodes P es a.1
 events_of_nodes P (Tag id name target tagger comment mark ∷ es) a = events_of_nodes P es a.1
 events_of_nodes P (Reset id branch target ∷ es) a = events_of_nodes P es a.1
 events_of_nodes P (Pass id line ∷ es) a = events_of_nodes P es a.1
+
+pub own_sum : (id : AnyId) (x e : PlainEvent) → id_of x ≡ id_of e → of_id id x ≡ of_id id e
+own_sum id x e same = ap one_if (own_id x id ∙ ap (same_id id) same ∙ sym (own_id e id))
+
+pub own_here : (es : List PlainEvent) → AllByRecursion (λ e. has_id es (id_of e) ≡ true) es
+own_here [] = tt
+own_here (e ∷ es) = (
+  has_id-append (e ∷ []) es (id_of e) ∙ or_left (has_id (e ∷ []) (id_of e)) (has_id es (id_of e)) (has_own_id e),
+  all_imply (λ x. has_id es (id_of x) ≡ true) (λ x. has_id (e ∷ es) (id_of x) ≡ true) (λ x k. has_id-append (e ∷ []) es (id_of x) ∙ or_right (has_id (e ∷ []) (id_of x)) (has_id es (id_of x)) k) es (own_here es),
+)

@@ -80,7 +80,7 @@ picked P taken (x ∷ es) a e rest h = go (is_ready taken x) refl (first_ready t
 -- ---- all events are taken
 
 -- one event more, after all that it refers to
-in_order_more : (earlier xs : List PlainEvent) (e : PlainEvent) → AreInOrder earlier xs →
+pub in_order_more : (earlier xs : List PlainEvent) (e : PlainEvent) → AreInOrder earlier xs →
     is_ready (earlier ++ xs) e ≡ true → AreInOrder earlier (xs ++ e ∷ [])
 in_order_more earlier [] e s r = (subst (λ (l : List PlainEvent). is_ready l e ≡ true) (append-nil earlier) r, tt)
 in_order_more earlier (x ∷ xs) e s r =

@@ -4,10 +4,11 @@ use Rattle.std.specs.Prelude.{◌||◌, IsSome}
 use Rattle.std.specs.List.{AllByRecursion}
 use Rattle.plain_model.specs.declared.id.AnyId.{AnyId}
 use Rattle.plain_model.specs.declared.event.PlainEvent.{PlainEvent}
-use Rattle.plain_model.specs.Histories.{nodes, tree}
+use Rattle.plain_model.specs.Histories.{Node, nodes, tree}
 use Rattle.plain_model.specs.Lookups.{referents_of}
 use Rattle.plain_model.specs.Soundness.{IsCommitOf, IsFormedEvent, IsSound, has_id}
 use Rattle.plain_model.specs.Trees.{Tree}
+use Rattle.plain_model.specs.declared.event.PlainEvent.TheVariants.{Blob, Commit, Pass, Reset, Tag}
 use Rattle.edit_laws.specs.Equations.{Fits}
 use Rattle.edit_laws.specs.Parts.{AreInOrder, AreOnce, CanBeSettled, HasFewParents, IsAbove, IsLawful, of_id, of_mark, tally}
 use Rattle.edit_laws.specs.Settling.{is_ready, settle}
@@ -15,6 +16,7 @@ use Rattle.edit_laws.specs.Sweeping.{is_left_over, swept}
 use Rattle.edit_laws.proofs.Lists.{all_filter, all_true, true_all, nodes_of_events, events_of_nodes, OfNodes, tally_filter}
 use Rattle.history_laws.proofs.Ids.{has_id-append}
 use Rattle.history_laws.proofs.Lists.{all_imply}
+use Rattle.edit_laws.proofs.Fine.{IsFine, fine, ready_ops}
 use Rattle.edit_laws.proofs.Numbered.{sound_numbered}
 use Rattle.edit_laws.proofs.Settled.{Settles, in_order_stays, settle_ends, settled}
 use Rattle.edit_laws.proofs.Sound.{from_parts, in_parts}
@@ -109,3 +111,18 @@ pub settled_trees : (tree_of : ℕ → Option Tree) (events new : List PlainEven
 settled_trees tree_of events new k is c there =
     let s = settled (OfNodes (Fits tree_of)) events new (nodes_of_events (Fits tree_of) events k) is in
     trees_solve tree_of new s.in_order (events_of_nodes (Fits tree_of) new s.all) c there
+
+-- the operations of a sound history are lawful, and their blobs are there
+pub fine_nodes : (events : List PlainEvent) → IsSound events → AllByRecursion (λ (n : Node). AllByRecursion (IsFine events) n.ops) (nodes events)
+fine_nodes events h = let s = sound_settles events h in events_of_nodes (λ (n : Node). AllByRecursion (IsFine events) n.ops) events (each events s.lawful s.spelled s.complete)
+  where
+    each : (es : List PlainEvent) → AllByRecursion IsLawful es → AllByRecursion IsFormedEvent es →
+        AllByRecursion (λ e. IsTrue (is_ready events e)) es →
+        AllByRecursion (OfNodes (λ (n : Node). AllByRecursion (IsFine events) n.ops)) es
+    each [] l f r = tt
+    each (Commit id mark branch author committer encoding comment parents ops aliases ∷ es) l f r =
+        ((fine events ops l.0.5 f.0.1 (ready_ops events parents ops r.0), tt), each es l.1 f.1 r.1)
+    each (Blob id mark bytes ∷ es) l f r = (tt, each es l.1 f.1 r.1)
+    each (Tag id name target tagger comment mark ∷ es) l f r = (tt, each es l.1 f.1 r.1)
+    each (Reset id branch target ∷ es) l f r = (tt, each es l.1 f.1 r.1)
+    each (Pass id line ∷ es) l f r = (tt, each es l.1 f.1 r.1)

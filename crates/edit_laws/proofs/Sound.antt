@@ -24,9 +24,7 @@ use Rattle.edit_laws.proofs.Lists.{all_among, all_front, all_rear, all_true, tru
 use Rattle.history_laws.proofs.Ids.{has_id-append, is_marked-append, same_id-true}
 use Rattle.history_laws.proofs.Lists.{all_join}
 use Rattle.std.proofs.Common.{eq-eqb}
-
-abbrev There : List PlainEvent → AnyId → Type 0
-There earlier id = has_id earlier id ≡ true
+use Rattle.edit_laws.proofs.Fine.{There}
 
 -- ---- what an event refers to
 

@@ -16,6 +16,7 @@ use Rattle.edit_laws.specs.Sweeping.{is_left_over, is_named, swept}
 use Rattle.edit_laws.proofs.Lists.{all_filter, all_true, true_all}
 use Rattle.history_laws.proofs.Ids.{has_id-append, same_id-refl}
 use Rattle.history_laws.proofs.Lists.{all_imply}
+use Rattle.edit_laws.specs.Keeping.{IsNoBlob}
 
 -- ---- what is named
 
@@ -129,7 +130,17 @@ module _ (old new : List PlainEvent) where
   pub swept_complete : AreComplete new → AreComplete (swept old new)
   swept_complete h = all_filter (λ e. IsTrue (is_ready (swept old new) e)) kept new (both new (each_named new) h)
 
-  -- what is where it was, but for blobs
+  -- no event goes but blobs
+  pub swept_others : (id : AnyId) → IsNoBlob id → has_id (swept old new) id ≡ has_id new id
+  swept_others id other = stays_there new id (safe id other)
+    where
+      safe : (id : AnyId) → IsNoBlob id → IsSafe id
+      safe (any.Blob b) h = absurd h
+      safe (any.Commit c) h = tt
+      safe (any.Tag t) h = tt
+      safe (any.Reset r) h = tt
+      safe (any.Pass p) h = tt
+
   pub swept_commit : (c : ℕ) → has_id (swept old new) (any.Commit c) ≡ has_id new (any.Commit c)
   swept_commit c = stays_there new (any.Commit c) tt
 
@@ -176,3 +187,22 @@ module _ (old new : List PlainEvent) where
 
   pub swept_in_order : AreInOrder [] new → AreInOrder [] (swept old new)
   swept_in_order s = in_order_left [] new (each_named new) s
+
+-- what names the same as before loses nothing
+pub swept_itself : (es : List PlainEvent) → swept es es ≡ es
+swept_itself whole = go whole
+  where
+    no_more : (b : Bool) → not (b && not b) ≡ true
+    no_more true = refl
+    no_more false = refl
+
+    kept : (e : PlainEvent) → not (is_left_over whole whole e) ≡ true
+    kept (Blob i mark bytes) = no_more (is_named whole i)
+    kept (Commit i mark branch author committer encoding comment parents ops aliases) = refl
+    kept (Tag i name target tagger comment mark) = refl
+    kept (Reset i branch target) = refl
+    kept (Pass i line) = refl
+
+    go : (es : List PlainEvent) → filter (λ e. not (is_left_over whole whole e)) es ≡ es
+    go [] = refl
+    go (e ∷ es) = ap (λ t. cond t (e ∷ filter (λ x. not (is_left_over whole whole x)) es) (filter (λ x. not (is_left_over whole whole x)) es)) (kept e) ∙ ap (λ (l : List PlainEvent). e ∷ l) (go es)

@@ -1,5 +1,5 @@
 -- The trees of a history are the one solution of an equation for each commit. So the order of the events doesn't count.
-use Rattle.std.proofs.Common.{◌≡◌, ℕ, true, false, List, [], ◌∷◌, ◌++◌, map, refl, sym, ap, subst, ◌∙◌, inl, inr, eqb-true, eq-eqb, true≢false, Option, IsTrue, append-nil, append_assoc}
+use Rattle.std.proofs.Common.{◌≡◌, ℕ, true, false, List, [], ◌∷◌, ◌++◌, map, refl, sym, ap, subst, ◌∙◌, inl, inr, eqb-true, eq-eqb, true≢false, Option, IsTrue, append-nil, append_assoc, Bool, cond, Some}
 use Rattle.std.specs.Prelude.{◌||◌, ◌==◌, flat_map}
 use Rattle.std.specs.List.{AllByRecursion}
 use Rattle.std.proofs.lemmas.Bool.{cases_Bool, or_right, cond-true, cond-false}
@@ -7,10 +7,11 @@ use Rattle.std.proofs.lemmas.List.{reverse-reverse}
 use Rattle.plain_model.specs.declared.id.AnyId.TheVariants as any
 use Rattle.plain_model.specs.declared.event.PlainEvent.{PlainEvent}
 use Rattle.plain_model.specs.declared.event.PlainEvent.TheVariants.{Blob, Commit, Tag, Reset, Pass}
-use Rattle.plain_model.specs.Histories.{Node, Past, folded, begun, tree_in, tree, past, nodes, knows, IsLinkedPast}
+use Rattle.plain_model.specs.Histories.{Node, Past, folded, begun, tree_in, tree, past, nodes, knows, IsLinkedPast, node_at}
 use Rattle.plain_model.specs.Lookups.{id_of, op_blobs}
 use Rattle.plain_model.specs.Trees.{Tree}
 use Rattle.plain_model.specs.Soundness.{IsCommitOf, has_id}
+use Rattle.history_laws.proofs.LineLaws.{FirstKnown, first_known, known_before}
 use Rattle.edit_laws.specs.Equations.{Fits}
 use Rattle.edit_laws.specs.Parts.{AreInOrder, AreOnce}
 use Rattle.edit_laws.specs.Settling.{is_ready}
@@ -20,21 +21,8 @@ use Rattle.edit_laws.proofs.Sound.{new_there}
 
 -- ---- what is known
 
--- the first of some commits is known, if there is one
-abbrev pub FirstKnown : Past → List ℕ → Type 0
-FirstKnown older [] = Unit {0}
-FirstKnown older (p ∷ ps) = knows older p ≡ true
-
-pub first_known : (older : Past) (ps : List ℕ) → AllByRecursion (λ p. IsTrue (knows older p)) ps → FirstKnown older ps
-first_known older [] a = tt
-first_known older (p ∷ ps) a = a.0
-
 pub known_later : (n : Node) (older : Past) (p : ℕ) → knows older p ≡ true → knows (n ∷ older) p ≡ true
 known_later n older p h = or_right (n.id == p) (knows older p) h
-
-pub known_before : (n : Node) (older : Past) (p : ℕ) → (n.id == p) ≡ false → knows (n ∷ older) p ≡ true →
-    knows older p ≡ true
-known_before n older p e h = sym (ap (λ b. b || knows older p) e) ∙ h
 
 -- a known id is not a fresh one
 pub not_fresh : (n : Node) (older : Past) (p : ℕ) → knows older n.id ≡ false → knows older p ≡ true →
@@ -168,3 +156,22 @@ pub trees_fit : (events : List PlainEvent) → AreOnce events → AreInOrder [] 
 trees_fit events o s =
     subst (AllByRecursion (Fits (tree events))) (reverse-reverse (nodes events))
     (all_reverse (Fits (tree events)) (past events) (fit (past events) (linked_in_order events o s)))
+
+pub nodes_found : (a : Past) → IsLinkedPast a → AllByRecursion (λ (n : Node). node_at a n.id ≡ Some n) a
+nodes_found [] s = tt
+nodes_found (n ∷ older) s = (
+  cond-true (n.id == n.id) (Some n) (node_at older n.id) (eq-eqb n.id n.id refl),
+  go older (nodes_found older s.2),
+)
+  where
+    known : (ms : Past) (m : Node) (c : ℕ) → node_at ms c ≡ Some m → knows ms c ≡ true
+    known [] m c h = absurd cc
+    known (k ∷ ms) m c h = pick (k.id == c) refl h (λ x. known ms m c x)
+      where
+        pick : (b : Bool) → (k.id == c) ≡ b → cond b (Some k) (node_at ms c) ≡ Some m → (node_at ms c ≡ Some m → knows ms c ≡ true) → knows (k ∷ ms) c ≡ true
+        pick true x y f = ap (λ t. t || knows ms c) x
+        pick false x y f = ap (λ t. t || knows ms c) x ∙ f y
+
+    go : (ms : Past) → AllByRecursion (λ (m : Node). node_at older m.id ≡ Some m) ms → AllByRecursion (λ (m : Node). node_at (n ∷ older) m.id ≡ Some m) ms
+    go [] k = tt
+    go (m ∷ ms) k = (cond-false (n.id == m.id) (Some n) (node_at older m.id) (not_fresh n older m.id s.0 (known older m m.id k.0)) ∙ k.0, go ms k.1)

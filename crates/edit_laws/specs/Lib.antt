@@ -1,7 +1,9 @@
 pub mod Blobs
+pub mod Checking
 pub mod Editing
 pub mod Equations
 pub mod Examples
+pub mod Keeping
 pub mod Parts
 pub mod Passing
 pub mod Removal

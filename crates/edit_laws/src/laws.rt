@@ -29,6 +29,7 @@ ghost use Rattle.plain_model.specs.Snapshots.{shown_tree};
 ghost use Rattle.plain_model.specs.Soundness.{IsCommitOf, IsSound};
 ghost use Rattle.plain_model.specs.Trees.{Tree};
 ghost use Rattle.edit_laws.specs.Blobs.{HasBytesOf};
+ghost use Rattle.edit_laws.specs.Checking.{tree_check};
 ghost use Rattle.edit_laws.specs.Equations.{Fits};
 ghost use Rattle.edit_laws.specs.Parts.{
   AreComplete,
@@ -106,6 +107,12 @@ pub fn a_passed_limit_is_found()
 pub fn a_list_in_order_is_linked()
     ensures { (events : List PlainEvent) → AreOnce events → AreInOrder [] events →
         IsLinkedPast (past events) }
+{}
+
+/// Where parents are earlier, the tree check answers Ok exactly where each commit has a tree.
+pub fn the_check_finds_what_has_no_tree()
+    ensures { (events : List PlainEvent) → IsLinkedPast (past events) →
+        (((c : ℕ) → IsCommitOf events c → IsSome (tree events c)) ↔ (tree_check events ≡ Ok tt)) }
 {}
 
 /// Trees that are the same show the same, where blobs have the same bytes.

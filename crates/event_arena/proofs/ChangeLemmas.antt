@@ -11,7 +11,7 @@ use Rattle.plain_model.specs.declared.person.Signed.{Signed}
 use Rattle.plain_model.specs.declared.event.PlainEvent.{PlainEvent}
 use Rattle.plain_model.specs.declared.event.PlainEvent.TheVariants as plain
 use Rattle.plain_model.specs.Lookups.{find_event, id_of, is_listed, place_of, same_id}
-use Rattle.history_laws.proofs.Ids.{same_id-true, same_id-comm}
+use Rattle.history_laws.proofs.Ids.{same_id-true, same_id-comm, absent-cons, cons-absent, find-id, some_suc}
 use Rattle.std.proofs.Math.Bool.{or-false, or-true}
 use Rattle.std.proofs.Math.ListN.{set}
 use Rattle.event_arena.specs.declared.field.Field.{Field}
@@ -19,9 +19,7 @@ use Rattle.event_arena.specs.declared.field.Field.TheVariants as field
 use Rattle.event_arena.specs.declared.field.Role.{Role}
 use Rattle.event_arena.specs.declared.field.Role.TheVariants.{Author, Committer, Tagger}
 use Rattle.event_arena.specs.Changes.{in_order, with_aliases, with_comment, with_field, with_label, with_mark, with_ops, with_parents, with_signed, with_target, without_all}
-use Rattle.event_arena.specs.Once.{AreDistinct}
-use Rattle.event_arena.proofs.PlaceLemmas.{some_suc}
-use Rattle.event_arena.proofs.SpentLemmas.{absent-cons, cons-absent, find-id}
+use Rattle.history_laws.specs.Once.{AreDistinct}
 
 -- a value in a field leaves the id
 pub id-with_field : (f : Field) (e : PlainEvent) → id_of (with_field f e) ≡ id_of e

@@ -8,21 +8,13 @@ use Rattle.std.specs.Prelude.{map, option_to_list, slice_get}
 use Rattle.plain_model.specs.declared.id.AnyId.{AnyId}
 use Rattle.plain_model.specs.declared.event.PlainEvent.{PlainEvent}
 use Rattle.plain_model.specs.Lookups.{find_event, id_of, is_listed, same_id}
-use Rattle.history_laws.proofs.Ids.{same_id-comm, same_id-true}
+use Rattle.history_laws.proofs.Ids.{absent-cons, cons-absent, find-id, same_id-comm, same_id-true}
 use Rattle.event_arena.specs.Changes.{IsOrderOf, changed, in_order, put_after, without, without_all}
-use Rattle.event_arena.specs.Once.{AreDistinct}
+use Rattle.history_laws.specs.Once.{AreDistinct}
 use Rattle.event_arena.proofs.ChangeLemmas.{AreListedOnce, once-distinct, order-misses}
 use Rattle.event_arena.proofs.ListLemmas.{drop-item}
 use Rattle.event_arena.proofs.OnceLemmas.{distinct-absent}
-use Rattle.event_arena.proofs.SpentLemmas.{absent-cons, adds-changed, adds-filter, adds-put_after, adds-without, cons-absent, find-id}
-
-find-front : (id : AnyId) (xs ys : List PlainEvent) → find_event id (xs ++ ys) ≡ None → find_event id xs ≡ None
-find-front id [] ys h = refl
-find-front id (x ∷ xs) ys h = let rest = absent-cons id x (xs ++ ys) h in cons-absent id x xs rest.0 (find-front id xs ys rest.1)
-
-pub distinct-front : (xs ys : List PlainEvent) → AreDistinct (xs ++ ys) → AreDistinct xs
-distinct-front [] ys once = tt
-distinct-front (x ∷ xs) ys once = (find-front (id_of x) xs ys once.0, distinct-front xs ys once.1)
+use Rattle.event_arena.proofs.SpentLemmas.{adds-changed, adds-filter, adds-put_after}
 
 -- the events before a place miss the id of the one there
 pub distinct-before : (es : List PlainEvent) (k : ℕ) (e : PlainEvent) → AreDistinct es → slice_get es k ≡ Some e → find_event (id_of e) (take k es) ≡ None
@@ -49,13 +41,6 @@ distinct-put_after x new (e ∷ es) absent once =
       | inl it ↦ rw it (cons-absent (id_of e) new es other once.0, (rest.1, once.1))
       | inr no_it ↦ rw no_it (adds-put_after x new es (id_of e) other once.0, distinct-put_after x new es rest.1 once.1)
     ]
-
-pub distinct-without : (x : AnyId) (es : List PlainEvent) → AreDistinct es → AreDistinct (without x es)
-distinct-without x [] once = tt
-distinct-without x (e ∷ es) once = elim (cases_Bool (same_id x (id_of e))) [
-  | inl it ↦ rw it once.1
-  | inr no_it ↦ rw no_it (adds-without x es (id_of e) once.0, distinct-without x es once.1)
-]
 
 pub distinct-filter : (p : PlainEvent → Bool) (es : List PlainEvent) → AreDistinct es → AreDistinct (filter p es)
 distinct-filter p [] once = tt

@@ -11,6 +11,6 @@ pub mod PlaceLemmas
 pub mod Plans
 pub mod PointerLemmas
 pub mod RowLemmas
-pub mod SoundLemmas
 pub mod SpentLemmas
+pub mod StepLemmas
 pub mod WeightLemmas

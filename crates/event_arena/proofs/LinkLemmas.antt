@@ -6,48 +6,17 @@ use Rattle.std.proofs.lemmas.Option.{none-some, same_Some}
 use Rattle.std.proofs.Math.ListN.{set}
 use Rattle.std.specs.List.{list_any}
 use Rattle.std.specs.Prelude.{flat_map, slice_get, IsTrue}
-use Rattle.plain_model.specs.declared.id.AnyId.{AnyId}
 use Rattle.plain_model.specs.declared.id.AnyId.TheVariants as any
 use Rattle.plain_model.specs.declared.event.PlainEvent.{PlainEvent}
-use Rattle.plain_model.specs.Lookups.{children_of, event_parents, id_of, own_child, place_of, same_id}
+use Rattle.plain_model.specs.Lookups.{children_of, event_parents, own_child, place_of}
 use Rattle.plain_model.specs.Soundness.{are_distinct}
-use Rattle.history_laws.proofs.Ids.{same_id-true}
+use Rattle.history_laws.proofs.Ids.{one_place}
 use Rattle.std.proofs.Math.Bool.{or_assoc, or-false}
 use Rattle.event_arena.specs.Indices.{HasChildren, IsLinked, IsLinkedEvent}
-use Rattle.event_arena.specs.Once.{AreParentsOnce}
+use Rattle.history_laws.specs.Once.{AreParentsOnce}
 use Rattle.event_arena.proofs.ListLemmas.{drop-item, length-flat-item}
-use Rattle.event_arena.proofs.PlaceLemmas.{some_suc}
 
 -- ---- places
-
--- two ids at one place are one
-one_place : (a b : AnyId) (es : List PlainEvent) (k : ℕ) → place_of a es ≡ Some k → place_of b es ≡ Some k → a ≡ b
-one_place a b [] k p q = absurd (none-some k p)
-one_place a b (e ∷ es) k p q = elim (cases_Bool (same_id a (id_of e))) [
-  | inl a_it ↦ elim (cases_Bool (same_id b (id_of e))) [
-    | inl b_it ↦ same_id-true a (id_of e) a_it ∙ sym (same_id-true b (id_of e) b_it)
-    | inr no_b ↦
-        let first : 0 ≡ k = same_Some 0 k (rw a_it at p) in
-        let later = some_suc (place_of b es) k (rw no_b at q) in
-        absurd (differ later.0 k first later.2)
-  ]
-  | inr no_a ↦ elim (cases_Bool (same_id b (id_of e))) [
-    | inl b_it ↦
-        let first : 0 ≡ k = same_Some 0 k (rw b_it at q) in
-        let later = some_suc (place_of a es) k (rw no_a at p) in
-        absurd (differ later.0 k first later.2)
-    | inr no_b ↦
-        let x = some_suc (place_of a es) k (rw no_a at p) in
-        let y = some_suc (place_of b es) k (rw no_b at q) in
-        one_place a b es x.0 x.1 (y.1 ∙ ap Some (down y.0 x.0 k y.2 x.2))
-  ]
-]
-  where
-    differ : (j k : ℕ) → 0 ≡ k → suc j ≡ k → ⊥
-    differ j k h i = omega arith
-
-    down : (a b k : ℕ) → suc a ≡ k → suc b ≡ k → a ≡ b
-    down a b k h i = omega arith
 
 same_number : (a b : ℕ) → any.Commit a ≡ any.Commit b → a ≡ b
 same_number a b h = cc

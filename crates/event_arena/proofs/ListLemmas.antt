@@ -1,6 +1,5 @@
 -- Walks along a list.
-use Rattle.std.proofs.Common.{◌≡◌, ◌∙◌, ℕ, zero, suc, ◌+◌, ◌<◌, ◌≤◌, List, [], ◌∷◌, ◌++◌, Some, None, refl, ap, sym, length, take, drop, get_or, reverse, append_assoc, arith, length-append}
-use Rattle.std.proofs.lemmas.List.{reverse-append}
+use Rattle.std.proofs.Common.{◌≡◌, ◌∙◌, ℕ, zero, suc, ◌+◌, ◌<◌, ◌≤◌, List, [], ◌∷◌, ◌++◌, Some, None, refl, ap, sym, length, take, drop, get_or, append_assoc, arith, length-append}
 use Rattle.std.proofs.lemmas.Option.{none-some, same_Some}
 use Rattle.std.specs.List.{fold}
 use Rattle.std.specs.Prelude.{flat_map, slice_get}
@@ -31,9 +30,6 @@ module _ {X : Type 0} where
   drop-item [] k x h = absurd (none_at x h)
   drop-item (y ∷ xs) zero x h = ap (λ z. z ∷ xs) (sym (same_Some x y (sym h)))
   drop-item (y ∷ xs) (suc k) x h = drop-item xs k x h
-
-  pub reverse-push : (xs : List X) (x : X) → reverse (xs ++ x ∷ []) ≡ x ∷ reverse xs
-  reverse-push xs x = reverse-append xs (x ∷ [])
 
   pub append-nil : (xs : List X) → xs ++ [] ≡ xs
   append-nil [] = refl

@@ -14,7 +14,7 @@ use Rattle.plain_model.specs.declared.id.AnyId.{AnyId}
 use Rattle.plain_model.specs.declared.event.PlainEvent.{PlainEvent}
 use Rattle.plain_model.specs.Lookups.{find_mark, marks_of}
 use Rattle.event_arena.specs.Indices.{IsMarkIndex}
-use Rattle.event_arena.specs.Once.{AreMarkedOnce}
+use Rattle.history_laws.specs.Once.{AreMarkedOnce}
 
 self : (n : ℕ) → eqb n n ≡ true
 self n = grind (arith, nat_tests)

@@ -1,15 +1,13 @@
 -- What a list of events comes to.
-use Rattle.std.proofs.Common.{◌≡◌, ◌∙◌, ℕ, zero, suc, ◌+◌, ◌<◌, ◌≤◌, inl, inr, List, [], ◌∷◌, Some, refl, sym, ap, length, max, arith, length-append}
-use Rattle.std.proofs.lemmas.Bool.{cases_Bool, true≢false}
+use Rattle.std.proofs.Common.{◌≡◌, ◌∙◌, ℕ, zero, suc, ◌<◌, ◌≤◌, inl, inr, List, [], ◌∷◌, Some, refl, sym, ap, length, arith, length-append}
+use Rattle.std.proofs.lemmas.Bool.{cases_Bool}
 use Rattle.std.proofs.lemmas.Option.{none-some, same_Some}
-use Rattle.std.specs.List.{fold}
 use Rattle.std.specs.Prelude.{flat_map, map, slice_get, IsSome}
-use Rattle.plain_model.specs.declared.id.AnyId.{AnyId}
 use Rattle.plain_model.specs.declared.event.PlainEvent.{PlainEvent}
-use Rattle.plain_model.specs.Lookups.{AreIdsBelow, event_parents, find_event, id_number, id_of, next_number, referents_of, same_id}
+use Rattle.plain_model.specs.Lookups.{AreIdsBelow, event_parents, find_event, id_number, id_of, referents_of, same_id}
 use Rattle.plain_model.specs.declared.event.PlainEvent.TheVariants as plain
 use Rattle.plain_model.specs.declared.id.AnyId.TheVariants as any
-use Rattle.history_laws.proofs.Ids.{same_id-refl, same_id-true}
+use Rattle.history_laws.proofs.Ids.{same_id-refl}
 use Rattle.event_arena.specs.Needs.{need}
 
 -- ---- room
@@ -47,21 +45,3 @@ found-at (x ∷ es) (suc k) e h = elim (cases_Bool (same_id (id_of e) (id_of x))
 -- the id of each event is below the bound
 pub below-at : (bound : ℕ) (es : List PlainEvent) (k : ℕ) (e : PlainEvent) → AreIdsBelow bound es → slice_get es k ≡ Some e → id_number (id_of e) < bound
 below-at bound es k e below h = below (id_of e) (found-at es k e h)
-
--- each id is below one above the greatest
-pub below-next : (es : List PlainEvent) → AreIdsBelow (next_number es) es
-below-next es = along es 1
-  where
-    grows : (es : List PlainEvent) (a : ℕ) → a ≤ fold (λ n e. max n (id_number (id_of e) + 1)) a es
-    grows [] a = omega arith
-    grows (e ∷ es) a = let h = grows es (max a (id_number (id_of e) + 1)) in omega arith
-
-    along : (es : List PlainEvent) (a : ℕ) (id : AnyId) → IsSome (find_event id es) → id_number id < fold (λ n e. max n (id_number (id_of e) + 1)) a es
-    along [] a id h = absurd (true≢false (sym h))
-    along (e ∷ es) a id h = elim (cases_Bool (same_id id (id_of e))) [
-      | inl it ↦
-          let here = grows es (max a (id_number (id_of e) + 1)) in
-          let same = ap id_number (same_id-true id (id_of e) it) in
-          omega arith
-      | inr no_it ↦ along es (max a (id_number (id_of e) + 1)) id (rw no_it at h)
-    ]

@@ -7,10 +7,9 @@ use Rattle.std.specs.Prelude.{flat_map, slice_get}
 use Rattle.plain_model.specs.declared.id.AnyId.{AnyId}
 use Rattle.plain_model.specs.declared.event.PlainEvent.{PlainEvent}
 use Rattle.plain_model.specs.Lookups.{find_event, id_of, marks_of, own_marks, same_id}
-use Rattle.history_laws.proofs.Ids.{same_id-refl, same_id-true, same_id-comm}
-use Rattle.event_arena.specs.Once.{AreDistinct, named}
+use Rattle.history_laws.proofs.Ids.{same_id-refl, same_id-true, same_id-comm, absent-cons}
+use Rattle.history_laws.specs.Once.{AreDistinct, named}
 use Rattle.event_arena.proofs.ListLemmas.{flat-split, flat-take-item, take-more}
-use Rattle.event_arena.proofs.SpentLemmas.{absent-cons}
 
 -- ---- ids
 

@@ -7,12 +7,11 @@ use Rattle.std.specs.Prelude.{map, option_to_list}
 use Rattle.plain_model.specs.declared.id.AnyId.{AnyId}
 use Rattle.plain_model.specs.declared.event.PlainEvent.{PlainEvent}
 use Rattle.plain_model.specs.Lookups.{find_event, id_of, place_of}
-use Rattle.history_laws.proofs.Ids.{same_id-comm, same_id-refl}
+use Rattle.history_laws.proofs.Ids.{absent-cons, same_id-comm, same_id-refl}
 use Rattle.event_arena.specs.Changes.{IsOrderOf, in_order, put_after}
-use Rattle.event_arena.specs.Once.{AreDistinct}
+use Rattle.history_laws.specs.Once.{AreDistinct}
 use Rattle.event_arena.specs.Weights.{event_weight, weight_of}
 use Rattle.event_arena.proofs.PlaceLemmas.{put-insert}
-use Rattle.event_arena.proofs.SpentLemmas.{absent-cons}
 
 -- what the event with an id weighs
 abbrev id_weight : List PlainEvent → AnyId → ℕ

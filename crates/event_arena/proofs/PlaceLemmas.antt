@@ -1,72 +1,19 @@
 -- The places of events in a list, and the places that are noted for them.
-use Rattle.std.proofs.Common.{◌≡◌, ◌∙◌, ℕ, zero, suc, ◌<◌, true, cond, ◌⊎◌, inl, inr, List, [], ◌∷◌, ◌++◌, Option, Some, None, refl, ap, sym, subst, length, arith}
+use Rattle.std.proofs.Common.{◌≡◌, ◌∙◌, ℕ, zero, suc, true, cond, ◌⊎◌, inl, inr, List, [], ◌∷◌, ◌++◌, Option, Some, None, refl, ap, sym, length, arith}
 use Rattle.std.proofs.Math.ListN.{set}
 use Rattle.std.proofs.lemmas.Bool.{cases_Bool}
 use Rattle.std.proofs.lemmas.Option.{none-some, same_Some}
 use Rattle.std.specs.List.{insert}
-use Rattle.std.specs.Prelude.{IsSome, option_map, slice_get}
+use Rattle.std.specs.Prelude.{option_map, slice_get}
 use Rattle.plain_model.specs.declared.id.AnyId.{AnyId}
 use Rattle.plain_model.specs.declared.event.PlainEvent.{PlainEvent}
 use Rattle.plain_model.specs.Lookups.{find_event, id_of, place_of, same_id}
-use Rattle.history_laws.proofs.Ids.{same_id-refl, same_id-true}
+use Rattle.history_laws.proofs.Ids.{place-at, place-some, placeless, same_id-refl, same_id-true, some_suc}
 use Rattle.event_arena.specs.Changes.{changed, put_after}
 use Rattle.event_arena.specs.Rows.{IsNoted, IsPlaced, noted}
 use Rattle.event_arena.specs.declared.places.Places.{Places}
-use Rattle.event_arena.proofs.SpentLemmas.{cons-absent}
 
 -- ---- places in a list
-
-pub some_suc : (o : Option ℕ) (k : ℕ) → option_map suc o ≡ Some k → (j : ℕ) × (o ≡ Some j) × (suc j ≡ k)
-some_suc None k h = absurd (none-some k h)
-some_suc (Some j) k h = (j, refl, same_Some (suc j) k h)
-
-no_suc : (o : Option ℕ) → option_map suc o ≡ None → o ≡ None
-no_suc None h = refl
-no_suc (Some k) h = absurd (none-some (suc k) (sym h))
-
--- what has no place isn't there
-pub placeless : (es : List PlainEvent) (id : AnyId) → place_of id es ≡ None → find_event id es ≡ None
-placeless [] id h = refl
-placeless (e ∷ es) id h = elim (cases_Bool (same_id id (id_of e))) [
-  | inl it ↦ absurd (none-some 0 (sym h ∙ rw it refl))
-  | inr no_it ↦ cons-absent id e es no_it (placeless es id (no_suc (place_of id es) (rw no_it at h)))
-]
-
--- at the place of an id is the event that has it
-pub place-at : (id : AnyId) (es : List PlainEvent) (k : ℕ) → place_of id es ≡ Some k →
-    (e : PlainEvent) × (slice_get es k ≡ Some e) × (find_event id es ≡ Some e) × (id ≡ id_of e)
-place-at id [] k h = absurd (none-some k h)
-place-at id (e ∷ es) k h = elim (cases_Bool (same_id id (id_of e))) [
-  | inl it ↦
-      let first : 0 ≡ k = same_Some 0 k (rw it at h) in
-      (e, ap (slice_get (e ∷ es)) (sym first), rw it refl, same_id-true id (id_of e) it)
-  | inr no_it ↦
-      let later = some_suc (place_of id es) k (rw no_it at h) in
-      let rest = place-at id es later.0 later.1 in
-      (rest.0, ap (slice_get (e ∷ es)) (sym later.2) ∙ rest.1, rw no_it rest.2, rest.3)
-]
-
--- the id of an event that is there has a place
-pub place-some : (es : List PlainEvent) (k : ℕ) (e : PlainEvent) → slice_get es k ≡ Some e → (j : ℕ) × (place_of (id_of e) es ≡ Some j)
-place-some [] k e h = absurd (none-some e h)
-place-some (x ∷ es) zero e h = (0, subst (λ y. place_of (id_of y) (x ∷ es) ≡ Some 0) (same_Some x e h) (rw (same_id-refl (id_of x)) refl))
-place-some (x ∷ es) (suc k) e h = elim (cases_Bool (same_id (id_of e) (id_of x))) [
-  | inl it ↦ (0, rw it refl)
-  | inr no_it ↦ let rest = place-some es k e h in (suc rest.0, rw no_it (ap (option_map suc) rest.1))
-]
-
-pub place-within : (es : List PlainEvent) (k : ℕ) (e : PlainEvent) → slice_get es k ≡ Some e → k < length es
-place-within [] k e h = absurd (none-some e h)
-place-within (x ∷ es) zero e h = omega arith
-place-within (x ∷ es) (suc k) e h = let rest = place-within es k e h in omega arith
-
--- an event that is there has a place
-pub found-place : (id : AnyId) (es : List PlainEvent) → IsSome (find_event id es) → IsSome (place_of id es)
-found-place id es there = by (place_of id es) refl
-  where
-    by : (o : Option ℕ) → place_of id es ≡ o → IsSome o
-    by None h = subst IsSome (placeless es id h) there
-    by (Some k) h = refl
 
 -- one event more
 place-more : (id : AnyId) (es : List PlainEvent) (e : PlainEvent) (k : ℕ) → place_of id (es ++ e ∷ []) ≡ Some k →

@@ -6,10 +6,10 @@ use Rattle.plain_model.specs.declared.id.AnyId.{AnyId}
 use Rattle.plain_model.specs.declared.id.AnyId.TheVariants as any
 use Rattle.plain_model.specs.declared.event.PlainEvent.{PlainEvent}
 use Rattle.plain_model.specs.Lookups.{id_of, is_listed, place_of}
+use Rattle.history_laws.proofs.Ids.{place-at}
 use Rattle.event_arena.specs.Pointers.{AreAmong, HasNotedResets, HasNotedTags, HasPointers}
 use Rattle.event_arena.specs.Rows.{IsPlaced}
 use Rattle.event_arena.specs.declared.places.Places.{Places}
-use Rattle.event_arena.proofs.PlaceLemmas.{place-at}
 
 -- the first event's id, the tags and then the resets for which other places are noted are all of them
 pub all-pointers : (places : Places) (es : List PlainEvent) (first tags all : List AnyId) → IsPlaced places es →

@@ -1,36 +1,14 @@
 -- Which ids a change of a list can add.
-use Rattle.std.proofs.Common.{◌≡◌, ◌∙◌, Bool, false, inl, inr, List, [], ◌∷◌, ◌++◌, Option, Some, None, refl, ap, sym, subst, filter}
+use Rattle.std.proofs.Common.{◌≡◌, ◌∙◌, Bool, inl, inr, List, [], ◌∷◌, ◌++◌, Option, Some, None, refl, ap, sym, filter}
 use Rattle.std.proofs.lemmas.Bool.{cases_Bool}
 use Rattle.std.proofs.lemmas.Option.{none-some}
-use Rattle.std.specs.Prelude.{Result, Ok, Err, OnOk, OnErr, option_to_list}
+use Rattle.std.specs.Prelude.{option_to_list}
 use Rattle.plain_model.specs.declared.id.AnyId.{AnyId}
 use Rattle.plain_model.specs.declared.event.PlainEvent.{PlainEvent}
 use Rattle.plain_model.specs.Lookups.{find_event, id_of, same_id}
-use Rattle.history_laws.proofs.Ids.{same_id-true}
+use Rattle.history_laws.proofs.Ids.{absent-cons, cons-absent, find-id, same_id-true}
 use Rattle.event_arena.specs.Changes.{changed, in_order, put_after, without}
 use Rattle.event_arena.specs.Spent.{AddsNone, AddsOnly}
-
--- an id that isn't there is neither the first event's nor a later one's
-pub absent-cons : (id : AnyId) (e : PlainEvent) (es : List PlainEvent) → find_event id (e ∷ es) ≡ None →
-    (same_id id (id_of e) ≡ false) × (find_event id es ≡ None)
-absent-cons id e es h = elim (cases_Bool (same_id id (id_of e))) [
-  | inl it ↦ absurd (none-some e (sym h ∙ rw it refl))
-  | inr no_it ↦ (no_it, rw no_it at h)
-]
-
-pub cons-absent : (id : AnyId) (e : PlainEvent) (es : List PlainEvent) → same_id id (id_of e) ≡ false → find_event id es ≡ None → find_event id (e ∷ es) ≡ None
-cons-absent id e es no_it h = rw no_it h
-
--- an event that is found has the id
-pub find-id : (id : AnyId) (es : List PlainEvent) (e : PlainEvent) → find_event id es ≡ Some e → id ≡ id_of e
-find-id id [] e h = absurd (none-some e h)
-find-id id (x ∷ es) e h = elim (cases_Bool (same_id id (id_of x))) [
-  | inl it ↦ same_id-true id (id_of x) it ∙ ap id_of (found (rw it at h))
-  | inr no_it ↦ find-id id es e (rw no_it at h)
-]
-  where
-    found : Some x ≡ Some e → x ≡ e
-    found h = cc
 
 pub adds-without : (x : AnyId) (es : List PlainEvent) → AddsNone es (without x es)
 adds-without x [] id h = refl
@@ -85,9 +63,3 @@ adds-in_order (x ∷ order) es id h = by (find_event x es) refl (adds-in_order o
       | inl it ↦ absurd (none-some e (sym h ∙ ap (λ i. find_event i es) (same_id-true id (id_of e) it ∙ sym (find-id x es e is)) ∙ is))
       | inr no_it ↦ cons-absent id e (in_order order es) no_it rest
     ]
-
--- a fact about what a change leaves, whether it was made or refused
-pub either : (P : List PlainEvent → Type 0) {E : Type 0} {A : Type 0} (r : Result A E) (old new after : List PlainEvent) →
-    OnOk r (new ≡ after) → OnErr r (new ≡ old) → P after → P old → P new
-either P (Ok x) old new after ok err h i = subst P (sym ok) h
-either P (Err x) old new after ok err h i = subst P (sym err) i

@@ -1,8 +1,8 @@
 -- What a list of events weighs.
-use Rattle.std.proofs.Common.{◌≡◌, ◌∙◌, ℕ, zero, suc, ◌+◌, ◌≤◌, List, [], ◌∷◌, Option, Some, None, ap, length, take, drop, arith, length-append}
+use Rattle.std.proofs.Common.{◌≡◌, ◌∙◌, ℕ, zero, suc, ◌+◌, ◌≤◌, List, [], ◌∷◌, Option, Some, None, ap, length, drop, arith, length-append}
 use Rattle.std.proofs.Math.ListN.{set}
 use Rattle.std.proofs.lemmas.List.{length-map}
-use Rattle.std.proofs.lemmas.List.Sums.{sum_by-cons, sum_by-take-drop, sum_by_push}
+use Rattle.std.proofs.lemmas.List.Sums.{sum_by-cons, sum_by-take-drop}
 use Rattle.std.proofs.lemmas.Option.{none-some, same_Some}
 use Rattle.std.specs.Prelude.{IfSome, flat_map, map, slice_get}
 use Rattle.plain_model.specs.declared.id.AnyId.TheVariants as any
@@ -14,7 +14,7 @@ use Rattle.plain_model.specs.declared.event.PlainEvent.TheVariants as plain
 use Rattle.plain_model.specs.Lookups.{marks_of, op_blobs, own_marks, referents_of}
 use Rattle.event_arena.specs.Needs.{event_need, need}
 use Rattle.event_arena.specs.Weights.{event_weight, weight_of}
-use Rattle.event_arena.proofs.ListLemmas.{drop-item, take-item}
+use Rattle.event_arena.proofs.ListLemmas.{drop-item}
 
 -- a bound of more is a bound of less
 pub bound-less : (most : Option ℕ) (less more : ℕ) → less ≤ more → IfSome most (λ m. more ≤ m) → IfSome most (λ m. less ≤ m)
@@ -24,9 +24,6 @@ bound-less (Some m) less more h b = omega arith
 -- ---- one event more or less
 
 module _ (es : List PlainEvent) (k : ℕ) (e : PlainEvent) (at : slice_get es k ≡ Some e) where
-  pub weight-more : weight_of (take (suc k) es) ≡ weight_of (take k es) + event_weight e
-  weight-more = ap weight_of (take-item es k e at) ∙ sum_by_push event_weight (take k es) e
-
   pub weight-left : weight_of (drop k es) ≡ event_weight e + weight_of (drop (suc k) es)
   weight-left = ap weight_of (drop-item es k e at) ∙ sum_by-cons event_weight e (drop (suc k) es)
 

@@ -30,11 +30,6 @@ abbrev pub put_after : AnyId → PlainEvent → List PlainEvent → List PlainEv
 put_after id new [] = []
 put_after id new (e ∷ events) = if same_id id (id_of e) then e ∷ new ∷ events else e ∷ put_after id new events
 
--- with an event in the place of the one that has its id, or at the end
-abbrev pub put_event : PlainEvent → List PlainEvent → List PlainEvent
-put_event new [] = new ∷ []
-put_event new (e ∷ events) = if same_id (id_of new) (id_of e) then new ∷ events else e ∷ put_event new events
-
 -- the order has the id of each event once, and no others
 abbrev pub IsOrderOf : List AnyId → List PlainEvent → Type 0
 IsOrderOf order events = IsPermutation (map id_of events) order

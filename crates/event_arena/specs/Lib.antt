@@ -7,7 +7,6 @@ pub mod Indices
 pub mod LinkPlaces
 pub mod Needs
 pub mod Numbers
-pub mod Once
 pub mod Plans
 pub mod Pointers
 pub mod Rows

@@ -8,7 +8,7 @@ use Rattle.plain_model.specs.declared.event.PlainEvent.{PlainEvent}
 use Rattle.plain_model.specs.Lookups.{id_of, place_of, same_id}
 use Rattle.event_arena.specs.declared.places.Places.{Places}
 use Rattle.event_arena.specs.declared.store.Row.{Row}
-use Rattle.event_arena.specs.Once.{AreDistinct}
+use Rattle.history_laws.specs.Once.{AreDistinct}
 use Rattle.event_arena.specs.Weights.{weight_of}
 
 -- the events behind these pointers

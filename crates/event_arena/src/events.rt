@@ -106,6 +106,14 @@ impl Events {
         self.table.to_list()
     }
 
+    /// The events, to be looked up. Every history is sound.
+    pub fn table(&self) -> &EventTable
+        ensures table { result.now ≡ self.now.list }
+        ensures sound { IsSound self.now.list }
+    {
+        &self.table
+    }
+
     /// How many events there are. Every history is sound.
     pub fn count(&self) -> usize
         ensures count { result ≡ length self.now.list }

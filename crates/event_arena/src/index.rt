@@ -16,7 +16,7 @@ ghost use Rattle.std.specs.Prelude.{
   IsTrue,
 };
 ghost use Rattle.event_arena.specs.Indices.{HasChildren, IsLinked, IsLinkedEvent, IsMarkIndex};
-ghost use Rattle.event_arena.specs.Once.{AreParentsOnce, named};
+ghost use Rattle.history_laws.specs.Once.{AreParentsOnce, named};
 ghost use Rattle.plain_model.specs.Lookups.{event_parents, marks_of, own_marks};
 ghost use Rattle.plain_model.specs.Soundness.{are_distinct};
 ghost use Rattle.plain_model.specs.declared.id.AnyId.TheVariants.{Commit};

@@ -17,3 +17,4 @@ pub use events::Events;
 pub use field::Role;
 pub use links::Children;
 pub use plan::Plan;
+pub use table::EventTable;

@@ -42,7 +42,7 @@ ghost use Rattle.event_arena.specs.Changes.{
   without,
   without_all,
 };
-ghost use Rattle.event_arena.specs.Once.{AreDistinct};
+ghost use Rattle.history_laws.specs.Once.{AreDistinct};
 ghost use Rattle.event_arena.specs.Plans.{leaving};
 ghost use Rattle.event_arena.specs.Spent.{BringsNoneBack};
 ghost use Rattle.event_arena.specs.Weights.{weight_of};
@@ -103,6 +103,20 @@ impl Plan {
             made_at: next,
             next,
         })
+    }
+
+    /// The events before, to be looked up.
+    pub fn before(&self) -> &EventTable
+        ensures { result.now ≡ self.now.before }
+    {
+        &self.before
+    }
+
+    /// The events after, to be looked up.
+    pub fn after(&self) -> &EventTable
+        ensures { result.now ≡ self.now.after }
+    {
+        &self.after
     }
 
     /// How many events there are after. No two have one id.

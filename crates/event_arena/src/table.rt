@@ -30,7 +30,7 @@ ghost use Rattle.event_arena.specs.Changes.{
   without_all,
 };
 ghost use Rattle.event_arena.specs.Numbers.{numbered};
-ghost use Rattle.event_arena.specs.Once.{AreDistinct};
+ghost use Rattle.history_laws.specs.Once.{AreDistinct};
 ghost use Rattle.event_arena.specs.Pointers.{HasPointers};
 ghost use Rattle.event_arena.specs.Rows.{AreRows, IsNoted, events_of, in_rows, noted};
 ghost use Rattle.event_arena.specs.Spent.{AddsNone, AddsOnly};
@@ -54,7 +54,8 @@ use std::alloc::Global;
 use std::marker::Model;
 use std::rc::Rc;
 
-/// A list of events, no two with one id. Tables share all that they hold, rows and places and events, until one of them
+/// A list of events that can be looked up, no two with one id. A history and a plan change theirs; whoever else has one reads it.
+/// Tables share all that they hold, rows and places and events, until one of them
 /// changes it. Rows alone answer what is asked of ids and their order, so that events are read only for what they say.
 #[derive(Drop)]
 pub struct EventTable {
@@ -107,7 +108,7 @@ impl EventTable {
     }
 
     /// The table of a list whose ids are distinct, with a store of just its events.
-    pub fn from_list(alloc: Global, list: EventList) -> Result<EventTable, NoMemory>
+    pub(crate) fn from_list(alloc: Global, list: EventList) -> Result<EventTable, NoMemory>
         requires { AreDistinct list }
         ensures { IfOk result (λ table. table ≡ list) }
     {
@@ -130,7 +131,7 @@ impl EventTable {
     }
 
     /// The list, over the same events.
-    pub fn to_list(&self) -> Result<EventList, NoMemory>
+    pub(crate) fn to_list(&self) -> Result<EventList, NoMemory>
         ensures { IfOk result (λ list. list ≡ self.now) }
     {
         let mut list = Items::empty(self.alloc);
@@ -141,7 +142,7 @@ impl EventTable {
     }
 
     /// An equal table over the same rows.
-    pub fn share(&self, alloc: Global) -> Result<EventTable, NoMemory>
+    pub(crate) fn share(&self, alloc: Global) -> Result<EventTable, NoMemory>
         ensures { IfOk result (λ table. table ≡ self.now) }
     {
         let rows = self.rows.clone()?;
@@ -159,7 +160,7 @@ impl EventTable {
 
     /// An equal table that is to be changed: over the same rows, or with a store of its own where too much of this one has
     /// gone out of use.
-    pub fn renewed(&self, alloc: Global) -> Result<EventTable, NoMemory>
+    pub(crate) fn renewed(&self, alloc: Global) -> Result<EventTable, NoMemory>
         ensures { IfOk result (λ table. table ≡ self.now) }
     {
         let count = self.count();
@@ -275,7 +276,7 @@ impl EventTable {
     }
 
     /// Puts an event at the end.
-    pub fn append(&mut self, event: PlainEvent) -> Result<(), NoMemory>
+    pub(crate) fn append(&mut self, event: PlainEvent) -> Result<(), NoMemory>
         requires { find_event (id_of event) self.old ≡ None }
         ensures ok { OnOk result (self.new ≡ self.old ++ event ∷ []) }
         ensures err { OnErr result (self.new ≡ self.old) }
@@ -310,7 +311,7 @@ impl EventTable {
     }
 
     /// Puts an event right after the one with the id.
-    pub fn insert_after(&mut self, id: AnyId, event: PlainEvent) -> Result<(), NoMemory>
+    pub(crate) fn insert_after(&mut self, id: AnyId, event: PlainEvent) -> Result<(), NoMemory>
         requires there { IsSome (find_event id self.old) }
         requires unknown { find_event (id_of event) self.old ≡ None }
         ensures ok { OnOk result (self.new ≡ put_after id event self.old) }
@@ -322,7 +323,7 @@ impl EventTable {
     }
 
     /// Puts a value into a field of the event with the id.
-    pub fn set(&mut self, id: AnyId, field: Field) -> Result<(), NoMemory>
+    pub(crate) fn set(&mut self, id: AnyId, field: Field) -> Result<(), NoMemory>
         requires { IsSome (find_event id self.old) }
         ensures ok { OnOk result (self.new ≡ changed id (with_field field) self.old) }
         ensures err { OnErr result (self.new ≡ self.old) }
@@ -341,7 +342,7 @@ impl EventTable {
     }
 
     /// Takes the event with the id away. The later ones move up, which costs a move of each.
-    pub fn remove(&mut self, id: AnyId) -> Result<(), NoMemory>
+    pub(crate) fn remove(&mut self, id: AnyId) -> Result<(), NoMemory>
         ensures ok { OnOk result (self.new ≡ without id self.old) }
         ensures err { OnErr result (self.new ≡ self.old) }
         ensures adds { AddsNone self.old self.new }
@@ -396,7 +397,7 @@ impl EventTable {
     }
 
     /// Takes away the events with these ids, in one pass.
-    pub fn remove_all(&mut self, ids: &[AnyId]) -> Result<(), NoMemory>
+    pub(crate) fn remove_all(&mut self, ids: &[AnyId]) -> Result<(), NoMemory>
         ensures ok { OnOk result (self.new ≡ without_all ids.now self.old) }
         ensures err { OnErr result (self.new ≡ self.old) }
         ensures adds { AddsNone self.old self.new }
@@ -422,7 +423,7 @@ impl EventTable {
     }
 
     /// Puts the events in another order.
-    pub fn set_order(&mut self, order: &[AnyId]) -> Result<(), NoMemory>
+    pub(crate) fn set_order(&mut self, order: &[AnyId]) -> Result<(), NoMemory>
         requires { IsOrderOf order.now self.old }
         ensures ok { OnOk result (self.new ≡ in_order order.now self.old) }
         ensures err { OnErr result (self.new ≡ self.old) }

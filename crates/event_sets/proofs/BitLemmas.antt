@@ -6,11 +6,9 @@ use Rattle.std.specs.Prelude.{◌||◌, ◌&&◌, is_some, replicate, slice_get}
 use Rattle.plain_model.specs.Lookups.{find_event, id_of, is_listed, place_of, same_id}
 use Rattle.plain_model.specs.declared.id.AnyId.{AnyId}
 use Rattle.plain_model.specs.declared.event.PlainEvent.{PlainEvent}
-use Rattle.history_laws.proofs.Ids.{same_id-comm, same_id-refl, same_id-true}
-use Rattle.event_arena.specs.Once.{AreDistinct}
+use Rattle.history_laws.proofs.Ids.{absent-cons, place-at, placeless, same_id-comm, same_id-refl, same_id-true}
+use Rattle.history_laws.specs.Once.{AreDistinct}
 use Rattle.event_arena.proofs.ListLemmas.{append-nil}
-use Rattle.event_arena.proofs.PlaceLemmas.{place-at, placeless}
-use Rattle.event_arena.proofs.SpentLemmas.{absent-cons}
 use Rattle.event_sets.specs.Bits.{Adds, bits_of, both, picks}
 use Rattle.event_sets.specs.Once.{AreLive}
 use Rattle.event_sets.specs.Sets.{Ids, is_live, passing}

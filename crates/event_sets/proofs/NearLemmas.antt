@@ -1,5 +1,6 @@
 -- The neighbours, parents and children of the events of a list.
 use Rattle.std.proofs.Common.{◌≡◌, ◌∙◌, ℕ, zero, suc, ◌<◌, ◌≤◌, Bool, true, false, List, [], ◌∷◌, ◌++◌, Some, None, inl, inr, refl, sym, ap, length, get_or, take, map, arith}
+use Rattle.std.proofs.Math.Bool.{or-false}
 use Rattle.std.proofs.lemmas.Bool.{cases_Bool, or_left, or_right}
 use Rattle.std.proofs.lemmas.Grind.{flat_map-append}
 use Rattle.std.proofs.lemmas.List.{map-append}
@@ -17,15 +18,15 @@ use Rattle.plain_model.specs.declared.operation.FileOp.TheVariants.{Modify, Dele
 use Rattle.plain_model.specs.declared.event.PlainEvent.{PlainEvent}
 use Rattle.plain_model.specs.declared.event.PlainEvent.TheVariants.{Blob, Commit, Tag, Reset, Pass}
 use Rattle.history_laws.proofs.Ids.{same_id-comm, same_id-true}
-use Rattle.event_arena.specs.Once.{AreDistinct}
+use Rattle.history_laws.specs.Once.{AreDistinct}
+use Rattle.history_laws.proofs.Lists.{item_at}
 use Rattle.event_arena.proofs.ChangeLemmas.{is_listed-append}
-use Rattle.event_arena.proofs.ListLemmas.{append-nil, take-all, take-item, take-more}
+use Rattle.event_arena.proofs.ListLemmas.{append-nil, take-all, take-item}
 use Rattle.event_sets.specs.Around.{linked, puts_one}
 use Rattle.event_sets.specs.Bits.{Adds, bits_of}
 use Rattle.event_sets.specs.Once.{AreLive}
 use Rattle.event_sets.specs.Sets.{Ids, around, is_live, members, passing, puts}
 use Rattle.event_sets.proofs.BitLemmas.{bit-of, live-misses, picks-passing, picks-tied}
-use Rattle.event_sets.proofs.SetLemmas.{item-at}
 
 -- ---- what is marked for each member, one event after another
 
@@ -53,7 +54,7 @@ module _ (f : PlainEvent → Ids) (es : List PlainEvent) (bits : List Bool) wher
   pub found-skip : (k : ℕ) (found : List Bool) → k < length es → get_or bits k false ≡ false → Found f es bits k found →
       Found f es bits (suc k) found
   found-skip k found low off so_far = λ ids tied.
-      let item = item-at es k low in
+      let item = item_at es k low in
       let e = item.0 in
       let listed : is_listed (id_of e) ids ≡ false =
       sym (bit-of es ids k e item.1) ∙ ap (λ bs. get_or bs k false) (sym tied) ∙ off in
@@ -76,15 +77,6 @@ pub map-flat : {X Y Z : Type 0} (g : Y → Z) (f : X → List Y) (xs : List X) �
     flat_map (λ x. map g (f x)) xs ≡ map g (flat_map f xs)
 map-flat g f [] = refl
 map-flat g f (x ∷ xs) = ap (λ ys. map g (f x) ++ ys) (map-flat g f xs) ∙ sym (map-append g (f x) (flat_map f xs))
-
--- one item more
-pub mapped-more : {X Y Z : Type 0} (g : Y → Z) (f : X → List Y) (xs : List X) (k : ℕ) (x : X) → k < length xs →
-    x ≡ get_or xs k x →
-    map g (flat_map f (take (suc k) xs)) ≡ map g (flat_map f (take k xs)) ++ map g (f x)
-mapped-more g f xs k x low at =
-    ap (λ ys. map g (flat_map f ys)) (take-more xs k x low at)
-    ∙ ap (map g) (flat_map-append f (take k xs) (x ∷ []) ∙ ap (λ ys. flat_map f (take k xs) ++ ys) (append-nil (f x)))
-    ∙ map-append g (flat_map f (take k xs)) (f x)
 
 -- ---- tests of some item
 
@@ -183,10 +175,6 @@ put_by e (Commit id mark branch author committer encoding comment parents ops al
 put_by e (Tag id name target tagger comment mark) = false
 put_by e (Reset id branch target) = false
 put_by e (Pass id line) = false
-
-or-false : (b : Bool) → b || false ≡ b
-or-false true = refl
-or-false false = refl
 
 module _ (es : List PlainEvent) (k : ℕ) (e : PlainEvent) (once : AreDistinct es) (at : slice_get es k ≡ Some e) where
   around-one : (m : PlainEvent) → is_listed (id_of e) (around es m) ≡ is_listed (id_of e) (linked es m) || put_by e m

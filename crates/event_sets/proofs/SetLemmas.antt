@@ -9,15 +9,16 @@ use Rattle.std.specs.Prelude.{◌&&◌, ◌||◌, ◌==◌, ◌≢◌, ◌⊎◌
 use Rattle.plain_model.specs.Lookups.{event_marks, find_event, find_mark, id_of, is_listed, marks_of, place_of, same_id}
 use Rattle.plain_model.specs.declared.id.AnyId.{AnyId}
 use Rattle.plain_model.specs.declared.event.PlainEvent.{PlainEvent}
+use Rattle.history_laws.specs.Finding.{event_number}
 use Rattle.history_laws.proofs.Ids.{same_id-comm, same_id-refl, same_id-true}
-use Rattle.history_laws.proofs.Lists.{all_join}
-use Rattle.event_arena.specs.Once.{AreDistinct}
+use Rattle.history_laws.proofs.Lists.{all_join, item_at}
+use Rattle.history_laws.specs.Once.{AreDistinct}
 use Rattle.event_arena.proofs.ChangeLemmas.{is_listed-append}
 use Rattle.event_arena.proofs.ListLemmas.{take-item}
 use Rattle.event_arena.proofs.OnceLemmas.{found-at}
 use Rattle.event_sets.specs.Bits.{bits_of, both, picks}
 use Rattle.event_sets.specs.Once.{AreLive}
-use Rattle.event_sets.specs.Sets.{Ids, common, is_live, live, number, passing, rest, union}
+use Rattle.event_sets.specs.Sets.{Ids, common, is_live, live, passing, rest, union}
 use Rattle.event_sets.proofs.BitLemmas.{live-find}
 
 -- ---- parts of lists, one item after another
@@ -112,7 +113,7 @@ live-place (e ∷ es) id = elim (cases_Bool (same_id id (id_of e))) [
 -- ---- numbers
 
 -- the place of the event at a place
-place-own : (es : List PlainEvent) (k : ℕ) (e : PlainEvent) → AreDistinct es → slice_get es k ≡ Some e →
+pub place-own : (es : List PlainEvent) (k : ℕ) (e : PlainEvent) → AreDistinct es → slice_get es k ≡ Some e →
     place_of (id_of e) es ≡ Some k
 place-own [] k e once at = absurd (none-some e at)
 place-own (x ∷ es) zero e once at =
@@ -125,17 +126,8 @@ place-own (x ∷ es) (suc k) e once at = elim (cases_Bool (same_id (id_of e) (id
 
 -- its number is one more
 pub number-at : (es : List PlainEvent) (k : ℕ) (e : PlainEvent) → AreDistinct es → slice_get es k ≡ Some e →
-    number es (id_of e) ≡ k + 1
+    event_number es (id_of e) ≡ k + 1
 number-at es k e once at = ap (λ o. unwrap_or (option_map (λ place. place + 1) o) 0) (place-own es k e once at)
-
-pub item-at : {X : Type 0} (xs : List X) (k : ℕ) → k < length xs → (x : X) × (slice_get xs k ≡ Some x)
-item-at [] k low = absurd (omega arith)
-item-at (x ∷ xs) zero low = (x, refl)
-item-at (x ∷ xs) (suc k) low = item-at xs k (omega arith)
-
-pub length-push : {X : Type 0} (xs : List X) (x : X) → length (xs ++ x ∷ []) ≡ suc (length xs)
-length-push [] x = refl
-length-push (y ∷ xs) x = ap suc (length-push xs x)
 
 -- one item more of what a function gives
 pub map-more : {X Y : Type 0} (f : X → Y) (xs : List X) (k : ℕ) (x : X) → slice_get xs k ≡ Some x →
@@ -144,14 +136,14 @@ map-more f xs k x at = ap (map f) (take-item xs k x at) ∙ map-append f (take k
 
 -- the event's number is in a range
 abbrev pub is_between : ℕ → ℕ → List PlainEvent → PlainEvent → Bool
-is_between first last es e = nat_le first (number es (id_of e)) && nat_le (number es (id_of e)) last
+is_between first last es e = nat_le first (event_number es (id_of e)) && nat_le (event_number es (id_of e)) last
 
 -- one place more of a range
 pub range-more : (first last : ℕ) (es : List PlainEvent) (k : ℕ) → AreDistinct es → k < length es →
     map (is_between first last es) (take (suc k) es)
     ≡ map (is_between first last es) (take k es) ++ (nat_le first (k + 1) && nat_le (k + 1) last) ∷ []
 range-more first last es k once low =
-    let item = item-at es k low in
+    let item = item_at es k low in
     map-more (is_between first last es) es k item.0 item.1
     ∙ ap (λ n. map (is_between first last es) (take k es) ++ (nat_le first n && nat_le n last) ∷ [])
     (number-at es k item.0 once item.1)

@@ -10,10 +10,11 @@ use Rattle.plain_model.specs.declared.person.Signed.{Signed}
 use Rattle.plain_model.specs.declared.event.PlainEvent.{PlainEvent}
 use Rattle.plain_model.specs.declared.event.PlainEvent.TheVariants.{Blob, Commit, Tag, Reset, Pass}
 use Rattle.plain_model.specs.Paths.{Bytes}
+use Rattle.history_laws.specs.Finding.{event_number}
 use Rattle.selection_parser.specs.declared.function.Function.TheVariants.{Min, Max, Amp, Par, Chn, Dsc, Anc, Pre, Suc, Srt}
 use Rattle.selection_parser.specs.declared.kind.KindSet.{KindSet}
 use Rattle.event_sets.specs.Kinds.{is_of}
-use Rattle.event_sets.specs.Sets.{Ids, called, common, near_times, number, passing, range, rest, union}
+use Rattle.event_sets.specs.Sets.{Ids, called, common, near_times, passing, range, rest, union}
 
 abbrev pub someone : Signed
 someone = record {
@@ -46,7 +47,7 @@ forked =
 
 -- the numbers of a list of its events
 abbrev pub numbers : Ids → List ℕ
-numbers ids = map (number forked) ids
+numbers ids = map (event_number forked) ids
 
 -- the neighbours of one event
 abbrev pub near : AnyId → List ℕ

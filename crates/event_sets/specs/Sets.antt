@@ -1,12 +1,13 @@
 -- Lists of a history's events, and what is made of them. (reposurgeon manual, "Selection syntax"; `?`, `@pre`, `@suc`:
 -- own)
-use Rattle.std.specs.Prelude.{ℕ, zero, suc, ◌+◌, ◌-◌, ◌&&◌, not, min, max, nat_le, Bool, false, List, [], ◌∷◌, ◌++◌, length, map, filter, flat_map, Some, None, option_to_list, unwrap_or}
+use Rattle.std.specs.Prelude.{ℕ, zero, suc, ◌+◌, ◌-◌, ◌&&◌, not, min, max, nat_le, Bool, false, List, [], ◌∷◌, ◌++◌, length, map, filter, flat_map, Some, None, option_to_list}
 use Rattle.std.specs.List.{fold}
 use Rattle.plain_model.specs.declared.id.AnyId.{AnyId}
 use Rattle.plain_model.specs.declared.id.AnyId.TheVariants as any
 use Rattle.plain_model.specs.declared.event.PlainEvent.{PlainEvent}
 use Rattle.plain_model.specs.declared.event.PlainEvent.TheVariants.{Blob, Commit, Tag, Reset, Pass}
-use Rattle.plain_model.specs.Lookups.{children_of, event_at, event_parents, id_of, is_listed, number_of, op_blobs}
+use Rattle.plain_model.specs.Lookups.{children_of, event_at, event_parents, id_of, is_listed, op_blobs}
+use Rattle.history_laws.specs.Finding.{event_number}
 use Rattle.ancestry_laws.specs.Ancestry.{ancestors_of, descendants_of}
 use Rattle.selection_parser.specs.declared.function.Function.{Function}
 use Rattle.selection_parser.specs.declared.function.Function.TheVariants.{Min, Max, Amp, Par, Chn, Dsc, Anc, Pre, Suc, Srt}
@@ -50,17 +51,13 @@ live events ids = filter (is_live events) ids
 
 -- ---- numbers
 
--- an event's number, or 0
-abbrev pub number : List PlainEvent → AnyId → ℕ
-number events id = unwrap_or (number_of id events) 0
-
 -- the least of some numbers, none of which is above the bound
 abbrev pub least : List PlainEvent → Ids → ℕ
-least events ids = fold (λ n id. min n (number events id)) (length events) ids
+least events ids = fold (λ n id. min n (event_number events id)) (length events) ids
 
 -- the greatest of them, or 0
 abbrev pub greatest : List PlainEvent → Ids → ℕ
-greatest events ids = fold (λ n id. max n (number events id)) 0 ids
+greatest events ids = fold (λ n id. max n (event_number events id)) 0 ids
 
 -- the event of a number, if there is one
 abbrev pub numbered : List PlainEvent → ℕ → Ids
@@ -69,7 +66,7 @@ numbered events n = option_to_list (event_at n events)
 -- the events from one number to another
 abbrev pub range : List PlainEvent → ℕ → ℕ → Ids
 range events first last =
-    passing (λ e. nat_le first (number events (id_of e)) && nat_le (number events (id_of e)) last) events
+    passing (λ e. nat_le first (event_number events (id_of e)) && nat_le (event_number events (id_of e)) last) events
 
 -- ---- `?`
 

@@ -20,17 +20,18 @@ use Rattle.edit_laws.specs.Removal.{once_each}
 use Rattle.edit_laws.specs.Settling.{is_ready}
 use Rattle.edit_laws.specs.Sweeping.{swept}
 use Rattle.edit_laws.proofs.Chains.{back_stays}
-use Rattle.edit_laws.proofs.Lists.{OfNodes, all_flat, nodes_of_events}
+use Rattle.edit_laws.proofs.Fine.{ready_parents}
+use Rattle.edit_laws.proofs.Lists.{OfNodes, all_flat, nodes_of_events, own_here}
 use Rattle.edit_laws.proofs.Settles.{sound_settles}
 use Rattle.squash_laws.specs.Removed.{Takings, is_removed, left_of, parents_after}
 use Rattle.squash_laws.specs.Squash.{back_of, is_none}
 use Rattle.squash_laws.specs.declared.policy.Lean.TheVariants as lean
-use Rattle.squash_laws.proofs.Left.{one_left, one_moved, ready_parents}
+use Rattle.squash_laws.proofs.Left.{one_left, one_moved}
 use Rattle.expunge_laws.specs.Expunged.{emptied, expunge_of, expunged, is_emptied, ops_left, replaced_event, replaced_events}
 use Rattle.expunge_laws.specs.InLine.{IsInLine, is_nothing, ops_in_line, parents_in_line, tree_in_place}
 use Rattle.expunge_laws.specs.PushForward.{forward_takes, unless_limit}
 use Rattle.expunge_laws.specs.Replaced.{replaced_all, restricted}
-use Rattle.expunge_laws.proofs.Changed.{each_there, fitting, ids_same, replaced_sound, replaced_trees}
+use Rattle.expunge_laws.proofs.Changed.{fitting, ids_same, replaced_sound, replaced_trees}
 use Rattle.expunge_laws.proofs.Finished.{unless}
 use Rattle.expunge_laws.proofs.Forwarded.{pushed_all, pushed_commits, pushed_done, pushed_trees}
 use Rattle.expunge_laws.proofs.InLine.{all_in_line, empty_past, linked}
@@ -191,7 +192,7 @@ module _ (matched : Bytes → Bool) (events : List PlainEvent) (h : IsSound even
     all_same =
         pushed_all events set changed false lean.Forward (IsSame new)
         (all_flat IsGiven (IsSame new) (left_of set changed taking) same_new changed
-        (all_given changed (same_changed events (each_there events) (fitting matched events h) (sound_settles events h).complete)
+        (all_given changed (same_changed events (own_here events) (fitting matched events h) (sound_settles events h).complete)
         (nodes_of_events (IsInLine set changed) changed (all_in_line matched events h)) (sound_settles changed sound).complete))
         new is
 

@@ -2,7 +2,7 @@
 use Rattle.std.proofs.Common.{◌≡◌, ℕ, Bool, true, List, [], ◌∷◌, ◌++◌, length, drop, map, refl, sym, ap, subst, ◌∙◌, arith, Option, Some, None}
 use Rattle.std.specs.Prelude.{◌+◌, ◌||◌, flat_map, IsSome}
 use Rattle.std.specs.List.{AllByRecursion}
-use Rattle.std.proofs.lemmas.Bool.{or_left, or_right}
+use Rattle.std.proofs.lemmas.Bool.{or_left}
 use Rattle.std.proofs.lemmas.List.{map-append}
 use Rattle.plain_model.specs.declared.id.AnyId.{AnyId}
 use Rattle.plain_model.specs.declared.id.AnyId.TheVariants as any
@@ -22,25 +22,17 @@ use Rattle.plain_model.specs.Trees.{Tree}
 use Rattle.edit_laws.specs.Equations.{Fits}
 use Rattle.edit_laws.specs.Parts.{AreInOrder, AreOnce, HasFewParents, IsLawful, IsLawfulOp, of_id, of_mark, one_if, tally}
 use Rattle.edit_laws.specs.Settling.{is_ready}
-use Rattle.history_laws.proofs.Ids.{has_id-append, has_id-cons}
+use Rattle.history_laws.proofs.Ids.{has_id-append}
 use Rattle.history_laws.proofs.Lists.{all_imply, all_join}
-use Rattle.edit_laws.proofs.Lists.{OfNodes, all_flat, all_front, all_true, events_of_nodes, has_own_id, nodes_of_events, own_id, true_all}
+use Rattle.edit_laws.proofs.Fine.{IsFine, There, fine, ready_ops}
+use Rattle.edit_laws.proofs.Lists.{OfNodes, all_flat, all_front, all_true, events_of_nodes, nodes_of_events, own_here, own_id, true_all}
 use Rattle.edit_laws.proofs.Sound.{from_parts, in_parts}
 use Rattle.edit_laws.proofs.Trees.{trees_fit, trees_solve}
-use Rattle.squash_laws.proofs.Left.{IsFine, There, fine, ready_ops}
 use Rattle.expunge_laws.specs.Expunged.{ops_left, replaced_event, replaced_events}
 use Rattle.expunge_laws.proofs.Earlier.{AllAfter, IsGiven, OfOps, ops_follow}
 use Rattle.expunge_laws.proofs.Carried.{Carries}
 use Rattle.expunge_laws.proofs.MovedPaths.{moved_path}
 use Rattle.expunge_laws.proofs.TreesLeft.{fits_left, left_of_tree, tree_is}
-
--- each event is there
-pub each_there : (es : List PlainEvent) → AllByRecursion (λ e. has_id es (id_of e) ≡ true) es
-each_there [] = tt
-each_there (e ∷ es) = (
-  has_id-append (e ∷ []) es (id_of e) ∙ or_left (has_id (e ∷ []) (id_of e)) (has_id es (id_of e)) (has_own_id e),
-  all_imply (λ x. has_id es (id_of x) ≡ true) (λ x. has_id (e ∷ es) (id_of x) ≡ true) (λ x h. has_id-cons e es (id_of x) ∙ or_right (same_id (id_of x) (id_of e)) (has_id es (id_of x)) h) es (each_there es),
-)
 
 -- ---- operations after what they name
 
@@ -215,7 +207,7 @@ module _ (matched : Bytes → Bool) (events : List PlainEvent) where
     new_fits (Pass id line ∷ es) k f = (tt, new_fits es k.1 f.1)
 
     pub replaced_trees : (c : ℕ) → IsCommitOf events c → tree new c ≡ left_of_tree matched (tree events c)
-    replaced_trees c there = trees_solve tree_left new order (events_of_nodes (Fits tree_left) new (new_fits events (each_there events) fitting)) c (ids_same events (any.Commit c) ∙ there)
+    replaced_trees c there = trees_solve tree_left new order (events_of_nodes (Fits tree_left) new (new_fits events (own_here events) fitting)) c (ids_same events (any.Commit c) ∙ there)
 
     some_left : (o : Option Tree) → IsSome o → IsSome (left_of_tree matched o)
     some_left (Some t) s = refl

@@ -1,5 +1,5 @@
 -- The emptied commits are those that the test finds, and no commit gets more parents than it had.
-use Rattle.std.proofs.Common.{◌≡◌, ℕ, suc, ◌≤◌, Bool, true, false, cond, not, List, [], ◌∷◌, ◌++◌, length, map, filter, refl, sym, ap, subst, ◌∙◌, inl, inr, arith, le_trans, true≢false, append_assoc, eqb-true, Some, None}
+use Rattle.std.proofs.Common.{◌≡◌, ℕ, ◌≤◌, Bool, true, false, cond, not, List, [], ◌∷◌, ◌++◌, length, map, filter, refl, sym, ap, subst, ◌∙◌, inl, inr, arith, le_trans, true≢false, append_assoc, eqb-true, Some, None}
 use Rattle.std.specs.Prelude.{◌||◌, ◌&&◌, ◌==◌, flat_map}
 use Rattle.std.specs.List.{AllByRecursion}
 use Rattle.std.proofs.lemmas.Bool.{and_parts, cases_Bool, or_parts}
@@ -14,11 +14,12 @@ use Rattle.plain_model.specs.Lookups.{id_of, is_listed, same_id}
 use Rattle.plain_model.specs.Paths.{Bytes}
 use Rattle.plain_model.specs.Soundness.{IsSound, has_id}
 use Rattle.edit_laws.specs.Parts.{AreOnce, HasFewParents, of_id, tally}
-use Rattle.edit_laws.specs.Removal.{expand, expand_all, once_each}
+use Rattle.edit_laws.specs.Removal.{expand, expand_all}
 use Rattle.edit_laws.proofs.Chains.{expand_gone, expand_other, expand_stays}
 use Rattle.history_laws.proofs.Ids.{has_id-append, has_id-cons, same_id-refl}
 use Rattle.ancestry_laws.proofs.Pasts.{all_reverse}
 use Rattle.edit_laws.proofs.Lists.{OfNodes, all_flat, events_of_nodes, has_own_id, not_before}
+use Rattle.edit_laws.proofs.Repeats.{shorter_once}
 use Rattle.edit_laws.proofs.Sound.{in_parts, new_there}
 use Rattle.squash_laws.specs.Removed.{is_removed, left_of, all_left, parents_after}
 use Rattle.squash_laws.specs.Squash.{is_none}
@@ -97,16 +98,6 @@ listed_each test whole xs (e ∷ es) is o = (
 )
 
 -- ---- few parents
-
-shorter_filter : (test : ℕ → Bool) (xs : List ℕ) → length (filter test xs) ≤ length xs
-shorter_filter test [] = omega arith
-shorter_filter test (x ∷ xs) =
-    let rest = shorter_filter test xs in
-    elim (test x) as (λ b. length (cond b (x ∷ filter test xs) (filter test xs)) ≤ suc (length xs)) [ true ↦ omega arith | false ↦ omega arith ]
-
-shorter_once : (xs : List ℕ) → length (once_each xs) ≤ length xs
-shorter_once [] = omega arith
-shorter_once (x ∷ xs) = let one = shorter_filter (λ y. not (y == x)) (once_each xs) in let rest = shorter_once xs in omega arith
 
 module _ (removed : ℕ → Bool) where
   -- a removed commit is no merge

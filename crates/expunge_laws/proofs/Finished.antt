@@ -15,17 +15,19 @@ use Rattle.plain_model.specs.Lookups.{alias_count, event_parents}
 use Rattle.plain_model.specs.Snapshots.{shown_tree}
 use Rattle.plain_model.specs.Soundness.{IsCommitOf, IsSound, has_id}
 use Rattle.history_laws.specs.FirstParents.{ops_along}
-use Rattle.event_arena.proofs.SoundLemmas.{sound-once}
+use Rattle.history_laws.proofs.Ids.{each_found}
+use Rattle.history_laws.proofs.SoundOnce.{sound-once}
 use Rattle.edit_laws.specs.Passing.{IsWithinLimits, limit_fault}
 use Rattle.edit_laws.specs.Sweeping.{is_named}
 use Rattle.edit_laws.proofs.Limits.{limits_hold, not_many}
 use Rattle.squash_laws.specs.Faults.{checked_after, squash_of}
-use Rattle.squash_laws.specs.Remaining.{IsOneOf}
+use Rattle.squash_laws.specs.Remaining.{IsBareOneOf}
 use Rattle.squash_laws.specs.Removed.{is_removed}
 use Rattle.squash_laws.specs.declared.policy.Lean.{Lean}
 use Rattle.squash_laws.specs.declared.policy.Push.TheVariants as push
-use Rattle.expunge_laws.specs.PushForward.{push_forward_of, pushed_forward, unless_limit}
-use Rattle.expunge_laws.proofs.Added.{all_one, each_found, no_alias, no_event}
+use Rattle.squash_laws.proofs.Added.{all_one}
+use Rattle.expunge_laws.specs.PushForward.{forward_takes, push_forward_of, pushed_forward, unless_limit}
+use Rattle.expunge_laws.proofs.Added.{nothing_added}
 use Rattle.expunge_laws.proofs.Forwarded.{pushed_blobs, pushed_commits, pushed_done, pushed_ends, pushed_shown, pushed_sound, pushed_trees}
 
 module _ (before : List PlainEvent) (set : List AnyId) (events : List PlainEvent) (comments : Bool) (tags : Lean) where
@@ -54,8 +56,8 @@ module _ (before : List PlainEvent) (set : List AnyId) (events : List PlainEvent
     pub finish_blobs : (b : ℕ) → has_id new (any.Blob b) ≡ has_id events (any.Blob b) && not (is_named before b && not (is_named new b))
     finish_blobs b = pushed_blobs before set events comments tags h new finish_is b
 
-    pub finish_stays : AllByRecursion (IsOneOf events) new
-    finish_stays = all_one before set events comments tags (each_found events (sound-once events h).ids) new finish_is
+    pub finish_stays : AllByRecursion (IsBareOneOf events) new
+    finish_stays = all_one set events (forward_takes set events comments tags) (each_found events (sound-once events h).ids) before new finish_is
 
 -- ---- the limits
 
@@ -92,7 +94,7 @@ pub refused_for_two : (before : List PlainEvent) (set : List AnyId) (events : Li
     else if has_many_parents new then Err (fault.Limit limit.Parents MAX_PARENTS) else Ok new)
 refused_for_two before set events comments tags new small some is =
     ap (unless_limit events) is
-    ∙ two_alone new (le_trans (no_event before set events comments tags new is) small) (le_trans (no_alias before set events comments tags new is) some)
+    ∙ two_alone new (le_trans (nothing_added before set events comments tags new is).events small) (le_trans (nothing_added before set events comments tags new is).aliases some)
 
 -- ---- a squash
 

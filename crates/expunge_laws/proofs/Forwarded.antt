@@ -16,8 +16,9 @@ use Rattle.edit_laws.specs.Equations.{Fits}
 use Rattle.edit_laws.specs.Parts.{CanBeSettled, HasFewParents}
 use Rattle.edit_laws.specs.Passing.{limit_fault}
 use Rattle.edit_laws.specs.Sweeping.{is_left_over, is_named, swept}
+use Rattle.edit_laws.proofs.Fine.{IsFine}
 use Rattle.edit_laws.proofs.Lists.{all_filter, all_flat}
-use Rattle.edit_laws.proofs.Settles.{settled_all, settled_ids, settled_sound, settled_trees, settling_ends, sound_settles, swept_settles}
+use Rattle.edit_laws.proofs.Settles.{fine_nodes, settled_all, settled_ids, settled_sound, settled_trees, settling_ends, sound_settles, swept_settles}
 use Rattle.edit_laws.proofs.Shown.{has_own_bytes, shown_alike}
 use Rattle.edit_laws.proofs.Sound.{in_parts}
 use Rattle.edit_laws.proofs.Swept.{swept_commit, swept_nodes}
@@ -25,11 +26,10 @@ use Rattle.squash_laws.specs.Removed.{Takings, is_removed, left_of, all_left, pa
 use Rattle.squash_laws.specs.declared.policy.Lean.{Lean}
 use Rattle.squash_laws.specs.declared.policy.Push.TheVariants as push
 use Rattle.squash_laws.proofs.Forward.{left_fits}
-use Rattle.squash_laws.proofs.Left.{IsFine, blobs_left, commits_left, left_settles, one_left, one_moved}
-use Rattle.squash_laws.proofs.Squashed.{fine_nodes}
+use Rattle.squash_laws.proofs.Left.{blobs_left, commits_left, left_settles, one_left, one_moved}
 use Rattle.squash_laws.proofs.Takes.{taken_ops, target_stays}
 use Rattle.expunge_laws.specs.PushForward.{comment_taken, forward_takes, pushed_forward, unless_limit}
-use Rattle.expunge_laws.proofs.Naming.{blobs_after}
+use Rattle.edit_laws.proofs.Naming.{blobs_after}
 
 abbrev unless : Option Fault → List PlainEvent → Result (List PlainEvent) Fault
 unless limits x = elim limits [ Some why ↦ Err why | None ↦ Ok x ]

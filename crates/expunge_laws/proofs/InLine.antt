@@ -2,7 +2,7 @@
 use Rattle.std.proofs.Common.{◌≡◌, ℕ, Bool, true, false, cond, not, List, [], ◌∷◌, ◌++◌, map, refl, sym, ap, ◌∙◌, inl, inr, append-nil, eqb-true, true≢false, Option, Some, None, IsTrue}
 use Rattle.std.specs.Prelude.{◌&&◌, ◌==◌, flat_map, option_to_list}
 use Rattle.std.specs.List.{AllByRecursion}
-use Rattle.std.proofs.lemmas.Bool.{and_parts, cases_Bool, cond-false, cond-true}
+use Rattle.std.proofs.lemmas.Bool.{and_parts, cases_Bool}
 use Rattle.std.proofs.lemmas.List.Concat.{flat_map-append}
 use Rattle.plain_model.specs.declared.id.AnyId.{AnyId}
 use Rattle.plain_model.specs.declared.operation.FileOp.{FileOp}
@@ -14,17 +14,18 @@ use Rattle.plain_model.specs.Lookups.{id_of, is_listed}
 use Rattle.plain_model.specs.Paths.{Bytes}
 use Rattle.plain_model.specs.Soundness.{IsSound}
 use Rattle.history_laws.specs.FirstParents.{ops_along}
+use Rattle.history_laws.proofs.LineLaws.{known_before}
 use Rattle.edit_laws.specs.Removal.{back, chain, expand, expand_all, once_each}
 use Rattle.edit_laws.specs.Settling.{is_ready}
 use Rattle.edit_laws.proofs.Chains.{chain_gone, chain_other, chain_stays, expand_gone, expand_other, expand_stays}
 use Rattle.ancestry_laws.proofs.Pasts.{all_reverse, linked_past}
+use Rattle.edit_laws.proofs.Fine.{ready_parents}
 use Rattle.edit_laws.proofs.Lists.{OfNodes, events_of_nodes}
 use Rattle.edit_laws.proofs.Settles.{sound_settles}
-use Rattle.edit_laws.proofs.Trees.{known_before}
+use Rattle.squash_laws.proofs.Hung.{back_first, back_gone, back_here, back_other}
 use Rattle.squash_laws.specs.Removed.{is_removed}
 use Rattle.squash_laws.specs.Squash.{anew, is_from_root, is_none, links, ops_after}
 use Rattle.squash_laws.specs.declared.policy.Push.TheVariants as push
-use Rattle.squash_laws.proofs.Left.{ready_parents}
 use Rattle.expunge_laws.specs.Expunged.{emptied, is_emptied, is_no_merge, ops_left, replaced_event, replaced_events}
 use Rattle.expunge_laws.specs.InLine.{IsInLine, is_cut_off, is_nothing, ops_in_line, parents_in_line}
 use Rattle.expunge_laws.proofs.Changed.{replaced_sound}
@@ -45,19 +46,6 @@ module _ (removed : ℕ → Bool) where
   back_nowhere [] = refl
   back_nowhere (n ∷ older) = refl
 
-  back_first : (a : Past) (p : ℕ) (ps : List ℕ) → back removed a (p ∷ ps) ≡ back removed a (p ∷ [])
-  back_first [] p ps = refl
-  back_first (n ∷ older) p ps = ap (λ (o : Option ℕ). cond (n.id == p) (cond (removed p) (back removed older n.parents) (Some p)) o) (back_first older p ps)
-
-  back_gone : (n : Node) (older : Past) (p : ℕ) (ps : List ℕ) → (n.id == p) ≡ true → removed p ≡ true → back removed (n ∷ older) (p ∷ ps) ≡ back removed older n.parents
-  back_gone n older p ps same gone = cond-true (n.id == p) _ _ same ∙ cond-true (removed p) _ _ gone
-
-  back_stays : (n : Node) (older : Past) (p : ℕ) (ps : List ℕ) → (n.id == p) ≡ true → removed p ≡ false → back removed (n ∷ older) (p ∷ ps) ≡ Some p
-  back_stays n older p ps same stays = cond-true (n.id == p) _ _ same ∙ cond-false (removed p) _ _ stays
-
-  back_other : (n : Node) (older : Past) (p : ℕ) (ps : List ℕ) → (n.id == p) ≡ false → back removed (n ∷ older) (p ∷ ps) ≡ back removed older (p ∷ ps)
-  back_other n older p ps other = cond-false (n.id == p) _ _ other
-
   -- ---- what a commit gives way to
 
   once_one : (o : Option ℕ) → once_each (option_to_list o) ≡ option_to_list o
@@ -72,13 +60,13 @@ module _ (removed : ℕ → Bool) where
           | inl gone ↦
               expand_gone removed n older p same gone
               ∙ parents n.parents (e.0.single (ap removed (eqb-true n.id p same) ∙ gone)) s.1 (λ q x. one_in_place older s.2 e.1 q x)
-              ∙ sym (ap (λ (o : Option ℕ). option_to_list o) (back_gone n older p [] same gone))
-          | inr stays ↦ expand_stays removed n older p same stays ∙ sym (ap (λ (o : Option ℕ). option_to_list o) (back_stays n older p [] same stays))
+              ∙ sym (ap (λ (o : Option ℕ). option_to_list o) (back_gone removed n older p [] same gone))
+          | inr stays ↦ expand_stays removed n older p same stays ∙ sym (ap (λ (o : Option ℕ). option_to_list o) (back_here removed n older p [] same stays))
         ]
         | inr other ↦
             expand_other removed n older p other
             ∙ one_in_place older s.2 e.1 p (known_before n older p other k)
-            ∙ sym (ap (λ (o : Option ℕ). option_to_list o) (back_other n older p [] other))
+            ∙ sym (ap (λ (o : Option ℕ). option_to_list o) (back_other removed n older p [] other))
       ]
     where
       parents : (ps : List ℕ) → is_no_merge ps ≡ true → AreKnown older ps → ((q : ℕ) → knows older q ≡ true → expand removed older q ≡ option_to_list (back removed older (q ∷ []))) → expand_all removed older ps ≡ option_to_list (back removed older ps)
@@ -107,13 +95,13 @@ module _ (removed : ℕ → Bool) where
           | inl gone ↦
               ap is_from_root (chain_gone removed n older p ps same gone)
               ∙ below n.parents refl s.1 (λ q qs x. root_below older s.2 q qs x)
-              ∙ sym (ap is_nothing (back_gone n older p ps same gone))
-          | inr stays ↦ ap is_from_root (chain_stays removed n older p ps same stays) ∙ sym (ap is_nothing (back_stays n older p ps same stays))
+              ∙ sym (ap is_nothing (back_gone removed n older p ps same gone))
+          | inr stays ↦ ap is_from_root (chain_stays removed n older p ps same stays) ∙ sym (ap is_nothing (back_here removed n older p ps same stays))
         ]
         | inr other ↦
             ap is_from_root (chain_other removed n older p ps other)
             ∙ root_below older s.2 p ps (known_before n older p other k)
-            ∙ sym (ap is_nothing (back_other n older p ps other))
+            ∙ sym (ap is_nothing (back_other removed n older p ps other))
       ]
     where
       no_chain : (b : Past) → chain removed b [] ≡ []
@@ -179,7 +167,7 @@ module _ (matched : Bytes → Bool) (events : List PlainEvent) (h : IsSound even
       nothing : (b : Past) → chain (is_removed set) b [] ≡ []
       nothing [] = refl
       nothing (m ∷ b) = refl
-  cut_off (p ∷ ps) k = root_below (is_removed set) (past changed) linked p ps k.0 ∙ ap is_nothing (back_first (is_removed set) (past changed) p ps)
+  cut_off (p ∷ ps) k = root_below (is_removed set) (past changed) linked p ps k.0 ∙ ap is_nothing (back_first (is_removed set) (past changed) p ps [])
 
   begins : (b : Bool) (own : List FileOp) → cond b (DeleteAll ∷ []) [] ++ own ≡ cond b (DeleteAll ∷ own) own
   begins true own = refl

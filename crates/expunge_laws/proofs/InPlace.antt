@@ -6,10 +6,11 @@ use Rattle.std.proofs.lemmas.Bool.{cases_Bool}
 use Rattle.plain_model.specs.declared.operation.FileOp.{FileOp}
 use Rattle.plain_model.specs.Histories.{IsLinkedPast, Node, Past, begun, folded, knows, tree_in}
 use Rattle.plain_model.specs.Trees.{Tree}
+use Rattle.history_laws.proofs.LineLaws.{known_before}
 use Rattle.edit_laws.specs.Removal.{back}
 use Rattle.edit_laws.proofs.Chains.{back_stays}
-use Rattle.edit_laws.proofs.Trees.{known_before, not_fresh, tree_here, tree_other}
-use Rattle.squash_laws.proofs.Hung.{back_gone, back_here, back_other}
+use Rattle.edit_laws.proofs.Trees.{not_fresh, tree_here, tree_other}
+use Rattle.squash_laws.proofs.Hung.{back_gone, back_here, back_other, folded_none}
 use Rattle.expunge_laws.specs.Expunged.{is_no_merge}
 use Rattle.expunge_laws.proofs.InLine.{IsEmpty}
 
@@ -17,10 +18,6 @@ use Rattle.expunge_laws.proofs.InLine.{IsEmpty}
 abbrev pub at_place : Past → Option ℕ → Option Tree
 at_place a None = Some []
 at_place a (Some b) = tree_in a b
-
-folded_none : (o : Option Tree) → folded [] o ≡ o
-folded_none None = refl
-folded_none (Some t) = refl
 
 module _ (removed : ℕ → Bool) where
   -- a later commit changes nothing

@@ -11,7 +11,7 @@ use Rattle.plain_model.specs.Trees.{Refusal, Tree, apply, apply_all, at, cleared
 use Rattle.plain_model.specs.Trees.Refusal.{PathBytes}
 use Rattle.history_laws.proofs.TreeLaws.{at_where}
 use Rattle.expunge_laws.specs.Replaced.{replaced, replaced_all}
-use Rattle.expunge_laws.proofs.TreeMaps.{absent, at_put_all, within_ok}
+use Rattle.history_laws.proofs.TreeMaps.{absent, at_put_all, within_ok}
 use Rattle.expunge_laws.proofs.TreesLeft.{both_apply}
 
 -- ---- one after another

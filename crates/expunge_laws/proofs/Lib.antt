@@ -10,12 +10,10 @@ pub mod InLine
 pub mod InPlace
 pub mod InTurn
 pub mod MovedPaths
-pub mod Naming
 pub mod Nearby
 pub mod OpsAgain
 pub mod Replacing
 pub mod Sides
 pub mod Still
-pub mod TreeMaps
 pub mod TreesLeft
 pub mod Whole

@@ -11,9 +11,9 @@ use Rattle.plain_model.specs.Trees.{Tree, change, has, placed, within_paths}
 use Rattle.plain_model.specs.Trees.Change.{MoveTo}
 use Rattle.plain_model.specs.Trees.Refusal.{PathBytes}
 use Rattle.history_laws.proofs.TreeLaws.{by_bytes, same_path}
-use Rattle.path_tree.specs.Sound.{AllPaths}
-use Rattle.path_tree.proofs.KeptPaths.{change_paths}
-use Rattle.expunge_laws.proofs.TreeMaps.{itself}
+use Rattle.history_laws.specs.SoundTrees.{AllPaths}
+use Rattle.history_laws.proofs.KeptPaths.{change_paths}
+use Rattle.history_laws.proofs.TreeMaps.{itself}
 
 -- a tree with one path
 abbrev entry : Entry

@@ -16,8 +16,7 @@ use Rattle.history_laws.proofs.TreeLaws.{apply_tree, at_where, has_moved, has_wh
 use Rattle.expunge_laws.specs.Near.{copied_near, renamed_near, rewritten_near}
 use Rattle.expunge_laws.specs.Replaced.{deletes_of, puts_of, mode_number, restricted, rewritten, same_content, same_entry, has_entry}
 use Rattle.expunge_laws.proofs.InTurn.{copy_comes, copy_goes, rename_comes, rename_goes}
-use Rattle.expunge_laws.proofs.Replacing.{each_found}
-use Rattle.expunge_laws.proofs.TreeMaps.{ordered_where, where_alike, where_comm}
+use Rattle.history_laws.proofs.TreeMaps.{entries_found, ordered_where, where_alike, where_comm}
 
 -- ---- a path that was moved
 
@@ -91,7 +90,7 @@ module _ (matched : Bytes → Bool) (test : Bytes → Bool) (source target : Byt
     near : rewritten matched old new ≡ rewritten_near matched test target old new
     near =
         λ i. deletes_of (where_alike (λ p. not (has new p)) (λ p. test p && not (has new p)) (restricted matched old) (ordered_where (λ p. not (matched p)) old t.in_order) alike i)
-        ++ puts_of ((filter_near (is_at_or_below target) (λ e. not (has_entry (at old e.0) e.1)) (restricted matched new) (all_as_they_were (restricted matched new) (each_found (restricted matched new) (ordered_where (λ p. not (matched p)) new u.in_order)))
+        ++ puts_of ((filter_near (is_at_or_below target) (λ e. not (has_entry (at old e.0) e.1)) (restricted matched new) (all_as_they_were (restricted matched new) (entries_found (restricted matched new) (ordered_where (λ p. not (matched p)) new u.in_order)))
         ∙ ap (λ (l : Tree). filter (λ e. not (has_entry (at old e.0) e.1)) l) (where_comm (is_at_or_below target) (λ p. not (matched p)) new)) i)
 
 tree_after : (op : FileOp) (old new : Tree) → IsTree old → apply op old ≡ Ok new → IsTree new

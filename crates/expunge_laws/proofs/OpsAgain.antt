@@ -16,7 +16,7 @@ use Rattle.expunge_laws.specs.Replaced.{deletes_of, has_entry, has_matched, is_c
 use Rattle.expunge_laws.specs.Untouched.{may_touch, one_touches, touches}
 use Rattle.expunge_laws.proofs.Replacing.{clear_parts, replaced_step, subtree_clear}
 use Rattle.expunge_laws.proofs.Still.{names_alone, stay_ops}
-use Rattle.expunge_laws.proofs.TreeMaps.{where_comm}
+use Rattle.history_laws.proofs.TreeMaps.{where_comm}
 use Rattle.expunge_laws.proofs.TreesLeft.{both_apply}
 
 where_again : (f : Bytes → Bool) (t : Tree) → where_path f (where_path f t) ≡ where_path f t

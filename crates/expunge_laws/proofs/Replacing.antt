@@ -1,13 +1,10 @@
 -- Replaced operations leave the tree without the matched paths.
-use Rattle.std.proofs.Common.{◌≡◌, ℕ, zero, suc, ◌≤◌, Bool, true, false, cond, not, T, List, [], ◌∷◌, length, refl, sym, ap, subst, ◌∙◌, inl, inr, ◌⊎◌, arith, true≢false, bytes_eq, is_some, Option, Some, None, filter, Result, Ok, Err, eqb-true, le_trans}
+use Rattle.std.proofs.Common.{◌≡◌, ℕ, zero, suc, ◌≤◌, Bool, true, false, cond, not, List, [], ◌∷◌, length, refl, sym, ap, subst, ◌∙◌, inl, inr, ◌⊎◌, true≢false, bytes_eq, is_some, Option, Some, None, filter, Result, Ok, Err, eqb-true, le_trans}
 use Rattle.std.specs.Prelude.{◌&&◌, ◌||◌, ◌==◌, IfOk}
 use Rattle.std.specs.List.{AllByRecursion, list_any}
 use Rattle.std.specs.Option.{option_or}
-use Rattle.std.specs.Ordering.{eq_by_cmp, is_eq, is_lt, ordering_reverse}
-use Rattle.std.specs.declared.cmp.Ordering.{Ordering}
-use Rattle.std.specs.declared.cmp.Ordering.TheVariants.{Less, Equal, Greater}
-use Rattle.std.specs.Cmp.Lexicographic.{nat_list_cmp_total, bytes_decides}
-use Rattle.std.specs.FinMap.Entries as entries
+use Rattle.std.specs.Ordering.{eq_by_cmp}
+use Rattle.std.specs.Cmp.Lexicographic.{bytes_decides}
 use Rattle.std.proofs.lemmas.Bool.{cases_Bool, and_parts, or_cases, or_left, or_parts, not-true, cond-true, cond-false}
 use Rattle.plain_model.specs.declared.operation.Mode.{Mode}
 use Rattle.plain_model.specs.declared.operation.Mode.TheVariants.{Plain, Executable, Link, Gitlink}
@@ -23,11 +20,9 @@ use Rattle.plain_model.specs.Trees.Refusal.{PathBytes}
 use Rattle.squash_laws.specs.Squash.{is_none}
 use Rattle.expunge_laws.specs.Replaced.{mode_number, same_content, same_entry, has_entry, deletes_of, puts_of, restricted, has_matched, rewritten, is_clear, replaced}
 use Rattle.history_laws.proofs.LineLaws.{apply_more}
+use Rattle.history_laws.proofs.PathLaws.{same_bytes}
 use Rattle.history_laws.proofs.TreeLaws.{by_bytes, at_where, at_put, same_path, where_tree, has_where, apply_tree}
-use Rattle.expunge_laws.proofs.TreeMaps.{IsOrdered, ordered_where, ordered_put, ordered_put_all, same_tree, at_put_all, itself, absent, where_comm, where_alike, where_all, any_there, there_any, length_where, length_put_grows, within_ok, within_small}
-
-same_bytes : (p : Bytes) → bytes_eq p p ≡ true
-same_bytes p = (bytes_decides p p).1 refl
+use Rattle.history_laws.proofs.TreeMaps.{IsOrdered, ordered_where, ordered_put, ordered_put_all, same_tree, at_put_all, absent, where_comm, where_alike, where_all, any_there, there_any, length_where, within_ok, within_small, puts, ordered_puts, length_puts, clear_put, puts_agree, entries_found, found_has, placed_small}
 
 -- ---- a run of deletions
 
@@ -83,43 +78,6 @@ deleted f tree t =
 
 -- ---- a run of modifications
 
-abbrev pub puts : Tree → Tree → Tree
-puts [] base = base
-puts (e ∷ es) base = puts es (put e.0 e.1 base)
-
-pub ordered_puts : (es base : Tree) → IsOrdered base → IsOrdered (puts es base)
-ordered_puts [] base h = h
-ordered_puts (e ∷ es) base h = ordered_puts es (put e.0 e.1 base) (ordered_put e.0 e.1 base h)
-
-length_puts : (es base : Tree) → IsOrdered base → length base ≤ length (puts es base)
-length_puts [] base h = omega arith
-length_puts (e ∷ es) base h = le_trans (length_put_grows e.0 e.1 base h) (length_puts es (put e.0 e.1 base) (ordered_put e.0 e.1 base h))
-
--- a path that nothing is in the way of
-pub clear_put : (p : Bytes) (e : Entry) (base : Tree) → IsOrdered base → ((q : Bytes) → has base q ≡ true → do_conflict p q ≡ false) → put p e (cleared_for p base) ≡ put p e base
-clear_put p e base s apart =
-    same_tree (put p e (cleared_for p base)) (put p e base) (ordered_put p e (cleared_for p base) (ordered_where (λ q. not (is_in_the_way p q)) base s)) (ordered_put p e base s)
-    (λ q. at_put p q e (cleared_for p base) ∙ go q (eq_by_cmp by_bytes q p) refl (at base q) refl ∙ sym (at_put p q e base))
-  where
-    other : (q : Bytes) → eq_by_cmp by_bytes q p ≡ false → bytes_eq p q ≡ false
-    other q ne = elim (cases_Bool (bytes_eq p q)) [
-      | inl same ↦ absurd (true≢false (sym (itself q) ∙ subst (λ (x : Bytes). eq_by_cmp by_bytes q x ≡ false) ((bytes_decides p q).0 same) ne))
-      | inr differs ↦ differs
-    ]
-
-    free : (q : Bytes) → eq_by_cmp by_bytes q p ≡ false → has base q ≡ true → not (is_in_the_way p q) ≡ true
-    free q ne h = ap (λ b. not (b || do_conflict p q)) (other q ne) ∙ ap not (apart q h)
-
-    nothing : (a : Bool) → ◌≡◌ {A = Option Entry} (cond a None None) None
-    nothing true = refl
-    nothing false = refl
-
-    go : (q : Bytes) (b : Bool) → eq_by_cmp by_bytes q p ≡ b → (o : Option Entry) → at base q ≡ o
-        → cond (eq_by_cmp by_bytes q p) (Some e) (at (cleared_for p base) q) ≡ cond (eq_by_cmp by_bytes q p) (Some e) (at base q)
-    go q true x o y = cond-true (eq_by_cmp by_bytes q p) (Some e) (at (cleared_for p base) q) x ∙ sym (cond-true (eq_by_cmp by_bytes q p) (Some e) (at base q) x)
-    go q false x None y = ap (cond (eq_by_cmp by_bytes q p) (Some e)) (at_where (λ z. not (is_in_the_way p z)) q base ∙ ap (λ (o : Option Entry). cond (not (is_in_the_way p q)) o None) y ∙ nothing (not (is_in_the_way p q)) ∙ sym y)
-    go q false x (Some v) y = ap (cond (eq_by_cmp by_bytes q p) (Some e)) (at_where (λ z. not (is_in_the_way p z)) q base ∙ ap (λ b. cond b (at base q) None) (free q x (ap is_some y)))
-
 -- modifications at paths of one tree, over some of its paths
 pub modified : (whole : Tree) → IsTree whole → (es base : Tree) → IsOrdered base → AllByRecursion (λ e. has whole e.0 ≡ true) es → ((q : Bytes) → has base q ≡ true → has whole q ≡ true) → length (puts es base) ≤ MAX_PATHS
     → apply_all (puts_of es) base ≡ Ok (puts es base)
@@ -141,57 +99,11 @@ modified whole w (e ∷ es) base s k within few =
 
 -- ---- puts towards a tree
 
--- where each entry put is the whole's, the result answers like the whole at each path that is put or was right before
-puts_agree : (whole : Tree) (es base : Tree) → AllByRecursion (λ e. at whole e.0 ≡ Some e.1) es → (q : Bytes) → (has es q ≡ true) ⊎ (at base q ≡ at whole q) → at (puts es base) q ≡ at whole q
-puts_agree whole [] base k q (inl h) = absurd (true≢false (sym h))
-puts_agree whole [] base k q (inr h) = h
-puts_agree whole (e ∷ es) base k q h = puts_agree whole es (put e.0 e.1 base) k.1 q (go (eq_by_cmp by_bytes q e.0) refl h)
-  where
-    go : (b : Bool) → eq_by_cmp by_bytes q e.0 ≡ b → (has (e ∷ es) q ≡ true) ⊎ (at base q ≡ at whole q) → (has es q ≡ true) ⊎ (at (put e.0 e.1 base) q ≡ at whole q)
-    go true x h = inr (at_put e.0 q e.1 base ∙ ap (λ b. cond b (Some e.1) (at base q)) x ∙ sym k.0 ∙ ap (at whole) (sym (same_path q e.0 x)))
-    go false x (inl h) = inl (ap (λ b. is_some (cond b (Some e.1) (at es q))) (sym x) ∙ h)
-    go false x (inr h) = inr (at_put e.0 q e.1 base ∙ ap (λ b. cond b (Some e.1) (at base q)) x ∙ h)
-
--- each entry of a list in order is found at its path
-below_each : (k : Bytes) (es : Tree) → T (entries.below_all by_bytes k es) → AllByRecursion (λ e. is_lt (by_bytes k e.0) ≡ true) es
-below_each k [] h = tt
-below_each k (e ∷ es) h = go (is_lt (by_bytes k e.0)) refl h (λ x. below_each k es x)
-  where
-    go : (b : Bool) → is_lt (by_bytes k e.0) ≡ b → T (b && entries.below_all by_bytes k es) → (T (entries.below_all by_bytes k es) → AllByRecursion (λ f. is_lt (by_bytes k f.0) ≡ true) es) → AllByRecursion (λ f. is_lt (by_bytes k f.0) ≡ true) (e ∷ es)
-    go true x y f = (x, f y)
-    go false x y f = absurd y
-
-not_tied : (k q : Bytes) → is_lt (by_bytes k q) ≡ true → eq_by_cmp by_bytes q k ≡ false
-not_tied k q h = ap is_eq (nat_list_cmp_total.antisymm q k) ∙ go (by_bytes k q) h
-  where
-    go : (r : Ordering) → is_lt r ≡ true → is_eq (ordering_reverse r) ≡ false
-    go Less h = refl
-    go Equal h = absurd (true≢false (sym h))
-    go Greater h = absurd (true≢false (sym h))
-
-parts_of_T : (a b : Bool) → T (a && b) → T a × T b
-parts_of_T true b h = (tt, h)
-parts_of_T false b h = absurd h
-
-pub each_found : (es : Tree) → IsOrdered es → AllByRecursion (λ e. at es e.0 ≡ Some e.1) es
-each_found [] h = tt
-each_found (e ∷ es) h =
-    let parts = parts_of_T (entries.below_all by_bytes e.0 es) (entries.is_sorted by_bytes es) h in
-    (ap (λ b. cond b (Some e.1) (at es e.0)) (itself e.0), go es (below_each e.0 es parts.0) (each_found es parts.1))
-  where
-    go : (fs : Tree) → AllByRecursion (λ f. is_lt (by_bytes e.0 f.0) ≡ true) fs → AllByRecursion (λ f. at es f.0 ≡ Some f.1) fs → AllByRecursion (λ f. at (e ∷ es) f.0 ≡ Some f.1) fs
-    go [] a b = tt
-    go (f ∷ fs) a b = (ap (λ t. cond t (Some e.1) (at es f.0)) (not_tied e.0 f.0 a.0) ∙ b.0, go fs a.1 b.1)
-
 all_filtered : (P : Bytes × Entry → Type 0) (f : Bytes × Entry → Bool) (es : Tree) → AllByRecursion P es → AllByRecursion P (filter f es)
 all_filtered P f [] a = tt
 all_filtered P f (e ∷ es) a =
     let rest = all_filtered P f es a.1 in
     elim (f e) as (λ b. AllByRecursion P (cond b (e ∷ filter f es) (filter f es))) [ true ↦ (a.0, rest) | false ↦ rest ]
-
-pub found_has : (whole es : Tree) → AllByRecursion (λ e. at whole e.0 ≡ Some e.1) es → AllByRecursion (λ e. has whole e.0 ≡ true) es
-found_has whole [] a = tt
-found_has whole (e ∷ es) a = (ap is_some a.0, found_has whole es a.1)
 
 -- an entry that passes is kept
 has_filter : (f : Bytes × Entry → Bool) (es : Tree) (q : Bytes) (v : Entry) → at es q ≡ Some v → f (q, v) ≡ true → has (filter f es) q ≡ true
@@ -410,14 +322,6 @@ module _ (matched : Bytes → Bool) where
 
   -- ---- C and R, written out
 
-  placed_small : (source target : Bytes) (taken base new : Tree) → placed source target taken base ≡ Ok new → length new ≤ MAX_PATHS
-  placed_small source target [] base new h = absurd cc
-  placed_small source target (e ∷ taken) base new h = go (has_long_path (moved source target (e ∷ taken))) h
-    where
-      go : (b : Bool) → cond b (Err PathBytes) (within_paths (put_all (moved source target (e ∷ taken)) (cleared_for target base))) ≡ Ok new → length new ≤ MAX_PATHS
-      go true y = absurd cc
-      go false y = let is = within_ok (put_all (moved source target (e ∷ taken)) (cleared_for target base)) new y in subst (λ (r : Tree). length r ≤ MAX_PATHS) is.0 is.1
-
   rewritten_step : (old new : Tree) → IsTree old → IsTree new → length new ≤ MAX_PATHS → apply_all (rewritten matched old new) (restricted matched old) ≡ Ok (restricted matched new)
   rewritten_step old new t u few =
       apply_more (deletes_of (where_path (λ p. not (has new p)) (restricted matched old))) (puts_of coming) (restricted matched old)
@@ -444,7 +348,7 @@ module _ (matched : Bytes → Bool) where
       ordered = ordered_where (λ p. not (not (has new p))) (restricted matched old) (ordered_restricted old t.in_order)
 
       found : AllByRecursion (λ e. at whole e.0 ≡ Some e.1) coming
-      found = all_filtered (λ e. at whole e.0 ≡ Some e.1) differs whole (each_found whole wholes.in_order)
+      found = all_filtered (λ e. at whole e.0 ≡ Some e.1) differs whole (entries_found whole wholes.in_order)
 
       at_base : (q : Bytes) → at base q ≡ cond (not (not (has new q))) (cond (not (matched q)) (at old q) None) None
       at_base q = at_where (λ p. not (not (has new p))) q (restricted matched old) ∙ ap (λ (o : Option Entry). cond (not (not (has new q))) o None) (at_restricted old q)

@@ -1,8 +1,8 @@
 -- What an expunge doesn't touch stays as it is.
 use Rattle.std.proofs.Common.{◌≡◌, ℕ, Bool, true, false, cond, not, List, [], ◌∷◌, ◌++◌, map, filter, refl, sym, ap, subst, ◌∙◌, true≢false, Option, Some, None, Result, Ok, Err, IsFalse}
-use Rattle.std.specs.Prelude.{◌||◌, ◌&&◌, ◌==◌, IsSome, flat_map, unwrap_or}
+use Rattle.std.specs.Prelude.{◌||◌, ◌&&◌, IsSome, flat_map, unwrap_or}
 use Rattle.std.specs.List.{AllByRecursion, list_any}
-use Rattle.std.proofs.lemmas.Bool.{and_parts, cond-false, cond-true, not-false, not-true, or_parts}
+use Rattle.std.proofs.lemmas.Bool.{cond-false, cond-true, not-false, or_parts}
 use Rattle.plain_model.specs.declared.id.AnyId.{AnyId}
 use Rattle.plain_model.specs.declared.operation.FileOp.{FileOp}
 use Rattle.plain_model.specs.declared.operation.FileOp.TheVariants.{Modify, Delete, Copy, Rename, DeleteAll}
@@ -11,7 +11,7 @@ use Rattle.plain_model.specs.declared.event.PlainEvent.TheVariants.{Blob, Commit
 use Rattle.plain_model.specs.Histories.{Node, Past, begun, folded, if_ok, past, tree}
 use Rattle.plain_model.specs.Lookups.{id_of}
 use Rattle.plain_model.specs.Paths.{Bytes}
-use Rattle.plain_model.specs.Soundness.{IsSound, are_distinct, has_id}
+use Rattle.plain_model.specs.Soundness.{IsSound, has_id}
 use Rattle.plain_model.specs.Trees.{Refusal, Tree, apply, apply_all, subtree, ◌>>=◌}
 use Rattle.edit_laws.specs.Equations.{Fits}
 use Rattle.edit_laws.specs.Parts.{IsLawful}
@@ -19,7 +19,7 @@ use Rattle.edit_laws.specs.Removal.{chain, expand, expand_all, once_each}
 use Rattle.edit_laws.specs.Settling.{settle}
 use Rattle.edit_laws.specs.Sweeping.{is_left_over, is_named, swept}
 use Rattle.edit_laws.proofs.Following.{chain_none, expand_itself}
-use Rattle.edit_laws.proofs.Lists.{OfNodes}
+use Rattle.edit_laws.proofs.Lists.{OfNodes, own_here}
 use Rattle.edit_laws.proofs.Settled.{in_order_stays}
 use Rattle.edit_laws.proofs.Sound.{in_parts}
 use Rattle.edit_laws.proofs.Swept.{swept_in_order}
@@ -28,11 +28,12 @@ use Rattle.squash_laws.specs.Squash.{anew, is_none, ops_after}
 use Rattle.squash_laws.specs.declared.policy.Lean.TheVariants as lean
 use Rattle.squash_laws.specs.declared.policy.Push.TheVariants as push
 use Rattle.history_laws.specs.FirstParents.{ops_along}
+use Rattle.edit_laws.proofs.Repeats.{distinct_once}
 use Rattle.expunge_laws.specs.Expunged.{emptied, expunged, is_emptied, is_no_merge, ops_left, replaced_event, replaced_events}
 use Rattle.expunge_laws.specs.PushForward.{forward_takes}
 use Rattle.expunge_laws.specs.Replaced.{is_clear, replaced, replaced_all, restricted}
 use Rattle.expunge_laws.specs.Untouched.{is_touched, may_be_touched, may_touch, one_touches, touches}
-use Rattle.expunge_laws.proofs.Changed.{each_there, fitting, replaced_sound}
+use Rattle.expunge_laws.proofs.Changed.{fitting, replaced_sound}
 
 -- ---- nothing is swept
 
@@ -53,20 +54,6 @@ none_swept events (Pass id line ∷ es) = ap (λ (l : List PlainEvent). Pass id 
 
 -- ---- nothing is removed
 
-distinct_stays : (xs : List ℕ) → are_distinct xs ≡ true → once_each xs ≡ xs
-distinct_stays [] h = refl
-distinct_stays (x ∷ xs) h =
-    let parts = and_parts (not (list_any (λ m. m == x) xs)) (are_distinct xs) h in
-    ap (λ (l : List ℕ). x ∷ filter (λ y. not (y == x)) l) (distinct_stays xs parts.1)
-    ∙ ap (λ (l : List ℕ). x ∷ l) (others xs (not-true (list_any (λ m. m == x) xs) parts.0))
-  where
-    others : (ys : List ℕ) → list_any (λ m. m == x) ys ≡ false → filter (λ y. not (y == x)) ys ≡ ys
-    others [] k = refl
-    others (y ∷ ys) k =
-        let parts = or_parts (y == x) (list_any (λ m. m == x) ys) k in
-        ap (λ b. cond (not b) (y ∷ filter (λ z. not (z == x)) ys) (filter (λ z. not (z == x)) ys)) parts.0
-        ∙ ap (λ (l : List ℕ). y ∷ l) (others ys parts.1)
-
 module _ (events : List PlainEvent) where
   each_itself : (ps : List ℕ) → flat_map (expand (is_removed []) (past events)) ps ≡ ps
   each_itself [] = refl
@@ -82,7 +69,7 @@ module _ (events : List PlainEvent) where
 
   stays : (e : PlainEvent) → IsLawful e → left_of [] events (forward_takes [] events false lean.Forward) e ≡ e ∷ []
   stays (Commit id mark branch author committer encoding comment parents ops aliases) l =
-      λ i. Commit id mark branch author committer encoding comment ((ap once_each (each_itself parents) ∙ distinct_stays parents l.4) i) (own_ops id parents ops i) aliases ∷ []
+      λ i. Commit id mark branch author committer encoding comment ((ap once_each (each_itself parents) ∙ distinct_once parents l.4) i) (own_ops id parents ops i) aliases ∷ []
   stays (Blob id mark bytes) l = refl
   stays (Tag id name target tagger comment mark) l = refl
   stays (Reset id branch None) l = refl
@@ -179,7 +166,7 @@ module _ (matched : Bytes → Bool) where
       stay_events (Pass id line ∷ es) k f = (λ n. refl, stay_events es k.1 f.1)
 
       pub untouched_stay : AllByRecursion StaysIf events
-      untouched_stay = stay_events events (each_there events) (fitting matched events h)
+      untouched_stay = stay_events events (own_here events) (fitting matched events h)
 
       all_same : (es : List PlainEvent) → AllByRecursion StaysIf es → list_any (is_touched matched events) es ≡ false → map (replaced_event matched events) es ≡ es
       all_same [] a n = refl

@@ -21,21 +21,25 @@ use Rattle.plain_model.specs.Soundness.{IsCommitOf, IsSound, has_id}
 use Rattle.plain_model.specs.Streams.{is_among, is_marked}
 use Rattle.plain_model.specs.Trees.{Tree, at}
 use Rattle.history_laws.specs.FirstParents.{ops_along}
+use Rattle.history_laws.proofs.Ids.{each_found}
 use Rattle.history_laws.proofs.TreeLaws.{at_where}
 use Rattle.history_laws.proofs.TreeMapping.{mapped_where}
-use Rattle.event_arena.proofs.SoundLemmas.{has_id-find, sound-once}
+use Rattle.history_laws.proofs.SoundOnce.{sound-once}
+use Rattle.edit_laws.specs.Keeping.{AddsNothing, IsOneOf}
 use Rattle.edit_laws.specs.Parts.{HasFewParents}
 use Rattle.edit_laws.specs.Passing.{IsWithinLimits}
 use Rattle.edit_laws.specs.Sweeping.{is_named}
+use Rattle.edit_laws.proofs.Edits.{fewer_below}
 use Rattle.edit_laws.proofs.Limits.{limits_hold, not_many}
+use Rattle.edit_laws.proofs.Lists.{own_here}
 use Rattle.squash_laws.specs.Removed.{is_removed}
 use Rattle.squash_laws.specs.declared.policy.Lean.TheVariants as lean
 use Rattle.expunge_laws.specs.Expunged.{emptied, expunge_of, expunged, is_emptied, replaced_event, replaced_events}
 use Rattle.expunge_laws.specs.PushForward.{unless_limit}
-use Rattle.expunge_laws.specs.Remaining.{IsOneOf, LeavesWhere}
+use Rattle.expunge_laws.specs.Remaining.{LeavesWhere}
 use Rattle.expunge_laws.specs.Replaced.{restricted}
-use Rattle.expunge_laws.proofs.Added.{IsLike, all_like, each_found, no_alias, no_event, no_id, no_mark}
-use Rattle.expunge_laws.proofs.Changed.{each_there, ids_same, replaced_sound, replaced_trees}
+use Rattle.expunge_laws.proofs.Added.{IsLike, all_like, nothing_added}
+use Rattle.expunge_laws.proofs.Changed.{ids_same, replaced_sound, replaced_trees}
 use Rattle.expunge_laws.proofs.Emptied.{all_few, emptied_each}
 use Rattle.expunge_laws.proofs.Finished.{has_many_parents, two_alone}
 use Rattle.expunge_laws.proofs.Forwarded.{pushed_all, pushed_blobs, pushed_commits, pushed_done, pushed_ends, pushed_shown, pushed_sound, pushed_trees, pushed_was_there}
@@ -80,31 +84,14 @@ module _ (matched : Bytes → Bool) (events : List PlainEvent) where
   same_length : length changed ≡ length events
   same_length = length-map events (replaced_event matched events)
 
-  pub no_longer : (new : List PlainEvent) → expunged matched events ≡ Ok new → length new ≤ length events
-  no_longer new is =
-      let fewer = no_event events set changed false lean.Forward new is in
-      let same = same_length in
-      omega arith
-
-  pub no_new_id : (new : List PlainEvent) → expunged matched events ≡ Ok new → (id : AnyId) → has_id new id ≡ true → has_id events id ≡ true
-  no_new_id new is id there =
-      sym (ids_same matched events events id) ∙ no_id events set changed false lean.Forward new is id there
-
-  pub new_below : (new : List PlainEvent) (next : ℕ) → expunged matched events ≡ Ok new → AreIdsBelow next events → AreIdsBelow next new
-  new_below new next is below id there = below id (sym (has_id-find events id) ∙ no_new_id new is id (has_id-find new id ∙ there))
-
-  pub no_new_mark : (new : List PlainEvent) → expunged matched events ≡ Ok new → (m : ℕ) → is_marked new m ≡ true → is_marked events m ≡ true
-  no_new_mark new is m there =
-      sym (marks_same events) ∙ no_mark events set changed false lean.Forward new is m there
-    where
-      marks_same : (es : List PlainEvent) → is_marked (map (replaced_event matched events) es) m ≡ is_marked es m
-      marks_same [] = refl
-      marks_same (Commit id mark branch author committer encoding comment parents ops aliases ∷ es) =
-          ap (λ b. (mark == m) || (is_among aliases m || b)) (marks_same es)
-      marks_same (Blob id mark bytes ∷ es) = ap (λ b. (mark == m) || b) (marks_same es)
-      marks_same (Tag id name target tagger comment mark ∷ es) = ap (λ b. is_among (option_to_list mark) m || b) (marks_same es)
-      marks_same (Reset id branch target ∷ es) = marks_same es
-      marks_same (Pass id line ∷ es) = marks_same es
+  marks_same : (m : ℕ) (es : List PlainEvent) → is_marked (map (replaced_event matched events) es) m ≡ is_marked es m
+  marks_same m [] = refl
+  marks_same m (Commit id mark branch author committer encoding comment parents ops aliases ∷ es) =
+      ap (λ b. (mark == m) || (is_among aliases m || b)) (marks_same m es)
+  marks_same m (Blob id mark bytes ∷ es) = ap (λ b. (mark == m) || b) (marks_same m es)
+  marks_same m (Tag id name target tagger comment mark ∷ es) = ap (λ b. is_among (option_to_list mark) m || b) (marks_same m es)
+  marks_same m (Reset id branch target ∷ es) = marks_same m es
+  marks_same m (Pass id line ∷ es) = marks_same m es
 
   aliases_same : (es : List PlainEvent) → alias_count (map (replaced_event matched events) es) ≡ alias_count es
   aliases_same [] = refl
@@ -115,11 +102,17 @@ module _ (matched : Bytes → Bool) (events : List PlainEvent) where
   aliases_same (Reset id branch target ∷ es) = aliases_same es
   aliases_same (Pass id line ∷ es) = aliases_same es
 
-  pub no_new_alias : (new : List PlainEvent) → expunged matched events ≡ Ok new → alias_count new ≤ alias_count events
-  no_new_alias new is =
-      let fewer = no_alias events set changed false lean.Forward new is in
-      let same = aliases_same events in
-      omega arith
+  pub nothing_new : (new : List PlainEvent) → expunged matched events ≡ Ok new → AddsNothing events new
+  nothing_new new is =
+      let added = nothing_added events set changed false lean.Forward new is in record {
+        events = let fewer = added.events in let same = same_length in omega arith;
+        ids = λ id there. sym (ids_same matched events events id) ∙ added.ids id there;
+        marks = λ m there. sym (marks_same m events) ∙ added.marks m there;
+        aliases = let fewer = added.aliases in let same = aliases_same events in omega arith;
+      }
+
+  pub new_below : (new : List PlainEvent) (next : ℕ) → expunged matched events ≡ Ok new → AreIdsBelow next events → AreIdsBelow next new
+  new_below new next is below = fewer_below events new next (nothing_new new is).ids below
 
   -- an event that is like one whose operations were replaced is like the old one
   one_again : (es : List PlainEvent) → AllByRecursion (λ e. find_event (id_of e) events ≡ Some e) es →
@@ -151,7 +144,7 @@ module _ (matched : Bytes → Bool) (events : List PlainEvent) where
         expunged matched events ≡ Ok new → expunge_of matched events ≡ (if nat_lt MAX_OPERATIONS (length (ops_along (nodes new))) then Err (fault.Limit limit.Operations MAX_OPERATIONS) else Ok new)
     refused_for_operations new small some is =
         ap (unless_limit events) is
-        ∙ two_alone new (le_trans (no_longer new is) small) (le_trans (no_new_alias new is) some)
+        ∙ two_alone new (le_trans (nothing_new new is).events small) (le_trans (nothing_new new is).aliases some)
         ∙ ap (λ b. cond (nat_lt MAX_OPERATIONS (length (ops_along (nodes new)))) (Err (fault.Limit limit.Operations MAX_OPERATIONS)) (cond b (Err (fault.Limit limit.Parents MAX_PARENTS)) (Ok new)))
         (none_many new (few_new new is))
 
@@ -226,4 +219,4 @@ module _ (matched : Bytes → Bool) (events : List PlainEvent) where
       leaves (Pass id line ∷ es) k a = (tt, leaves es k.1 a.1)
 
       pub expunge_leaves : AllByRecursion (LeavesWhere (is_emptied matched events) new) events
-      expunge_leaves = leaves events (each_there events) (emptied_each matched events h)
+      expunge_leaves = leaves events (own_here events) (emptied_each matched events h)

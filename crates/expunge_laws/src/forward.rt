@@ -1,21 +1,5 @@
 //! Laws of a push forward after another edit. Each function's contract is one, and its body is empty.
-ghost use Rattle.std.specs.Prelude.{
-  ◌≡◌,
-  ◌≤◌,
-  ◌&&◌,
-  ℕ,
-  Bool,
-  List,
-  Ok,
-  Err,
-  IsOk,
-  IsTrue,
-  if◌then◌else◌,
-  length,
-  nat_lt,
-  not,
-  true,
-};
+ghost use Rattle.std.specs.Prelude.{◌≡◌, ◌≤◌, ◌&&◌, ℕ, Bool, List, Ok, Err, IsOk, if◌then◌else◌, length, nat_lt, not, true};
 ghost use Rattle.std.specs.List.{AllByRecursion, list_any};
 ghost use Rattle.plain_model.specs.declared.event.PlainEvent.{PlainEvent};
 ghost use Rattle.plain_model.specs.declared.fault.Fault.TheVariants as fault;
@@ -32,12 +16,12 @@ ghost use Rattle.plain_model.specs.Histories.{nodes, tree};
 ghost use Rattle.plain_model.specs.Lookups.{AreIdsBelow, alias_count, event_parents};
 ghost use Rattle.plain_model.specs.Snapshots.{shown_tree};
 ghost use Rattle.plain_model.specs.Soundness.{IsCommitOf, IsSound, has_id};
-ghost use Rattle.plain_model.specs.Streams.{is_marked};
 ghost use Rattle.history_laws.specs.FirstParents.{ops_along};
+ghost use Rattle.edit_laws.specs.Keeping.{AddsNothing};
 ghost use Rattle.edit_laws.specs.Passing.{IsWithinLimits};
 ghost use Rattle.edit_laws.specs.Sweeping.{is_named};
 ghost use Rattle.squash_laws.specs.Faults.{squash_of};
-ghost use Rattle.squash_laws.specs.Remaining.{IsOneOf};
+ghost use Rattle.squash_laws.specs.Remaining.{IsBareOneOf};
 ghost use Rattle.squash_laws.specs.Removed.{is_removed};
 ghost use Rattle.squash_laws.specs.declared.policy.Lean.{Lean};
 ghost use Rattle.squash_laws.specs.declared.policy.Push.TheVariants as push;
@@ -78,21 +62,9 @@ pub fn a_push_forward_finishes_an_edit()
 /// A push forward adds no event, id, mark or alias, and what stays is as the other edit left it, but for its links and
 /// for comments.
 pub fn a_push_forward_adds_nothing()
-    ensures events { (before : List PlainEvent) (set : List AnyId) (events : List PlainEvent)
+    ensures added { (before : List PlainEvent) (set : List AnyId) (events : List PlainEvent)
         (comments : Bool) (tags : Lean) (new : List PlainEvent) →
-        pushed_forward before set events comments tags ≡ Ok new → length new ≤ length events }
-    ensures ids { (before : List PlainEvent) (set : List AnyId) (events : List PlainEvent)
-        (comments : Bool) (tags : Lean) (new : List PlainEvent) →
-        pushed_forward before set events comments tags ≡ Ok new → (id : AnyId) →
-        IsTrue (has_id new id) → IsTrue (has_id events id) }
-    ensures marks { (before : List PlainEvent) (set : List AnyId) (events : List PlainEvent)
-        (comments : Bool) (tags : Lean) (new : List PlainEvent) →
-        pushed_forward before set events comments tags ≡ Ok new → (mark : ℕ) →
-        IsTrue (is_marked new mark) → IsTrue (is_marked events mark) }
-    ensures aliases { (before : List PlainEvent) (set : List AnyId) (events : List PlainEvent)
-        (comments : Bool) (tags : Lean) (new : List PlainEvent) →
-        pushed_forward before set events comments tags ≡ Ok new →
-        alias_count new ≤ alias_count events }
+        pushed_forward before set events comments tags ≡ Ok new → AddsNothing events new }
     ensures below { (before : List PlainEvent) (set : List AnyId) (events : List PlainEvent)
         (comments : Bool) (tags : Lean) (new : List PlainEvent) (next : ℕ) →
         pushed_forward before set events comments tags ≡ Ok new →
@@ -100,7 +72,7 @@ pub fn a_push_forward_adds_nothing()
     ensures stays { (before : List PlainEvent) (set : List AnyId) (events : List PlainEvent)
         (comments : Bool) (tags : Lean) (new : List PlainEvent) → IsSound events →
         push_forward_of before set events comments tags ≡ Ok new →
-        AllByRecursion (IsOneOf events) new }
+        AllByRecursion (IsBareOneOf events) new }
 {}
 
 /// Where a history had no more events and aliases than it may have, a push forward of it is refused exactly where there

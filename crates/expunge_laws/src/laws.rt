@@ -24,7 +24,6 @@ ghost use Rattle.std.specs.List.{AllByRecursion, list_any};
 ghost use Rattle.plain_model.specs.declared.event.PlainEvent.{PlainEvent};
 ghost use Rattle.plain_model.specs.declared.fault.Fault.TheVariants as fault;
 ghost use Rattle.plain_model.specs.declared.fault.Which.TheVariants as limit;
-ghost use Rattle.plain_model.specs.declared.id.AnyId.{AnyId};
 ghost use Rattle.plain_model.specs.declared.id.AnyId.TheVariants as any;
 ghost use Rattle.plain_model.specs.declared.limit.TheConstants.{MAX_ALIASES, MAX_EVENTS, MAX_OPERATIONS};
 ghost use Rattle.plain_model.specs.Histories.{nodes, tree};
@@ -32,7 +31,6 @@ ghost use Rattle.plain_model.specs.Lookups.{AreIdsBelow, alias_count};
 ghost use Rattle.plain_model.specs.Paths.{Bytes};
 ghost use Rattle.plain_model.specs.Snapshots.{shown_tree};
 ghost use Rattle.plain_model.specs.Soundness.{IsCommitOf, IsSound, has_id};
-ghost use Rattle.plain_model.specs.Streams.{is_marked};
 ghost use Rattle.plain_model.specs.Trees.{Tree, at};
 ghost use Rattle.history_laws.specs.FirstParents.{ops_along};
 ghost use Rattle.edit_laws.specs.Editing.{IsEdit, with_number};
@@ -48,7 +46,8 @@ ghost use Rattle.expunge_laws.specs.Expunged.{
   replaced_events,
 };
 ghost use Rattle.expunge_laws.specs.InLine.{IsInLine, tree_in_place};
-ghost use Rattle.expunge_laws.specs.Remaining.{IsOneOf, LeavesWhere};
+ghost use Rattle.expunge_laws.specs.Remaining.{LeavesWhere};
+ghost use Rattle.edit_laws.specs.Keeping.{AddsNothing, IsOneOf};
 ghost use Rattle.expunge_laws.specs.Replaced.{restricted};
 ghost use Rattle.expunge_laws.specs.Untouched.{is_touched, may_be_touched};
 
@@ -110,16 +109,8 @@ pub fn an_expunge_keeps_the_limits()
 
 /// No event, id, mark or alias is added, and ids stay below whatever bound they were.
 pub fn an_expunge_adds_nothing()
-    ensures events { (matched : Bytes → Bool) (events new : List PlainEvent) →
-        expunged matched events ≡ Ok new → length new ≤ length events }
-    ensures ids { (matched : Bytes → Bool) (events new : List PlainEvent) →
-        expunged matched events ≡ Ok new → (id : AnyId) →
-        IsTrue (has_id new id) → IsTrue (has_id events id) }
-    ensures marks { (matched : Bytes → Bool) (events new : List PlainEvent) →
-        expunged matched events ≡ Ok new → (mark : ℕ) →
-        IsTrue (is_marked new mark) → IsTrue (is_marked events mark) }
-    ensures aliases { (matched : Bytes → Bool) (events new : List PlainEvent) →
-        expunged matched events ≡ Ok new → alias_count new ≤ alias_count events }
+    ensures added { (matched : Bytes → Bool) (events new : List PlainEvent) →
+        expunged matched events ≡ Ok new → AddsNothing events new }
     ensures below { (matched : Bytes → Bool) (events new : List PlainEvent) (next : ℕ) →
         expunged matched events ≡ Ok new → AreIdsBelow next events → AreIdsBelow next new }
 {}

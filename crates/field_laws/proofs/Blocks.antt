@@ -1,29 +1,17 @@
 -- Blocks of data: counted ones, and lines up to a delimiter.
-use Rattle.std.proofs.Common.{◌≡◌, ℕ, ◌≤◌, ◌<◌, Bool, true, false, cond, not, [], ◌∷◌, ◌++◌, length, take, drop, Option, Some, None, Result, Ok, Err, refl, sym, ap, ◌∙◌, arith, append_assoc, append-nil, le-leb, eqb-true, codes}
+use Rattle.std.proofs.Common.{◌≡◌, ℕ, ◌≤◌, ◌<◌, Bool, true, false, cond, not, [], ◌∷◌, ◌++◌, length, drop, Option, Some, None, Result, Ok, Err, refl, sym, ap, ◌∙◌, arith, append_assoc, append-nil, eqb-true, codes}
 use Rattle.std.specs.Prelude.{◌==◌, ◌&&◌, is_some, nat_le, bytes_eq}
-use Rattle.std.proofs.lemmas.Bool.{and_parts, cond-true, cond-false, not-true}
+use Rattle.std.proofs.lemmas.Bool.{and_parts, cond-false, not-true}
 use Rattle.std.proofs.lemmas.Bool.Decides.{nat_tests}
 use Rattle.std.proofs.lemmas.Slice.Eq.{bytes_eq-Decides}
 use Rattle.std.proofs.lemmas.Option.{none-some, cond_some}
 use Rattle.plain_model.specs.declared.fault.Why.{Why}
-use Rattle.plain_model.specs.declared.fault.Why.TheVariants.{BadData, Truncated}
+use Rattle.plain_model.specs.declared.fault.Why.TheVariants.{BadData}
 use Rattle.plain_model.specs.Paths.{Bytes}
 use Rattle.plain_model.specs.Parts.{has_no_lf, number_of, number_within, at_most}
 use Rattle.plain_model.specs.Parts.{◌>>=◌ as ◌then_part◌}
-use Rattle.plain_model.specs.Fields.{◌>>=◌, after_space, block_after, data_text, delimited, delimiter_in, extent_by, extent_in, first_word, or_defect}
+use Rattle.plain_model.specs.Fields.{◌>>=◌, after_space, data_text, delimited, delimiter_in, extent_by, extent_in, first_word, or_defect}
 use Rattle.plain_model.specs.Fields.Extent.{Counted, Delimited}
-
--- ---- counted
-
--- a count that the text has
-pub counted_there : (text : Bytes) (n : ℕ) → n ≤ length text → block_after (Ok (Counted n)) text ≡ Ok (take n text, drop n text)
-unfolding block_after
-counted_there text n h = ap (or_defect Truncated) (cond-true (nat_le n (length text)) (Some (take n text, drop n text)) None (le-leb n (length text) h))
-
--- a count that the text misses
-pub counted_short : (text : Bytes) (n : ℕ) → length text < n → block_after (Ok (Counted n)) text ≡ Err Truncated
-unfolding block_after
-counted_short text n h = ap (or_defect Truncated) (cond-false (nat_le n (length text)) (Some (take n text, drop n text)) None (grind (arith, nat_tests)))
 
 -- ---- how far a line says that a block goes
 

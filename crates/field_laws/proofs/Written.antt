@@ -1,20 +1,20 @@
 -- Each field that is written is spelled as it is read, whatever follows.
 use Rattle.std.proofs.Common.{◌≡◌, inl, inr, ℕ, ◌+◌, ◌-◌, ◌*◌, ◌/◌, ◌%◌, ◌^◌, ◌≤◌, ◌<◌, Bool, true, false, cond, not, [], ◌∷◌, ◌++◌, length, refl, sym, ap, ◌∙◌, arith, append_assoc, length-append, leb-true, lt-ltb, ne_eqb, codes}
-use Rattle.std.specs.Prelude.{◌==◌, ◌&&◌, ◌||◌, nat_le, nat_lt, decimal, IsTrue}
-use Rattle.std.specs.List.{list_all, list_any}
-use Rattle.std.proofs.lemmas.Bool.{and_parts, and_from, or_from, cond-true, cond-false, not-true}
+use Rattle.std.specs.Prelude.{◌==◌, ◌&&◌, nat_le, nat_lt, decimal, IsTrue}
+use Rattle.std.specs.List.{list_all}
+use Rattle.std.proofs.lemmas.Bool.{and_parts, and_from, cond-true}
 use Rattle.std.proofs.lemmas.Fmt.{decimal_by_steps_wide}
 use Rattle.std.proofs.lemmas.List.Folds.{list_all-append}
 use Rattle.plain_model.specs.declared.limit.TheConstants.{MAX_NAME_BYTES, MAX_SECONDS}
 use Rattle.plain_model.specs.declared.person.Signed.{Signed}
-use Rattle.plain_model.specs.Paths.{Bytes, IsPath}
+use Rattle.plain_model.specs.Paths.{Bytes}
 use Rattle.plain_model.specs.Marks.{IsMark}
 use Rattle.plain_model.specs.Names.{is_name_byte, is_name}
 use Rattle.plain_model.specs.Numbers.{IsNumeral, is_digit}
 use Rattle.plain_model.specs.People.{is_clean, IsNamePart, IsZone, IsSigned}
-use Rattle.plain_model.specs.Parts.{has_no_lf, IsLine, begins}
-use Rattle.plain_model.specs.Text.{line, zone, person, begins_quoted, quoted, last_path}
-use Rattle.plain_model.proofs.Numbers.{value_push, eqb_turned}
+use Rattle.plain_model.specs.Parts.{has_no_lf, IsLine}
+use Rattle.plain_model.specs.Text.{line, zone, person}
+use Rattle.plain_model.proofs.Numbers.{value_push}
 use Rattle.field_laws.proofs.Decimals.{digit}
 use Rattle.field_laws.proofs.Persons.{all_pass}
 
@@ -136,36 +136,3 @@ person_written who h = record {
   in_time = h.in_time;
   offset = zone_written who.when.minus who.when.offset h.four_digits;
 }
-
--- ---- paths
-
--- a path that can be unquoted
-pub record PathFits (path : Bytes) : Type 0 where
-  pub is_path : IsPath path
-  pub unquoted : begins (codes "\"") path ≡ false
-  pub plain : has_no_lf path ≡ true
-
--- two tests for a leading quote agree
-begins_same : (p : Bytes) → begins_quoted p ≡ begins (codes "\"") p
-begins_same [] = refl
-begins_same (b ∷ bs) = eqb_turned b 34 ∙ sym (and_true (34 == b))
-  where
-    and_true : (t : Bool) → (t && true) ≡ t
-    and_true true = refl
-    and_true false = refl
-
--- two tests for an LF agree
-no_lf_any : (p : Bytes) → has_no_lf p ≡ true → list_any (λ b. b == 10) p ≡ false
-no_lf_any [] h = refl
-no_lf_any (b ∷ bs) h =
-    let parts = and_parts (not (b == 10)) (has_no_lf bs) h in
-    or_from (b == 10) (list_any (λ c. c == 10) bs) (not-true (b == 10) parts.0) (no_lf_any bs parts.1)
-
--- a path that fits is written without quotes
-path_same : (path : Bytes) → PathFits path → last_path path ≡ path
-path_same path h =
-    cond-false (begins_quoted path || list_any (λ b. b == 10) path) (quoted path) path (or_from (begins_quoted path) (list_any (λ b. b == 10) path) (begins_same path ∙ h.unquoted) (no_lf_any path h.plain))
-
--- a path that is written has no LF
-pub plain_path : (path : Bytes) → PathFits path → has_no_lf (last_path path) ≡ true
-plain_path path h = ap has_no_lf (path_same path h) ∙ h.plain

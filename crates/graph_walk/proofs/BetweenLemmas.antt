@@ -12,7 +12,7 @@ use Rattle.plain_model.specs.Histories.{Node, nodes, past}
 use Rattle.plain_model.specs.Lookups.{event_parents, id_of, place_of, same_id}
 use Rattle.plain_model.specs.Soundness.{IsCommitOf, IsSound}
 use Rattle.history_laws.proofs.Ids.{same_id-true}
-use Rattle.event_arena.specs.Once.{AreDistinct}
+use Rattle.history_laws.specs.Once.{AreDistinct}
 use Rattle.ancestry_laws.specs.Ancestry.{descends, is_one_of}
 use Rattle.ancestry_laws.proofs.Pasts.{all_reverse}
 use Rattle.graph_walk.specs.Flags.{FlagsMore, flag_at, is_commit_of, is_flagged_commit}

@@ -12,12 +12,12 @@ use Rattle.plain_model.specs.Histories.{Node, nodes, past}
 use Rattle.plain_model.specs.Lookups.{event_parents, id_of, is_listed, place_of, same_id}
 use Rattle.plain_model.specs.Soundness.{IsCommitOf, IsSound, has_id}
 use Rattle.history_laws.proofs.Ids.{same_id-true}
-use Rattle.event_arena.specs.Once.{AreDistinct}
+use Rattle.history_laws.specs.Once.{AreDistinct}
 use Rattle.ancestry_laws.specs.Ancestry.{commits, descends, is_one_of, is_parent_in}
 use Rattle.ancestry_laws.proofs.Pasts.{all_reverse, any_reverse, known_past, linked_past}
 use Rattle.graph_walk.specs.Flags.{FlagsMore, flag_at, flagged_ids, is_commit_of, is_flagged_commit}
-use Rattle.ancestry_laws.proofs.Descent.{all_here, any_here, any_some, closed_reaches, from_itself, high_known, parent_reaches}
-use Rattle.graph_walk.proofs.EarlierLemmas.{IsEarlier, parents_before, is_earlier}
+use Rattle.ancestry_laws.proofs.Descent.{any_here, any_some, closed_reaches, from_itself, high_known, parent_reaches}
+use Rattle.graph_walk.proofs.EarlierLemmas.{parents_before, is_earlier}
 use Rattle.graph_walk.proofs.FlagLemmas.{commit_id, commit_of_is, flag_of, flagged_by, of_commit}
 use Rattle.graph_walk.proofs.PlaceLemmas.{event_placed, has_id_place, place_found}
 
@@ -100,12 +100,6 @@ pub record AreClosedFrom (events : List PlainEvent) (set' : List ℕ) (k : ℕ) 
       AllByRecursion (λ p. is_flagged_commit flags events p ≡ true) (event_parents e)
 
 module _ (events : List PlainEvent) (sound : IsSound events) (once : AreDistinct events) (set' : List ℕ) where
-  -- a parent's flag is that at its place
-  parent_flag : (k : ℕ) (e : PlainEvent) → slice_get events k ≡ Some e → (p : ℕ) →
-      is_one_of (event_parents e) p ≡ true → IsEarlier events k p
-  parent_flag k e at p among =
-      is_earlier events k p (all_here (IsCommitOf (take k events)) (event_parents e) p (parents_before [] events k e sound.formed at) among)
-
   -- a parent of the k-th event is before it
   parent_earlier : (k j : ℕ) (e d : PlainEvent) → slice_get events k ≡ Some e → slice_get events j ≡ Some d →
       is_commit_of (event_parents e) d ≡ true → j < k

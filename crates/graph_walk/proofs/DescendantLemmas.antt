@@ -13,10 +13,10 @@ use Rattle.plain_model.specs.declared.event.PlainEvent.TheVariants.{Blob, Commit
 use Rattle.plain_model.specs.Histories.{nodes, past}
 use Rattle.plain_model.specs.Lookups.{event_parents, id_of, place_of}
 use Rattle.plain_model.specs.Soundness.{IsCommitOf, IsSound}
-use Rattle.event_arena.specs.Once.{AreDistinct}
+use Rattle.history_laws.specs.Once.{AreDistinct}
 use Rattle.event_arena.proofs.ListLemmas.{take-all}
 use Rattle.ancestry_laws.specs.Ancestry.{commits, descends, descends_in}
-use Rattle.graph_walk.specs.Flags.{FlagsMore, flagged_ids, is_commit_of, is_flagged_commit}
+use Rattle.graph_walk.specs.Flags.{flagged_ids, is_commit_of, is_flagged_commit}
 use Rattle.graph_walk.proofs.EarlierLemmas.{any_on, parents_before, past_item, is_earlier}
 use Rattle.graph_walk.proofs.FlagLemmas.{commit_id, commit_of_is, flag_of, flagged_by, of_commit}
 use Rattle.graph_walk.proofs.PlaceLemmas.{place_found}
@@ -30,14 +30,6 @@ pub record AreSettledTo (events : List PlainEvent) (set' : List ℕ) (k : ℕ) (
       get_or flags j false ≡ is_commit_of set' e
 
 module _ (events : List PlainEvent) (sound : IsSound events) (once : AreDistinct events) (set' : List ℕ) where
-  pub settled_first : (old flags : List Bool) → length old ≡ length events → ((k : ℕ) → get_or old k false ≡ false) →
-      FlagsMore events set' old flags → AreSettledTo events set' 0 flags
-  settled_first old flags counted none f = record {
-    count = f.count ∙ counted;
-    below = λ j e at low. absurd (omega arith);
-    above = λ j e at low. f.more j e at ∙ ap (λ b. b || is_commit_of set' e) (none j);
-  }
-
   -- a commit before the k-th event isn't the k-th
   apart : (j k : ℕ) (d : PlainEvent) (id : ℕ) (e : PlainEvent) → slice_get events j ≡ Some d → j < k →
       slice_get events k ≡ Some e → any.Commit id ≡ id_of e → (c : ℕ) → any.Commit c ≡ id_of d → eqb id c ≡ false

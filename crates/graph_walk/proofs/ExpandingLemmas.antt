@@ -4,7 +4,7 @@ use Rattle.std.proofs.lemmas.Bool.{cases_Bool, eqb-true, true≢false, false_fro
 use Rattle.std.proofs.lemmas.Bool.Decides.{nat_tests}
 use Rattle.std.proofs.lemmas.Option.{same_Some}
 use Rattle.std.specs.List.{AllByRecursion}
-use Rattle.std.specs.Prelude.{flat_map, map, nat_le, option_and_then, slice_get}
+use Rattle.std.specs.Prelude.{flat_map, map, nat_le, slice_get}
 use Rattle.plain_model.specs.declared.limit.TheConstants.{MAX_PARENTS}
 use Rattle.plain_model.specs.declared.id.AnyId.{AnyId}
 use Rattle.plain_model.specs.declared.id.AnyId.TheVariants as any
@@ -13,10 +13,10 @@ use Rattle.plain_model.specs.declared.event.PlainEvent.TheVariants.{Blob, Commit
 use Rattle.plain_model.specs.Histories.{Past, nodes, past}
 use Rattle.plain_model.specs.Lookups.{id_of, is_listed, place_of}
 use Rattle.plain_model.specs.Soundness.{IsCommitOf, IsSound}
-use Rattle.event_arena.specs.Once.{AreDistinct}
+use Rattle.history_laws.specs.Once.{AreDistinct}
 use Rattle.event_arena.proofs.ListLemmas.{take-all}
 use Rattle.graph_walk.specs.Expansions.{is_removed}
-use Rattle.graph_walk.specs.Joined.{AreExpansions, Expanded, OfCommit, entry_at, entry_of, fits, itself, itself_at, joined, joined_from, kept, next_entry}
+use Rattle.graph_walk.specs.Joined.{AreExpansions, Expanded, OfCommit, entry_at, entry_of, fits, joined, joined_from, kept, next_entry}
 use Rattle.edit_laws.specs.Removal.{expand, once_each}
 use Rattle.graph_walk.proofs.EarlierLemmas.{parents_before, past_item, is_earlier}
 use Rattle.graph_walk.proofs.EntryLemmas.{length_more}
@@ -87,18 +87,6 @@ pub record AreExpandedTo (events : List PlainEvent) (removed : List AnyId) (k : 
   pub count : length s.entries ≡ k
   pub entry : (j : ℕ) (e : PlainEvent) → slice_get events j ≡ Some e → j < k →
       OfCommit (λ c. get_or s.entries j None ≡ kept s.bounded (expand (is_removed removed) (past (take k events)) c)) e
-
--- an event that stays expands to itself
-pub staying_next : (bounded : Bool) (events : List PlainEvent) (entries : List (Option (List ℕ))) (k : ℕ) (e : PlainEvent) →
-    slice_get events k ≡ Some e → itself_at events k ≡ next_entry bounded events entries false e
-staying_next bounded events entries k e at = ap (option_and_then itself) at ∙ by e
-  where
-    by : (e : PlainEvent) → itself e ≡ next_entry bounded events entries false e
-    by (Commit id mark branch author committer encoding comment parents ops aliases) = refl
-    by (Blob id mark bytes) = refl
-    by (Tag id name target tagger comment mark) = refl
-    by (Reset id branch target) = refl
-    by (Pass id line) = refl
 
 get_old : (xs : List (Option (List ℕ))) (x : Option (List ℕ)) (k : ℕ) → k < length xs →
     get_or (xs ++ x ∷ []) k None ≡ get_or xs k None
@@ -223,6 +211,3 @@ module _ (events : List PlainEvent) (sound : IsSound events) (once : AreDistinct
     count = a.count ∙ all;
     entry = λ j e at. subst (λ es. OfCommit (λ c. get_or s.entries j None ≡ kept s.bounded (expand (is_removed removed) (past es) c)) e) (take-all events k (omega arith)) (a.entry j e at (let low = slice_get_within events j e at in omega arith));
   }
-
-  pub expanded_first : (bounded : Bool) → AreExpandedTo events removed 0 (record { events = events; bounded = bounded; entries = [] })
-  expanded_first bounded = record { count = refl; entry = λ j e at low. absurd (omega arith) }

@@ -7,8 +7,8 @@ use Rattle.std.specs.Prelude.{slice_get}
 use Rattle.plain_model.specs.declared.event.PlainEvent.{PlainEvent}
 use Rattle.plain_model.specs.Lookups.{event_parents, place_of}
 use Rattle.plain_model.specs.Soundness.{IsCommitOf, IsSound}
-use Rattle.event_arena.specs.Once.{AreDistinct}
-use Rattle.event_arena.proofs.SoundLemmas.{sound-once}
+use Rattle.history_laws.specs.Once.{AreDistinct}
+use Rattle.history_laws.proofs.SoundOnce.{sound-once}
 use Rattle.ancestry_laws.specs.Ancestry.{is_one_of}
 use Rattle.graph_walk.specs.Joined.{AddsEntry, IsBeforePlace, fits, joined_from, with_all, with_one}
 use Rattle.edit_laws.specs.Removal.{once_each}

@@ -13,12 +13,12 @@ use Rattle.plain_model.specs.declared.event.PlainEvent.{PlainEvent}
 use Rattle.plain_model.specs.declared.event.PlainEvent.TheVariants.{Blob, Commit, Tag, Reset, Pass}
 use Rattle.plain_model.specs.Lookups.{id_of, is_listed, place_of, same_id}
 use Rattle.plain_model.proofs.Numbers.{eqb_turned}
-use Rattle.history_laws.proofs.Ids.{same_id-refl, same_id-true}
-use Rattle.event_arena.specs.Once.{AreDistinct}
+use Rattle.history_laws.proofs.Ids.{one_place, same_id-refl, same_id-true}
+use Rattle.history_laws.specs.Once.{AreDistinct}
 use Rattle.event_arena.proofs.ListLemmas.{take-all}
 use Rattle.ancestry_laws.specs.Ancestry.{commits, is_one_of}
 use Rattle.graph_walk.specs.Flags.{FlagsMore, FlagsOf, flag_at, flagged_ids, is_commit_of, is_flagged, is_flagged_commit}
-use Rattle.graph_walk.proofs.PlaceLemmas.{one_place, place_found, place_within}
+use Rattle.graph_walk.proofs.PlaceLemmas.{place_found, place_within}
 
 -- ---- flags of a set
 
@@ -31,10 +31,6 @@ commit_of_push : (set : List ℕ) (c : ℕ) (e : PlainEvent) →
 commit_of_push set c e =
     ap (is_listed (id_of e)) (commits_push set c)
     ∙ list_any-append (same_id (id_of e)) (map any.Commit set) (any.Commit c ∷ [])
-
--- no flag more
-pub flags_none : (events : List PlainEvent) (flags : List Bool) → FlagsMore events [] flags flags
-flags_none events flags = record { count = refl; more = λ k e at. sym (or-false (get_or flags k false)) }
 
 -- one commit more that is there
 pub flags_push : (events : List PlainEvent) (set' : List ℕ) (c p : ℕ) (old mid : List Bool) → AreDistinct events →

@@ -1,5 +1,5 @@
 -- Whether each event of a list is after all that it refers to.
-use Rattle.std.proofs.Common.{◌≡◌, ◌∙◌, ℕ, zero, suc, ◌<◌, ◌≤◌, Bool, true, false, List, [], ◌∷◌, ◌++◌, Some, refl, sym, ap, subst, length, get_or, take, arith, append_assoc, append-nil}
+use Rattle.std.proofs.Common.{◌≡◌, ◌∙◌, ℕ, zero, suc, ◌<◌, ◌≤◌, Bool, true, false, List, [], ◌∷◌, Some, refl, sym, ap, subst, length, get_or, take, arith}
 use Rattle.std.proofs.lemmas.Bool.Decides.{nat_tests}
 use Rattle.std.proofs.Math.Bool.{or-true}
 use Rattle.std.proofs.lemmas.Option.{get_or_from_slice_get, none-some, same_Some}
@@ -13,13 +13,15 @@ use Rattle.plain_model.specs.Soundness.{has_id}
 use Rattle.history_laws.proofs.Ids.{same_id-refl}
 use Rattle.event_arena.proofs.ListLemmas.{flat-take-item, take-all, take-item}
 use Rattle.history_laws.proofs.Ids.{has_id-append}
-use Rattle.event_arena.proofs.SoundLemmas.{has_id-find}
+use Rattle.history_laws.proofs.SoundOnce.{has_id-find}
 use Rattle.edit_laws.specs.Parts.{AreInOrder}
 use Rattle.edit_laws.specs.Settling.{is_ready}
 use Rattle.graph_walk.specs.Slots.{named_by, slots_of}
 use Rattle.std.proofs.lemmas.List.Folds.{list_all-append}
+use Rattle.history_laws.proofs.Lists.{item_at}
+use Rattle.edit_laws.proofs.Settled.{in_order_more}
 use Rattle.graph_walk.proofs.SlotLemmas.{slots_named}
-use Rattle.graph_walk.proofs.PlaceLemmas.{event_placed, item_at}
+use Rattle.graph_walk.proofs.PlaceLemmas.{event_placed}
 
 -- ---- earlier events
 
@@ -66,16 +68,10 @@ named_ready earlier e k all h =
 
 -- ---- the whole list
 
-ready_push : (taken events : List PlainEvent) (e : PlainEvent) → AreInOrder taken events →
-    is_ready (taken ++ events) e ≡ true → AreInOrder taken (events ++ e ∷ [])
-ready_push taken [] e all own = (ap (λ es. is_ready es e) (sym (append-nil taken)) ∙ own, tt)
-ready_push taken (x ∷ events) e all own =
-    (all.0, ready_push (taken ++ x ∷ []) events e all.1 (ap (λ es. is_ready es e) (append_assoc taken (x ∷ []) events) ∙ own))
-
 pub ready_item : (events : List PlainEvent) (k : ℕ) (e : PlainEvent) → slice_get events k ≡ Some e →
     AreInOrder [] (take k events) → is_ready (take k events) e ≡ true → AreInOrder [] (take (suc k) events)
 ready_item events k e at all own =
-    subst (AreInOrder []) (sym (take-item events k e at)) (ready_push [] (take k events) e all own)
+    subst (AreInOrder []) (sym (take-item events k e at)) (in_order_more [] (take k events) e all own)
 
 -- a test of places says so
 pub before_place : (events : List PlainEvent) (k q : ℕ) (id : AnyId) → place_of id events ≡ Some q →

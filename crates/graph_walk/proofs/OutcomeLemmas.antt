@@ -11,9 +11,8 @@ use Rattle.plain_model.specs.declared.event.PlainEvent.{PlainEvent}
 use Rattle.plain_model.specs.Lookups.{find_event, id_of, is_listed, referents_of, same_id}
 use Rattle.plain_model.specs.Soundness.{has_id}
 use Rattle.event_arena.specs.Changes.{in_order, without_all}
-use Rattle.event_arena.specs.Once.{AreDistinct}
-use Rattle.history_laws.proofs.Ids.{has_id-cons, same_id-comm, same_id-refl}
-use Rattle.event_arena.proofs.SpentLemmas.{absent-cons, find-id}
+use Rattle.history_laws.specs.Once.{AreDistinct}
+use Rattle.history_laws.proofs.Ids.{absent-cons, find-id, has_id-cons, same_id-comm, same_id-refl}
 use Rattle.graph_walk.specs.Taking.{are_taken, can_be_taken}
 use Rattle.graph_walk.specs.Outcome.{GoesOn, IsCircular}
 use Rattle.edit_laws.specs.Settling.{first_commit_mark, first_ready, is_ready, settle, settle_on}

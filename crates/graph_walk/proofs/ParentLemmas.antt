@@ -14,9 +14,9 @@ use Rattle.plain_model.specs.declared.event.PlainEvent.TheVariants.{Blob, Commit
 use Rattle.plain_model.specs.Histories.{past}
 use Rattle.plain_model.specs.Lookups.{event_parents, find_event, id_of, is_listed, place_of}
 use Rattle.plain_model.specs.Soundness.{IsCommitOf, IsSound}
-use Rattle.event_arena.specs.Once.{AreDistinct}
+use Rattle.history_laws.specs.Once.{AreDistinct}
 use Rattle.event_arena.proofs.ListLemmas.{drop-item, flat-split, flat-take-item}
-use Rattle.event_arena.proofs.SoundLemmas.{has_id-find}
+use Rattle.history_laws.proofs.SoundOnce.{has_id-find}
 use Rattle.graph_walk.specs.Children.{AreChildrenOf, children_of_all}
 use Rattle.graph_walk.specs.Expansions.{AreFew, IsCauseOfMany, is_removed, new_parents, own_change, parent_changes}
 use Rattle.graph_walk.specs.Joined.{AreExpansions, Expanded, IsBeforePlace, IsTooMany, PushesChange, PushesIf, flagged_change, entry_at, entry_of, joined_from, kept}

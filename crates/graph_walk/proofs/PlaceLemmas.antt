@@ -1,5 +1,5 @@
 -- Events by their places: in a list whose ids are distinct, a place and an id name the same event.
-use Rattle.std.proofs.Common.{◌≡◌, ◌∙◌, ℕ, zero, suc, ◌<◌, true, inl, inr, List, [], ◌∷◌, Option, Some, None, refl, sym, ap, subst, length, arith}
+use Rattle.std.proofs.Common.{◌≡◌, ◌∙◌, ℕ, zero, suc, ◌<◌, true, inl, inr, List, [], ◌∷◌, Option, Some, None, refl, sym, ap, subst, length}
 use Rattle.std.proofs.lemmas.Bool.{cases_Bool}
 use Rattle.std.proofs.lemmas.Option.{none-some, same_Some, slice_get_within}
 use Rattle.std.specs.Prelude.{option_map, slice_get, is_some}
@@ -7,16 +7,9 @@ use Rattle.plain_model.specs.declared.id.AnyId.{AnyId}
 use Rattle.plain_model.specs.declared.event.PlainEvent.{PlainEvent}
 use Rattle.plain_model.specs.Lookups.{find_event, id_of, place_of, same_id}
 use Rattle.plain_model.specs.Soundness.{has_id}
-use Rattle.history_laws.proofs.Ids.{same_id-refl, same_id-true}
-use Rattle.event_arena.specs.Once.{AreDistinct}
-use Rattle.event_arena.proofs.PlaceLemmas.{place-at}
-use Rattle.event_arena.proofs.SoundLemmas.{has_id-find}
-
--- the event at a place that is there
-pub item_at : {X : Type 0} (xs : List X) (k : ℕ) → k < length xs → (x : X) × (slice_get xs k ≡ Some x)
-item_at [] k h = absurd (omega arith)
-item_at (x ∷ xs) zero h = (x, refl)
-item_at (x ∷ xs) (suc k) h = item_at xs k (omega arith)
+use Rattle.history_laws.proofs.Ids.{place-at, same_id-refl, same_id-true}
+use Rattle.history_laws.specs.Once.{AreDistinct}
+use Rattle.history_laws.proofs.SoundOnce.{has_id-find}
 
 -- it has a place by its id, and that is found again
 pub place_found : (events : List PlainEvent) (k : ℕ) (e : PlainEvent) → slice_get events k ≡ Some e →
@@ -45,14 +38,6 @@ event_placed events id k h = let there = place-at id events k h in record { even
 
 pub place_within : (events : List PlainEvent) (id : AnyId) (k : ℕ) → place_of id events ≡ Some k → k < length events
 place_within events id k h = let e = event_placed events id k h in slice_get_within events k e.event e.at
-
--- two ids at one place are one
-pub one_place : (a b : AnyId) (events : List PlainEvent) (k : ℕ) → place_of a events ≡ Some k →
-    place_of b events ≡ Some k → a ≡ b
-one_place a b events k p q =
-    let x = event_placed events a k p in
-    let y = event_placed events b k q in
-    x.own ∙ ap id_of (same_Some x.event y.event (sym x.at ∙ y.at)) ∙ sym y.own
 
 -- what is there has a place
 pub has_id_place : (events : List PlainEvent) (id : AnyId) → has_id events id ≡ is_some (place_of id events)

@@ -6,7 +6,7 @@ use Rattle.std.proofs.lemmas.Bool.{and_parts, cases_Bool, true≢false}
 use Rattle.std.proofs.lemmas.List.{get_or-set_other, get_or-set_same}
 use Rattle.std.proofs.lemmas.List.Concat.{flat_map-append}
 use Rattle.std.proofs.lemmas.List.Folds.{list_all-append}
-use Rattle.std.proofs.lemmas.Option.{get_or_from_slice_get, none-some, same_Some}
+use Rattle.std.proofs.lemmas.Option.{none-some, same_Some}
 use Rattle.std.specs.List.{list_all}
 use Rattle.std.specs.Prelude.{find, flat_map, is_some, map, slice_get}
 use Rattle.plain_model.specs.declared.id.AnyId.{AnyId}
@@ -16,12 +16,12 @@ use Rattle.plain_model.specs.declared.event.PlainEvent.{PlainEvent}
 use Rattle.plain_model.specs.declared.event.PlainEvent.TheVariants.{Blob, Commit, Tag, Reset, Pass}
 use Rattle.plain_model.specs.Lookups.{op_blobs, place_of, referents_of, same_id}
 use Rattle.plain_model.specs.Soundness.{has_id}
-use Rattle.history_laws.proofs.Ids.{same_id-refl, same_id-true}
-use Rattle.event_arena.proofs.ListLemmas.{flat-take-item, take-all}
+use Rattle.history_laws.proofs.Ids.{one_place, same_id-refl, same_id-true}
+use Rattle.event_arena.proofs.ListLemmas.{take-all}
 use Rattle.edit_laws.specs.Settling.{is_ready}
 use Rattle.graph_walk.specs.Flags.{flag_at, is_flagged}
 use Rattle.graph_walk.specs.Slots.{IsOpenAt, are_flagged, is_flagged_until, named_by, parent_slot, slots_of}
-use Rattle.graph_walk.proofs.PlaceLemmas.{has_id_place, item_at, one_place}
+use Rattle.graph_walk.proofs.PlaceLemmas.{has_id_place}
 
 -- two tests that agree
 pub all_same : {X : Type 0} (f g : X → Bool) → ((x : X) → f x ≡ g x) → (xs : List X) → list_all f xs ≡ list_all g xs
@@ -101,17 +101,6 @@ slots_named (Reset id branch (Some target)) = refl
 slots_named (Reset id branch None) = refl
 slots_named (Blob id mark bytes) = refl
 slots_named (Pass id line) = refl
-
--- one slot more
-pub until_more : (flags : List Bool) (events : List PlainEvent) (e : PlainEvent) (k : ℕ) → k < length (slots_of e) →
-    is_flagged_until flags events e k ≡ true → are_flagged flags events (get_or (slots_of e) k []) ≡ true →
-    is_flagged_until flags events e (suc k) ≡ true
-until_more flags events e k low before own =
-    let item = item_at (slots_of e) k low in
-    let is : get_or (slots_of e) k [] ≡ item.0 = get_or_from_slice_get (slots_of e) k item.0 [] item.1 in
-    ap (are_flagged flags events) (flat-take-item (λ (slot : List AnyId). slot) (slots_of e) k item.0 item.1)
-    ∙ list_all-append (is_flagged flags events) (named_by (take k (slots_of e))) item.0
-    ∙ rw (before, ← is, own) refl
 
 pub until_all : (flags : List Bool) (events : List PlainEvent) (e : PlainEvent) (k : ℕ) → length (slots_of e) ≤ k →
     is_flagged_until flags events e k ≡ true → are_flagged flags events (referents_of e) ≡ true

@@ -1,5 +1,5 @@
 -- How a list goes on being settled.
-use Rattle.std.proofs.Common.{◌≡◌, ◌∙◌, ℕ, zero, suc, ◌+◌, ◌<◌, ◌≤◌, ◌⊎◌, Bool, true, false, not, ◌&&◌, ◌||◌, inl, inr, List, [], ◌∷◌, ◌++◌, Option, Some, None, refl, sym, ap, subst, length, get_or, eqb, eq-eqb, arith, replicate}
+use Rattle.std.proofs.Common.{◌≡◌, ◌∙◌, ℕ, ◌+◌, ◌<◌, ◌≤◌, ◌⊎◌, Bool, true, false, not, ◌&&◌, ◌||◌, inl, inr, List, [], ◌∷◌, ◌++◌, Some, None, refl, sym, ap, subst, length, get_or, eqb, eq-eqb, arith}
 use Rattle.std.proofs.Math.Bool.{or-true}
 use Rattle.std.proofs.lemmas.Bool.{cases_Bool, cases_eq, eqb-true, true≢false, or_cases}
 use Rattle.std.proofs.lemmas.Option.{same_Some}
@@ -7,8 +7,8 @@ use Rattle.std.proofs.Math.ListN.{set}
 use Rattle.std.specs.Prelude.{find, slice_get}
 use Rattle.plain_model.specs.declared.id.AnyId.{AnyId}
 use Rattle.plain_model.specs.declared.event.PlainEvent.{PlainEvent}
-use Rattle.plain_model.specs.Lookups.{id_of, is_listed, place_of, referents_of, same_id}
-use Rattle.event_arena.specs.Once.{AreDistinct}
+use Rattle.plain_model.specs.Lookups.{id_of, is_listed, referents_of, same_id}
+use Rattle.history_laws.specs.Once.{AreDistinct}
 use Rattle.graph_walk.specs.Flags.{flag_at, is_flagged}
 use Rattle.graph_walk.specs.Slots.{IsOpenAt, are_flagged}
 use Rattle.graph_walk.specs.Taking.{are_taken, can_be_taken}
@@ -260,32 +260,6 @@ module _ (events : List PlainEvent) where
         | inr (inr left) ↦ absurd left.1
       ]
 
-  -- if it is taken already, it is passed by
-  pub skipped : (place : ℕ) (order : List AnyId) (flags : List Bool) (ready new : List ℕ) (waiting : List (List Waiter)) (next : ℕ) →
-      AreInStep events [] order flags ready waiting next → TakesLeast place ready new →
-      get_or flags place false ≡ true → AreInStep events [] order flags new waiting next
-  skipped place order flags ready new waiting next s takes flagged = record {
-    flag_count = s.flag_count;
-    row_count = s.row_count;
-    within = s.within;
-    taken = s.taken;
-    later = s.later;
-    free = λ k h. s.free k (takes.others k ∙ rw h (or-true (eqb k place)));
-    held = s.held;
-    begun = s.begun;
-    kept = kept;
-  }
-    where
-      kept : (k : ℕ) → k < next → get_or flags k false ≡ false → IsKept new waiting [] k
-      kept k h un = elim (s.kept k h un) [
-        | inl there ↦ elim (or_cases (eqb k place) (is_among k new) (sym (takes.others k) ∙ there)) [
-          | inl it ↦ absurd (true≢false (sym flagged ∙ ap (λ j. get_or flags j false) (sym (eqb-true k place it)) ∙ un))
-          | inr still ↦ inl still
-        ]
-        | inr (inl waits) ↦ inr (inl waits)
-        | inr (inr left) ↦ absurd left.1
-      ]
-
   -- one place more is looked at
   pub looked : (order : List AnyId) (flags : List Bool) (ready : List ℕ) (waiting : List (List Waiter)) (next : ℕ) →
       AreInStep events [] order flags ready waiting next → next < length events → AreInStep events (record { place = next; slot = 0 } ∷ []) order flags ready waiting (next + 1)
@@ -377,36 +351,3 @@ module _ (events : List PlainEvent) where
       find (can_be_taken order) events ≡ None
   none_next order flags waiting next s once all =
       find_nowhere (can_be_taken order) events (λ j d at. not_next order flags [] waiting [] next j d s once at (let b = slice_get_within events j d at in omega arith) (λ h. absurd cc) (λ v h is. h))
-
-  -- ---- the beginning
-
-  pub at_first : AreInStep events [] [] (replicate (length events) false) [] (replicate (length events) []) 0
-  at_first = record {
-    flag_count = counted (length events) false;
-    row_count = counted (length events) [];
-    within = omega arith;
-    taken = λ id. sym (unflagged (place_of id events));
-    later = λ k h. no_flag (length events) k;
-    free = λ k h. absurd cc;
-    held = λ at v h. absurd (subst (IsIn v) (no_row [] (length events) at) h);
-    begun = λ v h. absurd h;
-    kept = λ k h un. absurd (omega arith);
-  }
-    where
-      counted : {X : Type 0} (n : ℕ) (x : X) → length (replicate n x) ≡ n
-      counted zero x = refl
-      counted (suc n) x = ap suc (counted n x)
-
-      no_flag : (n k : ℕ) → get_or (replicate n false) k false ≡ false
-      no_flag zero k = refl
-      no_flag (suc n) zero = refl
-      no_flag (suc n) (suc k) = no_flag n k
-
-      no_row : (none : List Waiter) (n k : ℕ) → get_or (replicate n none) k none ≡ none
-      no_row none zero k = refl
-      no_row none (suc n) zero = refl
-      no_row none (suc n) (suc k) = no_row none n k
-
-      unflagged : (o : Option ℕ) → flag_at (replicate (length events) false) o ≡ false
-      unflagged None = refl
-      unflagged (Some k) = no_flag (length events) k

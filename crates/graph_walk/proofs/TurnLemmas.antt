@@ -13,9 +13,10 @@ use Rattle.plain_model.specs.declared.event.PlainEvent.{PlainEvent}
 use Rattle.plain_model.specs.declared.event.PlainEvent.TheVariants.{Blob, Commit, Tag, Reset, Pass}
 use Rattle.plain_model.specs.Lookups.{find_event, id_of, is_listed, place_of}
 use Rattle.event_arena.specs.Changes.{without_all}
-use Rattle.event_arena.specs.Once.{AreDistinct}
-use Rattle.event_arena.proofs.ListLemmas.{drop-item, take-all, take-item}
-use Rattle.event_arena.proofs.SoundLemmas.{has_id-find}
+use Rattle.history_laws.specs.Once.{AreDistinct}
+use Rattle.history_laws.proofs.Lists.{item_at}
+use Rattle.event_arena.proofs.ListLemmas.{drop-item, take-item}
+use Rattle.history_laws.proofs.SoundOnce.{has_id-find}
 use Rattle.graph_walk.specs.Flags.{flag_at, is_flagged}
 use Rattle.graph_walk.specs.Taking.{can_be_taken}
 use Rattle.graph_walk.specs.Outcome.{GoesOn}
@@ -23,7 +24,7 @@ use Rattle.edit_laws.specs.Settling.{first_commit_mark}
 use Rattle.graph_walk.specs.UnderWay.{AreInStep, ComesToHand, IsTakenNext, IsUnderWay}
 use Rattle.graph_walk.specs.declared.settling.Progress.{Progress}
 use Rattle.graph_walk.specs.declared.waiting.Waiter.{Waiter}
-use Rattle.graph_walk.proofs.PlaceLemmas.{has_id_place, item_at, place_found}
+use Rattle.graph_walk.proofs.PlaceLemmas.{has_id_place, place_found}
 use Rattle.graph_walk.proofs.OutcomeLemmas.{at_end, fewer_left, goes_more}
 use Rattle.graph_walk.proofs.StepLemmas.{next_found, none_next}
 
@@ -119,10 +120,6 @@ module _ (order : List AnyId) (events : List PlainEvent) (k : ℕ) (e : PlainEve
       ∙ ap first_commit_mark (left_append order (take k events) (e ∷ drop (suc k) events))
       ∙ first_after (without_all order (take k events)) (without_all order (e ∷ drop (suc k) events)) none
       ∙ rw h (own (without_all order (drop (suc k) events)))
-
-pub first_none : (order : List AnyId) (events : List PlainEvent) (k : ℕ) → length events ≤ k →
-    first_commit_mark (without_all order (take k events)) ≡ None → first_commit_mark (without_all order events) ≡ None
-first_none order events k all h = ap (λ es. first_commit_mark (without_all order es)) (sym (take-all events k all)) ∙ h
 
 -- ---- who comes to hand
 

@@ -1,5 +1,5 @@
 -- Rows of waiters, and places in ascending order.
-use Rattle.std.proofs.Common.{◌≡◌, ◌∙◌, ℕ, zero, suc, ◌<◌, Bool, true, false, cond, ◌||◌, inl, inr, List, [], ◌∷◌, ◌++◌, Option, Some, None, Result, Ok, Err, refl, sym, ap, subst, length, get_or, eqb, eq-eqb, arith, replicate}
+use Rattle.std.proofs.Common.{◌≡◌, ◌∙◌, ℕ, zero, suc, ◌<◌, Bool, true, false, cond, ◌||◌, inl, inr, List, [], ◌∷◌, Option, Some, None, Result, Ok, Err, refl, sym, ap, subst, length, get_or, eqb, eq-eqb, arith}
 use Rattle.plain_model.proofs.Numbers.{eqb_turned}
 use Rattle.std.proofs.lemmas.Bool.{cases_Bool, eqb-true, true≢false, or_cases}
 use Rattle.std.proofs.lemmas.Bool.Decides.{nat_tests}
@@ -29,20 +29,6 @@ module _ {A : Type 0} where
   rows_read [] p v low h = absurd (omega arith)
   rows_read (r ∷ rows) zero v low h = ap (λ (x : Vec Waiter A). x.items) h
   rows_read (r ∷ rows) (suc p) v low h = rows_read rows p v (omega arith) h
-
-  pub rows_push : (rows : List (Vec Waiter A)) (v : Vec Waiter A) (k : ℕ) → v.items ≡ [] →
-      rows_of rows ≡ replicate k [] → rows_of (rows ++ v ∷ []) ≡ replicate (suc k) []
-  rows_push rows v k empty h =
-      parts rows ∙ ap (λ (ys : List (List Waiter)). ys ++ v.items ∷ []) h
-      ∙ ap (λ (y : List Waiter). replicate k [] ++ y ∷ []) empty ∙ one k []
-    where
-      parts : (rows : List (Vec Waiter A)) → rows_of (rows ++ v ∷ []) ≡ rows_of rows ++ v.items ∷ []
-      parts [] = refl
-      parts (r ∷ rows) = ap (λ ys. r.items ∷ ys) (parts rows)
-
-      one : (k : ℕ) (x : List Waiter) → replicate k x ++ x ∷ [] ≡ replicate (suc k) x
-      one zero x = refl
-      one (suc k) x = ap (λ (ys : List (List Waiter)). x ∷ ys) (one k x)
 
 -- ---- places in order
 

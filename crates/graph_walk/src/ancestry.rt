@@ -66,7 +66,7 @@ fn flag_child(events: &Events, place: usize, flags: &mut [bool])
         || list_any (is_flagged_commit flags.old events.now.list) (event_parents event)) }
 {
     if let PlainEvent::Commit { parents, .. } = events.nth(place) {
-        if is_any_flagged(events, parents.as_slice(), flags) {
+        if is_any_flagged(events.table(), parents.as_slice(), flags) {
             flags[place] = true;
         }
     }
@@ -90,7 +90,7 @@ fn flag_parents(events: &Events, place: usize, flags: &mut [bool])
 pub fn descendants(alloc: Global, events: &Events, set: &[CommitId]) -> Result<IdList, NoMemory>
     ensures { IfOk result (λ ids. ids ≡ descendants_of events.now.list set.now) }
 {
-    let mut flags = no_flags(alloc, events)?;
+    let mut flags = no_flags(alloc, events.table())?;
     flag_all(events, set, &mut flags);
     for place in 0..events.count() {
         flag_child(events, place, &mut flags);
@@ -102,7 +102,7 @@ pub fn descendants(alloc: Global, events: &Events, set: &[CommitId]) -> Result<I
 pub fn ancestors(alloc: Global, events: &Events, set: &[CommitId]) -> Result<IdList, NoMemory>
     ensures { IfOk result (λ ids. ids ≡ ancestors_of events.now.list set.now) }
 {
-    let mut flags = no_flags(alloc, events)?;
+    let mut flags = no_flags(alloc, events.table())?;
     flag_all(events, set, &mut flags);
     let count = events.count();
     for done in 0..count {
@@ -152,7 +152,7 @@ impl Scratch {
     pub fn new(alloc: Global, events: &Events) -> Result<Scratch, NoMemory>
         ensures { IfOk result (λ scratch. scratch ≡ length events.now.list) }
     {
-        let flags = no_flags(alloc, events)?;
+        let flags = no_flags(alloc, events.table())?;
         Ok(Scratch { flags })
     }
 }

@@ -312,7 +312,7 @@ impl<'a> Expansions<'a> {
         ensures bounded { IfOk result (λ made. made.bounded ≡ bounded) }
         ensures expansions { IfOk result (λ made. AreExpansions events.now.list removed.now made) }
     {
-        let flags = flags_of(alloc, events, removed.as_slice())?;
+        let flags = flags_of(alloc, events.table(), removed.as_slice())?;
         let mut made = Expansions::empty(alloc, events, bounded)?;
         for place in 0..events.count() {
             made.push_event(place, flags[place])?;
@@ -363,7 +363,7 @@ fn push_change(
     }
     if let PlainEvent::Commit { id, parents, .. } = events.nth(place) {
         let parents = parents.as_slice();
-        if !flags[place] && is_any_flagged(events, parents, flags) {
+        if !flags[place] && is_any_flagged(events.table(), parents, flags) {
             let Some(list) = made.join(events, parents)? else {
                 return Err(Halt::Refused(Fault::Limit {
                     which: Which::Parents,
@@ -389,9 +389,9 @@ pub fn parent_changes(
     ensures cause { IfErr result (IsCauseOfMany (parent_changes events.now.list removed.now)) }
 {
     let made = Expansions::of(alloc, events, removed, true)?;
-    let flags = flags_of(alloc, events, removed.as_slice())?;
+    let flags = flags_of(alloc, events.table(), removed.as_slice())?;
     let children = children_of_all(alloc, events, removed.as_slice())?;
-    let children = flags_of(alloc, events, children.as_slice())?;
+    let children = flags_of(alloc, events.table(), children.as_slice())?;
     let mut changes = ParentChanges::new(alloc)?;
     for place in 0..events.count() {
         push_change(events, &made, &flags, &children, place, &mut changes)?;

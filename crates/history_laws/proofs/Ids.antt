@@ -1,17 +1,19 @@
 -- Ids in lists of events, and whether an id is that of some event.
-use Rattle.std.proofs.Common.{◌≡◌, ℕ, ◌<◌, subst, true, false, List, [], ◌∷◌, ◌++◌, refl, sym, ap, ◌∙◌, inl, inr, eqb-true, eq-eqb}
-use Rattle.std.specs.Prelude.{◌==◌, ◌||◌, option_to_list}
-use Rattle.std.specs.List.{AllByRecursion}
+use Rattle.std.proofs.Common.{◌≡◌, ℕ, ◌<◌, subst, true, false, List, [], ◌∷◌, ◌++◌, refl, sym, ap, ◌∙◌, inl, inr, eqb-true, eq-eqb, Some, None, zero, suc, Option, length, arith, ◌+◌, ◌≤◌, max, ◌⊎◌}
+use Rattle.std.specs.Prelude.{◌==◌, ◌||◌, option_to_list, IsSome, option_map, slice_get}
+use Rattle.std.specs.List.{AllByRecursion, fold}
 use Rattle.std.proofs.Math.Bool.{or_assoc}
-use Rattle.std.proofs.lemmas.Bool.{cases_Bool, or_left, or_right, true≢false}
+use Rattle.std.proofs.lemmas.Bool.{cases_Bool, cond-false, cond-true, or_left, or_right, true≢false}
+use Rattle.std.proofs.lemmas.Option.{none-some, same_Some}
 use Rattle.plain_model.specs.declared.id.AnyId.{AnyId}
 use Rattle.plain_model.specs.declared.id.AnyId.TheVariants as any
 use Rattle.plain_model.specs.declared.event.PlainEvent.{PlainEvent}
 use Rattle.plain_model.specs.declared.event.PlainEvent.TheVariants.{Blob, Commit, Tag, Reset, Pass}
-use Rattle.plain_model.specs.Lookups.{AreIdsBelow, id_of, id_number, same_id}
+use Rattle.plain_model.specs.Lookups.{AreIdsBelow, id_of, id_number, same_id, find_event, place_of, next_number}
 use Rattle.plain_model.specs.Soundness.{IsSoundEvent, has_id}
 use Rattle.plain_model.specs.Streams.{is_among, is_marked}
 use Rattle.plain_model.proofs.Numbers.{eqb_turned}
+use Rattle.history_laws.specs.Once.{AreDistinct}
 
 -- ---- the test of ids
 
@@ -131,3 +133,124 @@ ids-below bound (e ∷ es) h id there = elim (cases_Bool (same_id id (id_of e)))
   | inl it ↦ subst (λ x. id_number x < bound) (sym (same_id-true id (id_of e) it)) h.0
   | inr no_it ↦ ids-below bound es h.1 id (rw no_it at there)
 ]
+
+-- ---- what is found
+
+-- an id that isn't there is neither the first event's nor a later one's
+pub absent-cons : (id : AnyId) (e : PlainEvent) (es : List PlainEvent) → find_event id (e ∷ es) ≡ None →
+    (same_id id (id_of e) ≡ false) × (find_event id es ≡ None)
+absent-cons id e es h = elim (cases_Bool (same_id id (id_of e))) [
+  | inl it ↦ absurd (none-some e (sym h ∙ rw it refl))
+  | inr no_it ↦ (no_it, rw no_it at h)
+]
+
+pub cons-absent : (id : AnyId) (e : PlainEvent) (es : List PlainEvent) → same_id id (id_of e) ≡ false → find_event id es ≡ None → find_event id (e ∷ es) ≡ None
+cons-absent id e es no_it h = rw no_it h
+
+-- an event that is found has the id
+pub find-id : (id : AnyId) (es : List PlainEvent) (e : PlainEvent) → find_event id es ≡ Some e → id ≡ id_of e
+find-id id [] e h = absurd (none-some e h)
+find-id id (x ∷ es) e h = elim (cases_Bool (same_id id (id_of x))) [
+  | inl it ↦ same_id-true id (id_of x) it ∙ ap id_of (found (rw it at h))
+  | inr no_it ↦ find-id id es e (rw no_it at h)
+]
+  where
+    found : Some x ≡ Some e → x ≡ e
+    found h = cc
+
+-- ---- places
+
+pub some_suc : (o : Option ℕ) (k : ℕ) → option_map suc o ≡ Some k → (j : ℕ) × (o ≡ Some j) × (suc j ≡ k)
+some_suc None k h = absurd (none-some k h)
+some_suc (Some j) k h = (j, refl, same_Some (suc j) k h)
+
+pub no_suc : (o : Option ℕ) → option_map suc o ≡ None → o ≡ None
+no_suc None h = refl
+no_suc (Some k) h = absurd (none-some (suc k) (sym h))
+
+-- what has no place isn't there
+pub placeless : (es : List PlainEvent) (id : AnyId) → place_of id es ≡ None → find_event id es ≡ None
+placeless [] id h = refl
+placeless (e ∷ es) id h = elim (cases_Bool (same_id id (id_of e))) [
+  | inl it ↦ absurd (none-some 0 (sym h ∙ rw it refl))
+  | inr no_it ↦ cons-absent id e es no_it (placeless es id (no_suc (place_of id es) (rw no_it at h)))
+]
+
+-- at the place of an id is the event that has it
+pub place-at : (id : AnyId) (es : List PlainEvent) (k : ℕ) → place_of id es ≡ Some k →
+    (e : PlainEvent) × (slice_get es k ≡ Some e) × (find_event id es ≡ Some e) × (id ≡ id_of e)
+place-at id [] k h = absurd (none-some k h)
+place-at id (e ∷ es) k h = elim (cases_Bool (same_id id (id_of e))) [
+  | inl it ↦
+      let first : 0 ≡ k = same_Some 0 k (rw it at h) in
+      (e, ap (slice_get (e ∷ es)) (sym first), rw it refl, same_id-true id (id_of e) it)
+  | inr no_it ↦
+      let later = some_suc (place_of id es) k (rw no_it at h) in
+      let rest = place-at id es later.0 later.1 in
+      (rest.0, ap (slice_get (e ∷ es)) (sym later.2) ∙ rest.1, rw no_it rest.2, rest.3)
+]
+
+-- the id of an event that is there has a place
+pub place-some : (es : List PlainEvent) (k : ℕ) (e : PlainEvent) → slice_get es k ≡ Some e → (j : ℕ) × (place_of (id_of e) es ≡ Some j)
+place-some [] k e h = absurd (none-some e h)
+place-some (x ∷ es) zero e h = (0, subst (λ y. place_of (id_of y) (x ∷ es) ≡ Some 0) (same_Some x e h) (rw (same_id-refl (id_of x)) refl))
+place-some (x ∷ es) (suc k) e h = elim (cases_Bool (same_id (id_of e) (id_of x))) [
+  | inl it ↦ (0, rw it refl)
+  | inr no_it ↦ let rest = place-some es k e h in (suc rest.0, rw no_it (ap (option_map suc) rest.1))
+]
+
+pub place-within : (es : List PlainEvent) (k : ℕ) (e : PlainEvent) → slice_get es k ≡ Some e → k < length es
+place-within [] k e h = absurd (none-some e h)
+place-within (x ∷ es) zero e h = omega arith
+place-within (x ∷ es) (suc k) e h = let rest = place-within es k e h in omega arith
+
+-- an event that is there has a place
+pub found-place : (id : AnyId) (es : List PlainEvent) → IsSome (find_event id es) → IsSome (place_of id es)
+found-place id es there = by (place_of id es) refl
+  where
+    by : (o : Option ℕ) → place_of id es ≡ o → IsSome o
+    by None h = subst IsSome (placeless es id h) there
+    by (Some k) h = refl
+
+-- each id is below one above the greatest
+pub below-next : (es : List PlainEvent) → AreIdsBelow (next_number es) es
+below-next es = along es 1
+  where
+    grows : (es : List PlainEvent) (a : ℕ) → a ≤ fold (λ n e. max n (id_number (id_of e) + 1)) a es
+    grows [] a = omega arith
+    grows (e ∷ es) a = let h = grows es (max a (id_number (id_of e) + 1)) in omega arith
+
+    along : (es : List PlainEvent) (a : ℕ) (id : AnyId) → IsSome (find_event id es) → id_number id < fold (λ n e. max n (id_number (id_of e) + 1)) a es
+    along [] a id h = absurd (true≢false (sym h))
+    along (e ∷ es) a id h = elim (cases_Bool (same_id id (id_of e))) [
+      | inl it ↦
+          let here = grows es (max a (id_number (id_of e) + 1)) in
+          let same = ap id_number (same_id-true id (id_of e) it) in
+          omega arith
+      | inr no_it ↦ along es (max a (id_number (id_of e) + 1)) id (rw no_it at h)
+    ]
+
+pub found_later : (e : PlainEvent) (es xs : List PlainEvent) → find_event (id_of e) es ≡ None →
+    AllByRecursion (λ x. find_event (id_of x) es ≡ Some x) xs → AllByRecursion (λ x. find_event (id_of x) (e ∷ es) ≡ Some x) xs
+found_later e es [] none f = tt
+found_later e es (x ∷ xs) none f = (its (cases_Bool (same_id (id_of x) (id_of e))), found_later e es xs none f.1)
+  where
+    its : (same_id (id_of x) (id_of e) ≡ true) ⊎ (same_id (id_of x) (id_of e) ≡ false) → find_event (id_of x) (e ∷ es) ≡ Some x
+    its (inl same) =
+        let is : ◌≡◌ {A = Option PlainEvent} None (Some x) = sym none ∙ ap (λ id. find_event id es) (sym (same_id-true (id_of x) (id_of e) same)) ∙ f.0 in
+        absurd cc
+    its (inr other) = cond-false (same_id (id_of x) (id_of e)) (Some e) (find_event (id_of x) es) other ∙ f.0
+
+pub each_found : (es : List PlainEvent) → AreDistinct es → AllByRecursion (λ e. find_event (id_of e) es ≡ Some e) es
+each_found [] d = tt
+each_found (e ∷ es) d = (
+  cond-true (same_id (id_of e) (id_of e)) (Some e) (find_event (id_of e) es) (same_id-refl (id_of e)),
+  found_later e es es d.0 (each_found es d.1),
+)
+
+-- two ids at one place are one
+pub one_place : (a b : AnyId) (es : List PlainEvent) (k : ℕ) → place_of a es ≡ Some k → place_of b es ≡ Some k → a ≡ b
+one_place a b es k p q =
+    let x = place-at a es k p in
+    let y = place-at b es k q in
+    x.3 ∙ ap id_of (same_Some x.0 y.0 (sym x.1 ∙ y.1)) ∙ sym y.3

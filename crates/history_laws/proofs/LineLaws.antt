@@ -28,21 +28,21 @@ folded_more a b (Some t) = ap if_ok (apply_more a b t) ∙ go (apply_all a t)
     go (Err e) = refl
 
 -- the operations of one more commit
-along_more : (line : List Node) (n : Node) → ops_along (line ++ n ∷ []) ≡ ops_along line ++ n.ops
+pub along_more : (line : List Node) (n : Node) → ops_along (line ++ n ∷ []) ≡ ops_along line ++ n.ops
 along_more line n = flat_map-append (λ (x : Node). x.ops) line (n ∷ []) ∙ ap (λ (ops : List FileOp). ops_along line ++ ops) (append-nil n.ops)
 
 -- the first of some commits is known, if there is one
-abbrev FirstKnown : Past → List ℕ → Type 0
+abbrev pub FirstKnown : Past → List ℕ → Type 0
 FirstKnown older [] = Unit {0}
 FirstKnown older (p ∷ ps) = knows older p ≡ true
 
 -- where all parents are known, the first one is
-first_known : (older : Past) (ps : List ℕ) → AllByRecursion (λ p. IsTrue (knows older p)) ps → FirstKnown older ps
+pub first_known : (older : Past) (ps : List ℕ) → AllByRecursion (λ p. IsTrue (knows older p)) ps → FirstKnown older ps
 first_known older [] a = tt
 first_known older (p ∷ ps) a = a.0
 
 -- what is known and isn't the last commit was known before
-known_before : (n : Node) (older : Past) (p : ℕ) → (n.id == p) ≡ false → knows (n ∷ older) p ≡ true → knows older p ≡ true
+pub known_before : (n : Node) (older : Past) (p : ℕ) → (n.id == p) ≡ false → knows (n ∷ older) p ≡ true → knows older p ≡ true
 known_before n older p e h = sym (ap (λ b. b || knows older p) e) ∙ h
 
 -- what a commit begins with is the line of its first parent, folded

@@ -1,2 +1,6 @@
+pub mod Counts
 pub mod Examples
+pub mod Finding
 pub mod FirstParents
+pub mod Once
+pub mod SoundTrees

@@ -4,8 +4,8 @@ use Rattle.std.proofs.lemmas.List.{length-append}
 use Rattle.plain_model.specs.declared.event.PlainEvent.{PlainEvent}
 use Rattle.plain_model.specs.declared.event.PlainEvent.TheVariants.{Blob, Commit, Tag, Reset, Pass}
 use Rattle.plain_model.specs.Histories.{nodes}
+use Rattle.history_laws.specs.Counts.{ops_in}
 use Rattle.history_laws.specs.FirstParents.{ops_along}
-use Rattle.stream_grammar.specs.Limits.{ops_in}
 
 pub ops_alike : (events : List PlainEvent) → ops_in events ≡ length (ops_along (nodes events))
 ops_alike [] = refl

@@ -1,5 +1,5 @@
 -- Each command leaves a lawful session.
-use Rattle.std.proofs.Common.{◌≡◌, ◌∙◌, ℕ, ◌+◌, ◌≤◌, ◌<◌, Bool, true, false, List, [], ◌∷◌, ◌++◌, length, take, Option, Some, None, Result, Ok, Err, refl, sym, ap, subst, nat_lt, arith}
+use Rattle.std.proofs.Common.{◌≡◌, ◌∙◌, ℕ, ◌+◌, ◌<◌, Bool, true, false, List, [], ◌∷◌, ◌++◌, length, take, Option, Some, None, Result, Ok, Err, refl, ap, subst, nat_lt, arith}
 use Rattle.std.specs.Prelude.{IsTrue, if◌then◌else◌}
 use Rattle.std.specs.FinMap.{get}
 use Rattle.std.specs.List.{list_all}
@@ -10,19 +10,18 @@ use Rattle.plain_model.specs.declared.fault.Fault.{Fault}
 use Rattle.plain_model.specs.declared.fault.Fault.TheVariants as fault
 use Rattle.plain_model.specs.declared.limit.TheConstants.{MAX_REPOSITORIES, MAX_STREAM_BYTES}
 use Rattle.plain_model.specs.Files.{Files}
-use Rattle.plain_model.specs.Lookups.{next_number}
 use Rattle.plain_model.specs.Names.{is_name_byte}
 use Rattle.plain_model.specs.Paths.{Bytes}
 use Rattle.plain_model.specs.Soundness.{IsSound}
+use Rattle.history_laws.proofs.Ids.{below-next}
 use Rattle.line_automaton.specs.Machine.{all, begun, run}
 use Rattle.stream_grammar.specs.Limits.{stream_of, stream_within}
 use Rattle.edit_laws.specs.Editing.{IsEdit, IsLawfulHistory, LeavesLawful, Remade, with_number}
 use Rattle.edit_laws.specs.Selecting.{IsSelection}
-use Rattle.event_arena.proofs.MeasureLemmas.{below-next}
 use Rattle.expunge_laws.specs.Matching.{Matches}
 use Rattle.renumbering.specs.Renumbered.{renumbered}
 use Rattle.byte_patterns.specs.Judging.{Denial, under}
-use Rattle.event_sets.specs.Once.{AreLive, IsOnce}
+use Rattle.event_sets.specs.Once.{IsOnce}
 use Rattle.event_sets.specs.Sets.{Ids}
 use Rattle.selection_eval.specs.Denoted.{denote}
 use Rattle.selection_eval.specs.Given.{AreNamesOnce, AreTipsLive, GivesLive, GivesOnce, HaveOwnIds}

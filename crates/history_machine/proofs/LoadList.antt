@@ -1,14 +1,14 @@
 -- The names of the repositories of a load list, as the list changes.
-use Rattle.std.proofs.Common.{◌≡◌, ◌∙◌, ℕ, suc, ◌≤◌, ◌<◌, Bool, true, false, inl, inr, List, [], ◌∷◌, ◌++◌, length, map, Option, Some, None, refl, sym, ap, subst, nat_lt, arith}
-use Rattle.std.specs.Prelude.{◌||◌, ◌&&◌, not, IsTrue, if◌then◌else◌, bytes_eq, is_some}
-use Rattle.std.specs.List.{AllByRecursion, list_any}
+use Rattle.std.proofs.Common.{◌≡◌, ◌∙◌, suc, ◌≤◌, ◌<◌, Bool, true, false, inl, inr, List, [], ◌∷◌, ◌++◌, length, Option, Some, None, refl, sym, ap, subst, arith}
+use Rattle.std.specs.Prelude.{◌||◌, not, if◌then◌else◌, bytes_eq, is_some}
+use Rattle.std.specs.List.{AllByRecursion}
 use Rattle.std.proofs.lemmas.Bool.{and_from, and_parts, cases_Bool, false_from_ne_true, not_from_false, or_from, or_parts, true≢false}
-use Rattle.std.proofs.lemmas.Bool.Decides.{nat_tests}
 use Rattle.std.proofs.lemmas.List.{length-append, length-map, map-append}
 use Rattle.std.proofs.lemmas.List.Folds.{list_any-append}
 use Rattle.std.proofs.lemmas.Slice.Eq.{bytes_eq-Decides}
 use Rattle.plain_model.specs.declared.limit.TheConstants.{MAX_REPOSITORIES}
 use Rattle.plain_model.specs.Paths.{Bytes}
+use Rattle.history_laws.proofs.PathLaws.{same_bytes}
 use Rattle.history_machine.specs.Lawful.{AreLawfulNames, IsChoiceOf, IsLawful, IsLawfulRepo, are_names_apart, is_named, repo_names}
 use Rattle.history_machine.specs.Sessions.{Repo, Session, find_repo, unless, with_repo, without_repo}
 
@@ -18,9 +18,6 @@ use Rattle.history_machine.specs.Sessions.{Repo, Session, find_repo, unless, wit
 not_not : (b : Bool) → not b ≡ true → b ≡ false
 not_not true h = absurd cc
 not_not false h = refl
-
-same_bytes : (name : Bytes) → bytes_eq name name ≡ true
-same_bytes name = (bytes_eq-Decides name name).1 refl
 
 turned : (a b : Bytes) → bytes_eq a b ≡ false → bytes_eq b a ≡ false
 turned a b no_it =

@@ -1,8 +1,8 @@
 -- Commands on several repositories leave lawful sessions, where what they make of the histories is lawful.
-use Rattle.std.proofs.Common.{◌≡◌, ◌∙◌, ℕ, suc, ◌+◌, ◌≤◌, ◌<◌, Bool, true, false, inl, inr, List, [], ◌∷◌, ◌++◌, length, Option, Some, None, Result, Ok, Err, refl, sym, ap, subst, arith}
+use Rattle.std.proofs.Common.{◌≡◌, ◌∙◌, ℕ, suc, ◌+◌, ◌≤◌, ◌<◌, Bool, true, false, List, [], ◌∷◌, ◌++◌, length, Option, Some, None, Result, Ok, Err, refl, sym, ap, subst, arith}
 use Rattle.std.specs.Prelude.{◌&&◌, codes, if◌then◌else◌, bytes_eq}
 use Rattle.std.specs.List.{AllByRecursion, list_all}
-use Rattle.std.proofs.lemmas.Bool.{and_parts, cases_Bool, false_from_ne_true, true≢false}
+use Rattle.std.proofs.lemmas.Bool.{and_parts, false_from_ne_true}
 use Rattle.std.proofs.lemmas.List.{length-append}
 use Rattle.std.proofs.lemmas.Slice.Eq.{bytes_eq-Decides}
 use Rattle.plain_model.specs.declared.event.PlainEvent.{PlainEvent}
@@ -10,8 +10,8 @@ use Rattle.plain_model.specs.declared.fault.Fault.{Fault}
 use Rattle.plain_model.specs.declared.limit.TheConstants.{MAX_REPOSITORIES}
 use Rattle.plain_model.specs.Names.{is_name_byte}
 use Rattle.plain_model.specs.Paths.{Bytes}
+use Rattle.history_laws.proofs.Ids.{below-next}
 use Rattle.edit_laws.specs.Editing.{IsLawfulHistory, Remade}
-use Rattle.event_arena.proofs.MeasureLemmas.{below-next}
 use Rattle.event_sets.specs.Once.{IsOnce}
 use Rattle.event_sets.specs.Sets.{Ids}
 use Rattle.script_reader.specs.Answering.{◌>>=◌}

@@ -1,5 +1,5 @@
 -- Events of a sound history, found by their ids.
-use Rattle.std.proofs.Common.{◌≡◌, ℕ, zero, suc, ◌≤◌, inl, inr, List, [], ◌∷◌, ◌++◌, Option, Some, None, refl, eqb}
+use Rattle.std.proofs.Common.{◌≡◌, ℕ, zero, suc, inl, inr, List, [], ◌∷◌, ◌++◌, Option, Some, None, refl, eqb}
 use Rattle.std.proofs.lemmas.Bool.{cases_Bool}
 use Rattle.std.specs.Prelude.{IfSome, map, option_map, slice_get, unwrap_or}
 use Rattle.plain_model.specs.declared.id.AnyId.{AnyId}
@@ -9,24 +9,13 @@ use Rattle.plain_model.specs.declared.event.PlainEvent.TheVariants as plain
 use Rattle.plain_model.specs.Lookups.{find_event, id_of, same_id}
 use Rattle.plain_model.specs.Snapshots.{commit_mark}
 use Rattle.plain_model.specs.Text.{blob_mark_in}
-use Rattle.plain_model.specs.declared.limit.TheConstants.{MAX_SECONDS}
-use Rattle.plain_model.specs.declared.person.Signed.{Signed}
-use Rattle.plain_model.specs.Soundness.{AreSoundAfter, IsFormedSigned, IsSoundEvent}
+use Rattle.plain_model.specs.Soundness.{AreSoundAfter}
 use Rattle.plain_model.proofs.Numbers.{eqb_turned}
-use Rattle.listing.specs.Finding.{IsDated, own_blob_mark, own_commit_mark}
+use Rattle.history_laws.specs.Finding.{IsDated}
+use Rattle.history_laws.proofs.SoundDates.{dated_event}
+use Rattle.listing.specs.Finding.{own_blob_mark, own_commit_mark}
 
 -- ---- dates and marks
-
-dated_tagger : (tagger : Option Signed) → IfSome tagger IsFormedSigned → IfSome tagger (λ t. t.when.seconds ≤ MAX_SECONDS)
-dated_tagger (Some t) h = h.1
-dated_tagger None h = tt
-
-dated_event : (earlier : List PlainEvent) (e : PlainEvent) → IsSoundEvent earlier e → IsDated e
-dated_event earlier (plain.Blob id mark bytes) h = tt
-dated_event earlier (plain.Commit id mark branch author committer encoding comment parents ops aliases) h = h.4.1
-dated_event earlier (plain.Tag id name target tagger comment mark) h = dated_tagger tagger h.3
-dated_event earlier (plain.Reset id branch target) h = tt
-dated_event earlier (plain.Pass id line) h = tt
 
 pub dated : (earlier events : List PlainEvent) (id : AnyId) → AreSoundAfter earlier events
     → IfSome (find_event id events) IsDated

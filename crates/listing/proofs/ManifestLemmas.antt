@@ -13,8 +13,7 @@ use Rattle.plain_model.specs.Lookups.{find_event, number_of, place_of}
 use Rattle.plain_model.specs.Paths.{Bytes}
 use Rattle.plain_model.specs.Text.{line, marked}
 use Rattle.plain_model.specs.Trees.{Tree}
-use Rattle.event_arena.proofs.PlaceLemmas.{found-place}
-use Rattle.event_arena.proofs.SpentLemmas.{find-id}
+use Rattle.history_laws.proofs.Ids.{find-id, found-place}
 use Rattle.listing.specs.Listings.{line_of}
 use Rattle.listing.specs.TreeListings.{entry_line, manifest_lines}
 

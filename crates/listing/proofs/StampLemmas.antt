@@ -1,8 +1,6 @@
 -- Stamps counted along a history.
-use Rattle.std.proofs.Common.{◌≡◌, ◌∙◌, ℕ, zero, suc, ◌+◌, ◌≤◌, false, cond, inl, inr, List, [], ◌∷◌, ◌++◌, Option, Some, refl, sym, ap, length, take, drop, arith, add-one, append_assoc, bytes_eq}
-use Rattle.std.proofs.Math.ListN.{drop_of_length-le}
+use Rattle.std.proofs.Common.{◌≡◌, ◌∙◌, ℕ, zero, suc, ◌+◌, false, cond, inl, inr, List, [], ◌∷◌, ◌++◌, Option, Some, refl, sym, ap, take, drop, arith, add-one, append_assoc, bytes_eq}
 use Rattle.std.proofs.lemmas.Bool.{cases_Bool}
-use Rattle.std.proofs.lemmas.List.{append-nil}
 use Rattle.std.proofs.lemmas.List.Sums.{sum_by-append}
 use Rattle.std.proofs.lemmas.Option.{same_Some}
 use Rattle.std.proofs.lemmas.Slice.Eq.{bytes_eq-Decides}
@@ -17,9 +15,9 @@ use Rattle.plain_model.specs.Lookups.{find_event, number_of, place_of}
 use Rattle.plain_model.specs.Paths.{Bytes}
 use Rattle.plain_model.specs.Text.{line}
 use Rattle.plain_model.specs.Trees.{TreeOf, at, put}
+use Rattle.history_laws.proofs.Ids.{place-at}
 use Rattle.history_laws.proofs.TreeLaws.{at_put}
 use Rattle.event_arena.proofs.ListLemmas.{drop-item, take-item}
-use Rattle.event_arena.proofs.PlaceLemmas.{place-at}
 use Rattle.listing.specs.Listings.{line_of}
 use Rattle.listing.specs.Stamping.{AreCounts, counted, ranks, sharing_event}
 use Rattle.listing.specs.Stamps.{is_stamped, sharing, stamp_line, stamp_of, which_text}
@@ -132,9 +130,3 @@ ranked_by_one events k e out new at is before =
     ∙ ap (λ later. out ++ ranks (take k events) later) (sym (drop-item events k e at))
     ∙ before
     )
-
-pub ranked_by_all : (events : List PlainEvent) (k : ℕ) (out : List ℕ) → length events ≤ k
-    → out ++ ranks (take k events) (drop k events) ≡ ranks [] events → out ≡ ranks [] events
-ranked_by_all events k out all before =
-    sym (append-nil out) ∙ ap (λ later. out ++ ranks (take k events) later) (sym (drop_of_length-le events all))
-    ∙ before

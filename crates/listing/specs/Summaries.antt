@@ -4,10 +4,11 @@ use Rattle.std.specs.Prelude.{ℕ, Bool, true, false, List, [], ◌∷◌, ◌++
 use Rattle.std.specs.List.{count_by}
 use Rattle.plain_model.specs.declared.id.AnyId.{AnyId}
 use Rattle.plain_model.specs.declared.event.PlainEvent.{PlainEvent}
-use Rattle.plain_model.specs.declared.event.PlainEvent.TheVariants.{Blob, Commit, Tag, Reset, Pass}
+use Rattle.plain_model.specs.declared.event.PlainEvent.TheVariants.{Blob, Tag, Reset, Pass}
 use Rattle.plain_model.specs.Lookups.{number_of}
 use Rattle.plain_model.specs.Paths.{Bytes}
 use Rattle.plain_model.specs.Text.{line}
+use Rattle.history_laws.specs.Finding.{is_commit}
 
 -- ---- the numbers of chosen events
 
@@ -28,10 +29,6 @@ resolve_text events ids = line (spaced (numbers_of events ids))
 abbrev pub is_blob : PlainEvent → Bool
 is_blob (Blob id mark bytes) = true
 is_blob other = false
-
-abbrev pub is_commit : PlainEvent → Bool
-is_commit (Commit id mark branch author committer encoding comment parents ops aliases) = true
-is_commit other = false
 
 abbrev pub is_tag : PlainEvent → Bool
 is_tag (Tag id name target tagger comment mark) = true

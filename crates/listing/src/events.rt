@@ -1,7 +1,7 @@
 //! Lines of single events.
 ghost use Rattle.std.specs.Prelude.{◌≡◌, ◌≤◌, ◌++◌, codes, IfSome, OnOk};
 ghost use Rattle.civil_dates.specs.Dates.{date_text};
-ghost use Rattle.listing.specs.Finding.{IsDated};
+ghost use Rattle.history_laws.specs.Finding.{IsDated};
 ghost use Rattle.listing.specs.Listings.{
   first_line,
   index_line,

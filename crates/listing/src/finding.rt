@@ -10,7 +10,8 @@ ghost use Rattle.std.specs.Prelude.{
   IfOk,
   IfSome,
 };
-ghost use Rattle.listing.specs.Finding.{IsDated, own_blob_mark, own_commit_mark};
+ghost use Rattle.listing.specs.Finding.{own_blob_mark, own_commit_mark};
+ghost use Rattle.history_laws.specs.Finding.{IsDated};
 ghost use Rattle.plain_model.specs.Lookups.{find_event, id_of};
 ghost use Rattle.plain_model.specs.Snapshots.{commit_mark};
 ghost use Rattle.plain_model.specs.Text.{blob_mark_in};

@@ -15,7 +15,7 @@ ghost use Rattle.std.specs.Prelude.{
   IfOk,
   OnOk,
 };
-ghost use Rattle.listing.specs.Finding.{IsDated};
+ghost use Rattle.history_laws.specs.Finding.{IsDated};
 ghost use Rattle.listing.specs.Listings.{line_of};
 ghost use Rattle.listing.specs.Stamping.{AreCounts, CountsOneMore, IsRankAfter, counted, ranks};
 ghost use Rattle.listing.specs.Stamps.{stamp_line, stamp_of, stamp_text, which_text};

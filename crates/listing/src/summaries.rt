@@ -1,18 +1,8 @@
 //! A history in one line.
 ghost use Rattle.std.specs.Prelude.{◌≡◌, ◌++◌, codes, decimal, IfOk, OnOk};
 ghost use Rattle.std.specs.List.{count_by};
-ghost use Rattle.listing.specs.Summaries.{
-  is_blob,
-  is_commit,
-  is_pass,
-  is_reset,
-  is_tag,
-  kinds_text,
-  numbers_of,
-  resolve_text,
-  spaced,
-  summary_text,
-};
+ghost use Rattle.listing.specs.Summaries.{is_blob, is_pass, is_reset, is_tag, kinds_text, numbers_of, resolve_text, spaced, summary_text};
+ghost use Rattle.history_laws.specs.Finding.{is_commit};
 
 use event_arena::Events;
 use plain_model::{AnyId, NoMemory, NumberList, PlainEvent, Text};

@@ -1,11 +1,10 @@
 -- The tree check, event by event.
-use Rattle.std.proofs.Common.{◌≡◌, ℕ, zero, suc, ◌+◌, ◌<◌, ◌≤◌, ◌⊎◌, inl, inr, List, [], ◌∷◌, ◌++◌, length, take, drop, Option, Some, None, Result, Ok, Err, refl, sym, ap, subst, ◌∙◌, arith, add-one, append_assoc}
-use Rattle.std.specs.Prelude.{◌↔◌, IfSome, IsSome, IsTrue, is_some, option_and_then, option_map, slice_get}
+use Rattle.std.proofs.Common.{◌≡◌, ℕ, zero, suc, ◌+◌, ◌<◌, ◌≤◌, ◌⊎◌, inl, inr, List, [], ◌∷◌, ◌++◌, length, take, drop, Option, Some, None, Ok, Err, refl, sym, ap, subst, ◌∙◌, arith, add-one, append_assoc}
+use Rattle.std.specs.Prelude.{IfSome, IsSome, IsTrue, is_some, option_and_then, option_map, slice_get}
 use Rattle.std.specs.List.{AllByRecursion}
 use Rattle.std.specs.Option.{option_or}
 use Rattle.std.proofs.lemmas.Bool.{cases_Bool, true≢false}
 use Rattle.std.proofs.lemmas.List.{take-append-drop, take_all}
-use Rattle.std.proofs.lemmas.Option.{none-some}
 use Rattle.plain_model.specs.declared.id.AnyId.{AnyId}
 use Rattle.plain_model.specs.declared.id.AnyId.TheVariants as any
 use Rattle.plain_model.specs.declared.fault.Fault.{Fault}
@@ -18,39 +17,19 @@ use Rattle.plain_model.specs.Histories.{IsLinkedPast, Node, Past, begun, folded,
 use Rattle.plain_model.specs.Lookups.{event_parents, find_event, id_of, same_id}
 use Rattle.plain_model.specs.declared.person.Signed.{Signed}
 use Rattle.plain_model.specs.Paths.{Bytes}
-use Rattle.plain_model.specs.Trees.{Refusal, Tree, apply}
-use Rattle.event_arena.specs.Once.{AreDistinct}
+use Rattle.plain_model.specs.Trees.{Tree}
+use Rattle.history_laws.specs.Once.{AreDistinct}
 use Rattle.event_arena.proofs.ListLemmas.{drop-item, take-item}
-use Rattle.event_arena.proofs.SoundLemmas.{has_id-find}
+use Rattle.history_laws.proofs.SoundOnce.{has_id-find}
 use Rattle.history_laws.proofs.Ids.{has_own, same_id-true}
-use Rattle.history_laws.proofs.Lists.{all_imply}
-use Rattle.manifest_cache.specs.Checking.{Applies, Checks, HaveTrees, begun_of, event_fault, fault_of, first_fault, first_refused, tree_check, unless, unless_refused}
+use Rattle.history_laws.proofs.Lists.{all_imply, item_at}
+use Rattle.edit_laws.specs.Checking.{event_fault, fault_of, first_fault, first_refused, tree_check, unless}
+use Rattle.edit_laws.proofs.Checked.{none_refused}
+use Rattle.manifest_cache.specs.Checking.{Applies, Checks, HaveTrees, begun_of}
 use Rattle.manifest_cache.specs.Lines.{line, line_before}
 use Rattle.manifest_cache.specs.Walks.{event_ops, first_parent}
 use Rattle.manifest_cache.proofs.Lines.{after_found, line_front, line_here, not_again, past-append, tree_along, tree_line, tree_more, unknown, with_commit}
 use Rattle.manifest_cache.proofs.Prefixes.{find_more}
-
--- ---- operations
-
--- where all are applied, none is refused
-pub none_refused : (n : ℕ) (ops : List FileOp) (t : Tree) → IsSome (folded ops (Some t)) → first_refused n ops t ≡ None
-none_refused n [] t h = refl
-none_refused n (op ∷ ops) t h = go (apply op t) refl (λ m u. none_refused m ops u)
-  where
-    go : (r : Result Tree Refusal) → apply op t ≡ r → ((m : ℕ) (u : Tree) → IsSome (folded ops (Some u)) → first_refused m ops u ≡ None)
-        → unless_refused n (first_refused (n + 1) ops) (apply op t) ≡ None
-    go (Ok u) is later = rw is (later (n + 1) u (rw is at h))
-    go (Err why) is later = absurd (true≢false (sym (rw is at h)))
-
--- where none is refused, all are applied
-all_applied : (n : ℕ) (ops : List FileOp) (t : Tree) → first_refused n ops t ≡ None → IsSome (folded ops (Some t))
-all_applied n [] t h = refl
-all_applied n (op ∷ ops) t h = go (apply op t) refl (λ m u. all_applied m ops u)
-  where
-    go : (r : Result Tree Refusal) → apply op t ≡ r → ((m : ℕ) (u : Tree) → first_refused m ops u ≡ None → IsSome (folded ops (Some u)))
-        → IsSome (folded (op ∷ ops) (Some t))
-    go (Ok u) is later = rw is (later (n + 1) u (rw is at h))
-    go (Err why) is later = absurd (none-some (n, why) (sym (rw is at h)))
 
 -- ---- faults of lists
 
@@ -204,30 +183,6 @@ module _ (after : List PlainEvent) (once : AreDistinct after) (linked : IsLinked
             begins None h = refl
             begins (Some t) h = ap (option_map (fault_of mark)) (none_refused 1 ops t h)
 
-    -- where it has no fault, it has a tree
-    pub has_tree : HaveTrees after xs → event_fault after e ≡ None → (c : ℕ) → any.Commit c ≡ id_of e → IsSome (tree after c)
-    has_tree have none c own = ap is_some (tree_here c own) ∙ go e (begins (event_parents e) found) none c own
-      where
-        begins : (ps : List ℕ) → AllByRecursion (λ p. IsSome (find_event (any.Commit p) xs)) ps → IsSome (begun (tree after) ps)
-        begins [] h = refl
-        begins (p ∷ ps) h = have p h.0
-
-        go : (e : PlainEvent) → IsSome (begun (tree after) (event_parents e)) → event_fault after e ≡ None → (c : ℕ) → any.Commit c ≡ id_of e
-            → IsSome (folded (event_ops e) (begun (tree after) (event_parents e)))
-        go (Blob id mark bytes) h none c own = cc
-        go (Tag id name target tagger comment mark) h none c own = cc
-        go (Reset id branch target) h none c own = cc
-        go (Pass id line) h none c own = cc
-        go (Commit id mark branch author committer encoding comment parents ops aliases) h none c own = applied (begun (tree after) parents) h none
-          where
-            no_map : (o : Option (ℕ × Refusal)) → option_map (fault_of mark) o ≡ None → o ≡ None
-            no_map None h = refl
-            no_map (Some r) h = absurd (none-some (fault_of mark r) (sym h))
-
-            applied : (o : Option Tree) → IsSome o → option_and_then (λ t. option_map (fault_of mark) (first_refused 1 ops t)) o ≡ None → IsSome (folded ops o)
-            applied None h none = absurd (true≢false (sym h))
-            applied (Some t) h none = all_applied 1 ops t (no_map (first_refused 1 ops t) none)
-
     -- one commit more has a tree
     pub one_more : HaveTrees after xs → ((c : ℕ) → any.Commit c ≡ id_of e → IsSome (tree after c)) → HaveTrees after (take (k + 1) after)
     one_more have own c h = elim (found_last xs e (any.Commit c) (subst (λ (es : List PlainEvent). IsSome (find_event (any.Commit c) es)) (ap (λ n. take n after) (add-one k) ∙ take-item after k e at) h)) [
@@ -236,15 +191,10 @@ module _ (after : List PlainEvent) (once : AreDistinct after) (linked : IsLinked
     ]
 
   -- events in front whose commits have trees have no fault
-  some_at : {X : Type 0} (es : List X) (k : ℕ) → k < length es → (e : X) × (slice_get es k ≡ Some e)
-  some_at [] k h = absurd (omega (arith, h))
-  some_at (x ∷ es) zero h = (x, refl)
-  some_at (x ∷ es) (suc k) h = some_at es k (omega (arith, h))
-
   pub no_faults : (k : ℕ) → k ≤ length after → HaveTrees after (take k after) → first_fault after (take k after) ≡ None
   no_faults zero within have = refl
   no_faults (suc k) within have =
-      let e = some_at after k (omega (arith, within)) in
+      let e = item_at after k (omega (arith, within)) in
       let more = take-item after k e.0 e.1 in
       let earlier : HaveTrees after (take k after) =
       λ c h. have c (subst (λ (es : List PlainEvent). IsSome (find_event (any.Commit c) es)) (sym more) (find_more (take k after) (e.0 ∷ []) (any.Commit c) h)) in
@@ -279,35 +229,3 @@ module _ (after : List PlainEvent) (once : AreDistinct after) (linked : IsLinked
       → (h : Halt) → Applies mark (event_ops e) t (Err h) u → Checks after k (Err h)
   refused_checks k e at within have o t u mark first made marked (halt.Refused f) refused = first_is k e f at within have (fault_here k e at o t f mark first made marked refused)
   refused_checks k e at within have o t u mark first made marked halt.Memory refused = tt
-
-  -- where events in front have no fault, their commits have trees
-  have_front : (k : ℕ) → k ≤ length after → first_fault after (take k after) ≡ None → HaveTrees after (take k after)
-  have_front zero within none = λ c h. absurd (true≢false (sym h))
-  have_front (suc k) within none =
-      let e = some_at after k (omega (arith, within)) in
-      let more = take-item after k e.0 e.1 in
-      let both = neither (first_fault after (take k after)) (event_fault after e.0) (sym (fault-append after (take k after) (e.0 ∷ [])) ∙ sym (ap (first_fault after) more) ∙ none) in
-      let earlier = have_front k (omega (arith, within)) both.0 in
-      λ c h. elim (found_last (take k after) e.0 (any.Commit c) (subst (λ (es : List PlainEvent). IsSome (find_event (any.Commit c) es)) more h)) [
-        | inl front ↦ earlier c front
-        | inr own ↦ has_tree k e.0 e.1 earlier both.1 c own
-      ]
-    where
-      neither : (o p : Option Fault) → option_or o (option_or p None) ≡ None → (o ≡ None) × (p ≡ None)
-      neither None None h = (refl, refl)
-      neither None (Some f) h = absurd (none-some f (sym h))
-      neither (Some f) p h = absurd (none-some f (sym h))
-
-  whole : take (length after) after ≡ after
-  whole = take_all (length after) after (omega arith)
-
-  -- the check answers Ok exactly where each commit has a tree
-  pub check_finds : HaveTrees after after ↔ (tree_check after ≡ Ok tt)
-  check_finds = (
-    λ have. (all_checked (length after) (omega arith) (subst (HaveTrees after) (sym whole) have)).1,
-    λ ok. subst (HaveTrees after) whole (have_front (length after) (omega arith) (ap (first_fault after) whole ∙ no_fault_of (first_fault after after) ok)),
-  )
-    where
-      no_fault_of : (o : Option Fault) → unless o ≡ Ok tt → o ≡ None
-      no_fault_of None h = refl
-      no_fault_of (Some f) h = cc

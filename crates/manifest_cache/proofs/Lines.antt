@@ -15,10 +15,9 @@ use Rattle.plain_model.specs.Lookups.{event_parents, find_event, id_of, same_id}
 use Rattle.plain_model.specs.Trees.{Tree}
 use Rattle.plain_model.proofs.Numbers.{eqb_turned}
 use Rattle.history_laws.proofs.Commits.{nodes_append, unknown_both}
-use Rattle.history_laws.proofs.Ids.{same_id-true}
+use Rattle.history_laws.proofs.Ids.{absent-cons, same_id-true}
 use Rattle.history_laws.proofs.LineLaws.{folded_more}
-use Rattle.event_arena.specs.Once.{AreDistinct}
-use Rattle.event_arena.proofs.SpentLemmas.{absent-cons}
+use Rattle.history_laws.specs.Once.{AreDistinct}
 use Rattle.manifest_cache.specs.Lines.{Line, line, line_before, line_in, ops_of, size}
 use Rattle.manifest_cache.specs.Walks.{event_ops}
 

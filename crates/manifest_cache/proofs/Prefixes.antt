@@ -13,8 +13,8 @@ use Rattle.plain_model.specs.Histories.{Node, Past, nodes, past}
 use Rattle.plain_model.specs.Lookups.{find_event, place_of}
 use Rattle.plain_model.proofs.Numbers.{eqb_turned}
 use Rattle.history_laws.proofs.Ids.{has_id_still}
-use Rattle.event_arena.specs.Once.{AreDistinct}
-use Rattle.event_arena.proofs.SoundLemmas.{has_id-find}
+use Rattle.history_laws.specs.Once.{AreDistinct}
+use Rattle.history_laws.proofs.SoundOnce.{has_id-find}
 use Rattle.manifest_cache.specs.Checking.{links}
 use Rattle.manifest_cache.specs.Lines.{Line, line, line_before, line_in}
 use Rattle.manifest_cache.proofs.Lines.{after_found, line_front, with_commit}

@@ -9,7 +9,7 @@ use Rattle.plain_model.specs.declared.operation.FileOp.{FileOp}
 use Rattle.plain_model.specs.declared.event.PlainEvent.{PlainEvent}
 use Rattle.plain_model.specs.Histories.{Past, past}
 use Rattle.plain_model.specs.Lookups.{find_event}
-use Rattle.event_arena.specs.Once.{AreDistinct}
+use Rattle.history_laws.specs.Once.{AreDistinct}
 use Rattle.manifest_cache.specs.Following.{HasSameLine, is_earlier}
 use Rattle.manifest_cache.specs.Lines.{Line, line, line_before, line_in, size}
 use Rattle.manifest_cache.specs.Walks.{event_ops, first_parent}

@@ -1,13 +1,13 @@
 -- One kept tree after another, the last used first: which of them stay.
-use Rattle.std.proofs.Common.{◌≡◌, ℕ, ◌+◌, ◌<◌, inl, inr, List, [], ◌∷◌, ◌++◌, length, take, drop, get_or, Contains, Some, sym, ap, subst, ◌∙◌, arith, append_assoc, append-nil}
-use Rattle.std.proofs.lemmas.List.{drop_all, drop_more, take_all, take_more}
+use Rattle.std.proofs.Common.{◌≡◌, ℕ, ◌+◌, ◌<◌, inl, inr, List, [], ◌∷◌, ◌++◌, length, take, drop, get_or, Contains, Some, sym, ap, subst, ◌∙◌, append_assoc}
+use Rattle.std.proofs.lemmas.List.{drop_more, take_more}
 use Rattle.std.proofs.lemmas.List.Elements.{Contains-get_or}
 use Rattle.lru.proofs.CallerLemmas.{Contains-take}
-use Rattle.lru.proofs.Splits.{Contains-cons, Contains-head, Contains-nil, Contains-tail, all_at, all_both, all_from}
+use Rattle.lru.proofs.Splits.{Contains-cons, Contains-head, Contains-tail, all_at, all_both, all_from}
 use Rattle.plain_model.specs.declared.event.PlainEvent.{PlainEvent}
 use Rattle.plain_model.specs.Histories.{tree}
 use Rattle.plain_model.specs.Trees.{Tree}
-use Rattle.manifest_cache.specs.Following.{Follows, HasSameLine, Turns}
+use Rattle.manifest_cache.specs.Following.{HasSameLine, Turns}
 use Rattle.manifest_cache.specs.Kept.{AgreesWith, Kept}
 use Rattle.manifest_cache.proofs.Lines.{tree_along, tree_line}
 
@@ -24,15 +24,6 @@ pub record Sifts (before after : List PlainEvent) (old now : Kept) (m : ℕ) : T
   pub stays : (k : ℕ × Tree) → Contains (drop m old) k → HasSameLine before after k.0 → Contains front k
 
 module _ (before after : List PlainEvent) (old : Kept) (agrees : AgreesWith before old) where
-  pub sifts_none : Sifts before after old old (length old)
-  sifts_none = record {
-    front = [];
-    is = sym (take_all (length old) old (omega arith));
-    agrees = tt;
-    none_new = λ k h. absurd (Contains-nil k h);
-    stays = λ k h same. absurd (Contains-nil k (subst (λ (es : Kept). Contains es k) (drop_all (length old) old (omega arith)) h));
-  }
-
   -- what is there now agrees with the list before
   pub now_agrees : (now : Kept) (m : ℕ) → Sifts before after old now m → AgreesWith before now
   now_agrees now m s =
@@ -79,11 +70,3 @@ module _ (before after : List PlainEvent) (old : Kept) (agrees : AgreesWith befo
 
     pub sifts_more : Sifts before after old next m
     sifts_more = by_turn (turns last (s.front ++ take m old) parted)
-
-  pub sifts_all : (now : Kept) → Sifts before after old now 0 → Follows before after old now
-  sifts_all now s =
-      let is : now ≡ s.front = s.is ∙ append-nil s.front in record {
-        agrees = subst (AgreesWith after) (sym is) s.agrees;
-        none_new = λ k h. s.none_new k (subst (λ (es : Kept). Contains es k) is h);
-        stays = λ k h same. subst (λ (es : Kept). Contains es k) (sym is) (s.stays k h same);
-      }

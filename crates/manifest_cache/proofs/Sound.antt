@@ -6,8 +6,8 @@ use Rattle.plain_model.specs.declared.event.PlainEvent.{PlainEvent}
 use Rattle.plain_model.specs.Histories.{tree}
 use Rattle.plain_model.specs.Lookups.{find_event}
 use Rattle.plain_model.specs.Soundness.{IsSound}
-use Rattle.event_arena.specs.Once.{AreDistinct}
-use Rattle.event_arena.proofs.SoundLemmas.{has_id-find, sound-once}
+use Rattle.history_laws.specs.Once.{AreDistinct}
+use Rattle.history_laws.proofs.SoundOnce.{has_id-find, sound-once}
 
 -- a commit that is there has a tree
 pub live_tree : (events : List PlainEvent) (c : ℕ) → IsSound events → IsSome (find_event (any.Commit c) events) → IsSome (tree events c)

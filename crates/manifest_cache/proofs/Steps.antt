@@ -8,10 +8,9 @@ use Rattle.plain_model.specs.declared.id.AnyId.{AnyId}
 use Rattle.plain_model.specs.declared.id.AnyId.TheVariants as any
 use Rattle.plain_model.specs.declared.event.PlainEvent.{PlainEvent}
 use Rattle.plain_model.specs.Lookups.{event_parents, find_event, id_of, place_of, same_id}
-use Rattle.event_arena.specs.Once.{AreDistinct}
+use Rattle.history_laws.specs.Once.{AreDistinct}
 use Rattle.event_arena.proofs.OnceLemmas.{distinct-absent}
-use Rattle.event_arena.proofs.SpentLemmas.{absent-cons, find-id}
-use Rattle.history_laws.proofs.Ids.{same_id-refl}
+use Rattle.history_laws.proofs.Ids.{absent-cons, find-id, same_id-refl}
 use Rattle.manifest_cache.specs.Following.{is_before, is_earlier}
 use Rattle.manifest_cache.specs.Lines.{line, line_before}
 use Rattle.manifest_cache.specs.Walks.{event_ops, first_parent}

@@ -14,7 +14,7 @@ use Rattle.plain_model.specs.Histories.{folded, tree}
 use Rattle.plain_model.specs.Lookups.{event_parents, find_event}
 use Rattle.plain_model.specs.Trees.{Tree}
 use Rattle.history_laws.proofs.LineLaws.{folded_more}
-use Rattle.event_arena.specs.Once.{AreDistinct}
+use Rattle.history_laws.specs.Once.{AreDistinct}
 use Rattle.manifest_cache.specs.Kept.{AgreesWith, Kept, after_kept, is_kept, ops_to_fold}
 use Rattle.manifest_cache.specs.Lines.{Line, line, line_before, ops_of, size}
 use Rattle.manifest_cache.specs.Walks.{Leads, event_ops, first_parent, ops_at, ops_back, parent_at}

@@ -22,14 +22,8 @@ ghost use Rattle.plain_model.specs.Histories.{IsLinkedPast, past, tree};
 ghost use Rattle.plain_model.specs.Lookups.{find_event};
 ghost use Rattle.plain_model.specs.Soundness.{IsCommitOf};
 ghost use Rattle.plain_model.specs.declared.id.AnyId.TheVariants.{Commit};
-ghost use Rattle.manifest_cache.specs.Checking.{
-  Applies,
-  Checks,
-  HaveTrees,
-  begun_of,
-  links,
-  tree_check,
-};
+ghost use Rattle.manifest_cache.specs.Checking.{Applies, Checks, HaveTrees, begun_of, links};
+ghost use Rattle.edit_laws.specs.Checking.{tree_check};
 ghost use Rattle.manifest_cache.specs.Kept.{AgreesWith};
 
 use crate::changes::first_changed;

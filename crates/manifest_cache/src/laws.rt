@@ -1,13 +1,8 @@
 //! What follows for the trees that are kept. A caller has a law by a call of its function, which does nothing when it
 //! runs.
-ghost use Rattle.std.specs.Prelude.{◌≡◌, ◌≤◌, ◌<◌, ◌⊎◌, ◌↔◌, ℕ, List, Ok, Contains, IsSome, IsTrue, length};
-ghost use Rattle.event_arena.specs.Once.{AreDistinct};
-ghost use Rattle.plain_model.specs.Histories.{IsLinkedPast, past, tree};
-ghost use Rattle.plain_model.specs.Soundness.{IsCommitOf};
+ghost use Rattle.std.specs.Prelude.{◌≡◌, ◌≤◌, ◌<◌, ◌⊎◌, ℕ, Contains, IsTrue, length};
 ghost use Rattle.plain_model.specs.Trees.{Tree};
-ghost use Rattle.plain_model.specs.declared.event.PlainEvent.{PlainEvent};
 ghost use Rattle.plain_model.specs.declared.limit.TheConstants.{MAX_KEPT_TREES};
-ghost use Rattle.manifest_cache.specs.Checking.{tree_check};
 ghost use Rattle.manifest_cache.specs.Kept.{Kept, is_kept, used};
 
 /// The commit whose tree was used is kept, no other entry is new, and of at most 64 entries at most one leaves, and
@@ -21,10 +16,4 @@ pub fn a_used_tree_is_kept()
         (k.0 ≡ c) ⊎ (Contains (used c t kept) k ⊎ (k ≡ gone))) }
     ensures room { (c : ℕ) (t : Tree) (kept : Kept) (k : ℕ × Tree) → length kept < MAX_KEPT_TREES →
         Contains kept k → (k.0 ≡ c) ⊎ Contains (used c t kept) k }
-{}
-
-/// Where no event is twice and parents are earlier, the tree check answers Ok exactly where each commit has a tree.
-pub fn the_check_finds_what_has_no_tree()
-    ensures { (events : List PlainEvent) → AreDistinct events → IsLinkedPast (past events) →
-        (((c : ℕ) → IsCommitOf events c → IsSome (tree events c)) ↔ (tree_check events ≡ Ok tt)) }
 {}

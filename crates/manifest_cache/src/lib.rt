@@ -14,5 +14,5 @@ mod manifests;
 mod using;
 mod walk;
 
-pub use laws::{a_used_tree_is_kept, the_check_finds_what_has_no_tree};
+pub use laws::a_used_tree_is_kept;
 pub use manifests::Manifests;

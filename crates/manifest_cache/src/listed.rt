@@ -1,6 +1,6 @@
 //! The lists of events whose commits are walked.
 ghost use Rattle.std.specs.Prelude.{◌≡◌, length, option_map};
-ghost use Rattle.event_arena.specs.Once.{AreDistinct};
+ghost use Rattle.history_laws.specs.Once.{AreDistinct};
 ghost use Rattle.plain_model.specs.Lookups.{find_event};
 ghost use Rattle.manifest_cache.specs.Listed.{events_of};
 

@@ -7,7 +7,7 @@ ghost use Rattle.plain_model.specs.Histories.{IsLinkedPast, past, tree};
 ghost use Rattle.plain_model.specs.Lookups.{find_event};
 ghost use Rattle.plain_model.specs.Soundness.{IsCommitOf};
 ghost use Rattle.plain_model.specs.declared.id.AnyId.TheVariants.{Commit};
-ghost use Rattle.manifest_cache.specs.Checking.{tree_check};
+ghost use Rattle.edit_laws.specs.Checking.{tree_check};
 ghost use Rattle.manifest_cache.specs.Following.{Follows};
 ghost use Rattle.manifest_cache.specs.Kept.{AgreesWith, is_kept, ops_to_fold};
 
@@ -33,7 +33,7 @@ pub struct Manifests {
 
 impl Model for Manifests {
     ghost use Rattle.std.specs.Prelude.{◌≡◌};
-    ghost use Rattle.manifest_cache.specs.Checking.{tree_check};
+    ghost use Rattle.edit_laws.specs.Checking.{tree_check};
     ghost use Rattle.manifest_cache.specs.Following.{Follows};
     ghost use Rattle.manifest_cache.specs.Kept.{Kept};
 

@@ -11,7 +11,7 @@ use Rattle.plain_model.specs.Trees.{IsTree, Tree, at, change, cleared_for, has, 
 use Rattle.plain_model.specs.Trees.Change.{Put}
 use Rattle.history_laws.proofs.TreeLaws.{by_bytes}
 use Rattle.expunge_laws.specs.Replaced.{restricted}
-use Rattle.expunge_laws.proofs.TreeMaps.{length_where, ordered_where, there_any, within_ok}
+use Rattle.history_laws.proofs.TreeMaps.{length_where, ordered_where, there_any, within_ok}
 
 module _ (g m : Bytes → Bool) where
   -- an entry that doesn't pass is left out, whether its path is matched or not

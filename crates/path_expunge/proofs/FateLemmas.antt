@@ -1,6 +1,6 @@
 -- What becomes of an event, by what it is, and what is left when each event has become that.
-use Rattle.std.proofs.Common.{◌≡◌, ◌∙◌, ℕ, zero, suc, ◌<◌, Bool, true, false, cond, not, List, [], ◌∷◌, ◌++◌, Option, Some, None, refl, sym, ap, subst, length, take, drop, map, filter, get_or, arith, eqb-true}
-use Rattle.std.specs.Prelude.{◌||◌, ◌==◌, is_some, slice_get, unwrap_or}
+use Rattle.std.proofs.Common.{◌≡◌, ◌∙◌, ℕ, zero, suc, ◌<◌, Bool, true, false, cond, not, List, [], ◌∷◌, ◌++◌, Option, Some, None, refl, sym, ap, subst, length, take, drop, map, filter, get_or, arith}
+use Rattle.std.specs.Prelude.{slice_get}
 use Rattle.std.specs.List.{AllByRecursion}
 use Rattle.std.proofs.lemmas.List.{take-append-drop}
 use Rattle.std.proofs.lemmas.Option.{none-some, same_Some}
@@ -14,22 +14,20 @@ use Rattle.plain_model.specs.Lookups.{find_event, id_of, is_listed, same_id}
 use Rattle.plain_model.specs.Paths.{Bytes}
 use Rattle.plain_model.specs.Soundness.{IsSound}
 use Rattle.event_arena.specs.Changes.{changed, with_parents, with_target, without_all}
-use Rattle.event_arena.specs.Once.{AreDistinct}
+use Rattle.history_laws.specs.Once.{AreDistinct}
+use Rattle.history_laws.proofs.Ids.{absent-cons, cons-absent}
 use Rattle.event_arena.proofs.ListLemmas.{drop-item}
 use Rattle.event_arena.proofs.OnceLemmas.{distinct-absent}
-use Rattle.event_arena.proofs.SpentLemmas.{absent-cons, cons-absent}
+use Rattle.event_arena.proofs.StepLemmas.{changed_after}
 use Rattle.edit_laws.proofs.Sound.{in_parts}
 use Rattle.expunge_laws.specs.InLine.{IsInLine, ops_in_line, parents_in_line}
 use Rattle.expunge_laws.proofs.Emptied.{listed_each}
 use Rattle.squash_laws.specs.Removed.{all_left, is_removed, parents_after}
-use Rattle.squash_laws.specs.declared.policy.Lean.TheVariants as lean
 use Rattle.squash_delete.specs.Leaving.{event_after, goes, staying}
-use Rattle.squash_delete.specs.Targets.{moving, target_for}
 use Rattle.squash_delete.proofs.LeavingLemmas.{after_id, left_staying}
-use Rattle.squash_delete.proofs.Passes.{changed_after}
 use Rattle.path_expunge.specs.declared.fates.Fate.{Fate}
 use Rattle.path_expunge.specs.declared.fates.Fate.TheVariants.{Same, Linked, Anew, Moved}
-use Rattle.path_expunge.specs.Fates.{IsCommitFate, all_given_way, begins_anew, begun_anew, fated, given_way, taken, target_fate}
+use Rattle.path_expunge.specs.Fates.{IsCommitFate, all_given_way, begins_anew, begun_anew, fated, given_way, taken}
 
 -- ---- ids stay
 
@@ -154,21 +152,6 @@ module _ (set : List AnyId) (events : List PlainEvent) where
 
   -- ---- what becomes of one
 
-  -- an event of the set is as it was
-  pub removed_fated : (e : PlainEvent) → is_listed (id_of e) set ≡ true → e ≡ fated set events e
-  removed_fated (Commit id mark branch author committer encoding comment parents ops aliases) r =
-      let e = Commit id mark branch author committer encoding comment parents ops aliases in
-      sym (ap (λ b. cond b e (becomes e)) r)
-  removed_fated (Blob id mark bytes) r = refl
-  removed_fated (Tag id name target tagger comment mark) r =
-      let e = Tag id name target tagger comment mark in
-      sym (ap (λ b. cond (b || not (is_some ((taken set events).target target))) e (becomes e)) r)
-  removed_fated (Reset id branch (Some target)) r =
-      let e = Reset id branch (Some target) in
-      sym (ap (λ b. cond (b || not (is_some ((taken set events).target target))) e (becomes e)) r)
-  removed_fated (Reset id branch None) r = sym (ap (λ b. cond b (Reset id branch None) (becomes (Reset id branch None))) r)
-  removed_fated (Pass id line) r = sym (ap (λ b. cond b (Pass id line) (becomes (Pass id line))) r)
-
   -- a commit that stays
   module _ (id mark : ℕ) (branch : Bytes) (author committer : Signed) (encoding : Option Bytes) (comment : Bytes) (parents : List ℕ) (ops : List FileOp) (aliases : List ℕ)
       (line : IsInLine set events (record { id = id; parents = parents; ops = ops })) (stays : is_removed set id ≡ false)
@@ -190,32 +173,6 @@ module _ (set : List AnyId) (events : List PlainEvent) where
       commit_fated (Linked made) h = ap (λ (ps : List ℕ). commit ps ops) h.1 ∙ ap (λ (os : List FileOp). commit (parents_in_line set events parents) os) (with_ops_if false h.0) ∙ new_commit
       commit_fated (Anew made) h = ap (λ (ps : List ℕ). commit ps (DeleteAll ∷ ops)) h.1 ∙ ap (λ (os : List FileOp). commit (parents_in_line set events parents) os) (with_ops_if true h.0) ∙ new_commit
       commit_fated (Moved t) h = absurd h
-
-  -- any other event that isn't of the set
-  moved_one : (f : ℕ → PlainEvent) (target : ℕ) (o : Option ℕ) → ((t : ℕ) → with_target t (f target) ≡ f t) →
-      given_way (target_fate (Some target) o) (f target) ≡ cond (false || not (is_some o)) (f target) (f (unwrap_or o target))
-  moved_one f target None with = refl
-  moved_one f target (Some t) with = go (target == t) refl
-    where
-      go : (b : Bool) → (target == t) ≡ b → given_way (cond b Same (Moved t)) (f target) ≡ f t
-      go true is = ap f (eqb-true target t is)
-      go false is = with t
-
-  pub other_fated : (e : PlainEvent)
-      → ((id mark : ℕ) (branch : Bytes) (author committer : Signed) (encoding : Option Bytes) (comment : Bytes) (parents : List ℕ) (ops : List FileOp) (aliases : List ℕ)
-      → e ≡ Commit id mark branch author committer encoding comment parents ops aliases → ⊥)
-      → is_listed (id_of e) set ≡ false
-      → given_way (target_fate (target_for Some e) (target_for (moving set events lean.Forward) e)) e ≡ fated set events e
-  other_fated (Commit id mark branch author committer encoding comment parents ops aliases) apart stays = absurd (apart id mark branch author committer encoding comment parents ops aliases refl)
-  other_fated (Blob id mark bytes) apart stays = refl
-  other_fated (Tag id name target tagger comment mark) apart stays =
-      moved_one (λ t. Tag id name t tagger comment mark) target (moving set events lean.Forward target) (λ t. refl)
-      ∙ sym (ap (λ b. cond (b || not (is_some ((taken set events).target target))) (Tag id name target tagger comment mark) (becomes (Tag id name target tagger comment mark))) stays)
-  other_fated (Reset id branch (Some target)) apart stays =
-      moved_one (λ t. Reset id branch (Some t)) target (moving set events lean.Forward target) (λ t. refl)
-      ∙ sym (ap (λ b. cond (b || not (is_some ((taken set events).target target))) (Reset id branch (Some target)) (becomes (Reset id branch (Some target)))) stays)
-  other_fated (Reset id branch None) apart stays = sym (ap (λ b. cond b (Reset id branch None) (becomes (Reset id branch None))) stays)
-  other_fated (Pass id line) apart stays = sym (ap (λ b. cond b (Pass id line) (becomes (Pass id line))) stays)
 
 -- ---- what one change leaves as it is
 

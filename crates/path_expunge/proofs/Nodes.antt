@@ -13,15 +13,15 @@ use Rattle.plain_model.specs.Lookups.{find_event, id_of}
 use Rattle.plain_model.specs.Paths.{Bytes}
 use Rattle.plain_model.specs.Soundness.{IsCommitOf, IsSound, has_id}
 use Rattle.plain_model.specs.Trees.{IsTree, Tree}
-use Rattle.event_arena.proofs.SoundLemmas.{has_id-find}
+use Rattle.history_laws.proofs.SoundOnce.{has_id-find}
 use Rattle.edit_laws.specs.Equations.{Fits}
-use Rattle.edit_laws.proofs.Lists.{OfNodes}
+use Rattle.edit_laws.proofs.Lists.{OfNodes, own_here}
 use Rattle.graph_walk.proofs.TurnLemmas.{all_at}
 use Rattle.squash_laws.specs.Squash.{is_none}
 use Rattle.squash_delete.proofs.NodeLemmas.{parents_there}
 use Rattle.expunge_laws.specs.Expunged.{replaced_event}
 use Rattle.expunge_laws.specs.Untouched.{is_touched, may_touch}
-use Rattle.expunge_laws.proofs.Changed.{each_there, fitting}
+use Rattle.expunge_laws.proofs.Changed.{fitting}
 use Rattle.expunge_laws.proofs.TreesLeft.{IfTreeIs, begun_is, tree_is}
 use Rattle.expunge_laws.proofs.Still.{names_alone, untouched_stay}
 
@@ -70,7 +70,7 @@ module _ (events : List PlainEvent) (h : IsSound events) (k id mark : ℕ) (bran
     pub has_tree : IsSome (folded ops (begun (tree events) parents))
     has_tree =
         let fits = all_at (OfNodes (Fits (tree events))) events k e (fitting (λ p. false) events h) at in
-        let there = all_at (λ x. has_id events (id_of x) ≡ true) events k e (each_there events) at in
+        let there = all_at (λ x. has_id events (id_of x) ≡ true) events k e (own_here events) at in
         subst IsSome fits.0 (h.trees id there)
 
     pub has_tree_from : (begun_with : Tree) → begun (tree events) parents ≡ Some begun_with → IsSome (folded ops (Some begun_with))

@@ -15,7 +15,7 @@ use Rattle.history_laws.proofs.TreeLaws.{at_where, by_bytes, has_where}
 use Rattle.expunge_laws.specs.Replaced.{deletes_of, has_entry, puts_of, restricted, rewritten}
 use Rattle.expunge_laws.proofs.InTurn.{copy_goes, rename_goes}
 use Rattle.expunge_laws.proofs.Nearby.{copy_near, rename_near}
-use Rattle.expunge_laws.proofs.TreeMaps.{IsOrdered, any_there, length_where, ordered_put_all, ordered_where, where_all, where_alike, where_comm, within_ok}
+use Rattle.history_laws.proofs.TreeMaps.{IsOrdered, any_there, length_where, ordered_put_all, ordered_where, where_all, where_alike, where_comm, within_ok}
 use Rattle.path_expunge.specs.Written.{gone_of, moving, written_at}
 
 -- ---- how many paths there are

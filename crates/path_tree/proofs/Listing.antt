@@ -8,7 +8,7 @@ use Rattle.path_tree.specs.declared.folder.Child.{Child}
 use Rattle.path_tree.specs.Folders.{Member, prefixed, member_tree, flat, total, Fits, AllFit}
 use Rattle.path_tree.specs.Folders.Member.{file, folder}
 use Rattle.path_tree.specs.Inside.{rows_of, row_tree, member_of}
-use Rattle.path_tree.specs.Sound.{AllPaths}
+use Rattle.history_laws.specs.SoundTrees.{AllPaths}
 use Rattle.path_tree.proofs.Keys.{at-append, tied}
 use Rattle.path_tree.specs.Falls.{total-append, total-prefixed, key_long}
 use Rattle.path_tree.proofs.Measures.{flat-push}

@@ -11,15 +11,16 @@ use Rattle.history_laws.proofs.TreeLaws.{by_bytes}
 use Rattle.plain_model.specs.declared.limit.TheConstants.{MAX_PATHS}
 use Rattle.plain_model.specs.declared.operation.Entry.{Entry}
 use Rattle.plain_model.specs.Paths.{Bytes, IsPath, is_empty, components, is_at_or_below, is_in_the_way}
-use Rattle.plain_model.specs.Trees.{Tree, TreeOf, Refusal, IsTree, apply, meaning, where_path, within_paths, Change, change, placed, has_long_path, moved, put_all, cleared_for, put, without, subtree}
+use Rattle.plain_model.specs.Trees.{Tree, TreeOf, Refusal, IsTree, apply, meaning, within_paths, Change, change, cleared_for, put, without, subtree}
 use Rattle.plain_model.specs.Trees.Change.{Put, Remove, CopyTo, MoveTo, Clear}
-use Rattle.plain_model.specs.Trees.Refusal.{Paths, PathBytes}
+use Rattle.plain_model.specs.Trees.Refusal.{Paths}
 use Rattle.plain_model.specs.declared.operation.FileOp.{FileOp}
 use Rattle.path_tree.specs.Answers.{Answer, IsAnswer}
-use Rattle.path_tree.specs.Sound.{AllPaths, IsSound}
+use Rattle.history_laws.specs.SoundTrees.{AllPaths, IsSound}
 use Rattle.path_tree.specs.Folders.{prefixed}
 use Rattle.path_tree.specs.Setting.{ends_with_slash}
-use Rattle.path_tree.proofs.JoinedPaths.{rules_of}
+use Rattle.history_laws.proofs.JoinedPaths.{rules_of}
+use Rattle.history_laws.proofs.TreeMaps.{few_within, length_where, placed_small}
 
 -- the members after the first
 abbrev later : List Bytes → List Bytes
@@ -57,41 +58,16 @@ prefixed_nothing (e ∷ t) = ap (λ (s : Tree). (e.0, e.1) ∷ s) (prefixed_noth
 
 -- ---- the limit on paths is kept
 
-pub few_within : (tree new : Tree) → within_paths tree ≡ Ok new → length new ≤ MAX_PATHS
-few_within tree new h = by (nat_lt MAX_PATHS (length tree)) refl h
-  where
-    by : (t : Bool) → nat_lt MAX_PATHS (length tree) ≡ t → cond t (Err Paths) (Ok tree) ≡ Ok new → length new ≤ MAX_PATHS
-    by true e h = absurd cc
-    by false e h =
-        let is : tree ≡ new = cc in
-        subst (λ (t : Tree). length t ≤ MAX_PATHS) is (grind (arith, nat_tests, e))
-
-pub fewer_kept : (test : Bytes → Bool) (tree : Tree) → length (where_path test tree) ≤ length tree
-fewer_kept test [] = omega arith
-fewer_kept test (e ∷ es) = by (test e.0) (fewer_kept test es)
-  where
-    by : (t : Bool) → length (where_path test es) ≤ length es → length (cond t (e ∷ where_path test es) (where_path test es)) ≤ length (e ∷ es)
-    by true h = omega (arith, h)
-    by false h = omega (arith, h)
-
-few_placed : (s t : Bytes) (taken base new : Tree) → placed s t taken base ≡ Ok new → length new ≤ MAX_PATHS
-few_placed s t [] base new h = absurd cc
-few_placed s t (e ∷ taken) base new h = by (has_long_path (moved s t (e ∷ taken))) h
-  where
-    by : (b : Bool) → cond b (Err PathBytes) (within_paths (put_all (moved s t (e ∷ taken)) (cleared_for t base))) ≡ Ok new → length new ≤ MAX_PATHS
-    by true h = absurd cc
-    by false h = few_within (put_all (moved s t (e ∷ taken)) (cleared_for t base)) new h
-
 pub change_few : (c : Change Entry) (old new : Tree) → change c old ≡ Ok new → length old ≤ MAX_PATHS → length new ≤ MAX_PATHS
 change_few (Put entry path) old new h few = few_within (put path entry (cleared_for path old)) new h
 change_few (Remove path) old new h few =
     let is : new ≡ without path old = cc in
-    rw is (few_of (fewer_kept (λ q. not (is_at_or_below path q)) old) few)
+    rw is (few_of (length_where (λ q. not (is_at_or_below path q)) old) few)
   where
     few_of : {a b : ℕ} → a ≤ b → b ≤ MAX_PATHS → a ≤ MAX_PATHS
     few_of h k = omega (arith, h, k)
-change_few (CopyTo s t) old new h few = few_placed s t (subtree s old) old new h
-change_few (MoveTo s t) old new h few = few_placed s t (subtree s old) (without s old) new h
+change_few (CopyTo s t) old new h few = placed_small s t (subtree s old) old new h
+change_few (MoveTo s t) old new h few = placed_small s t (subtree s old) (without s old) new h
 change_few Clear old new h few =
     let is : new ≡ [] = cc in
     rw is (omega arith)
@@ -111,7 +87,7 @@ put_within p x old room = by (nat_lt MAX_PATHS (length (put p x (cleared_for p o
   where
     by : (t : Bool) → nat_lt MAX_PATHS (length (put p x (cleared_for p old))) ≡ t
         → cond t (Err Paths) (Ok (put p x (cleared_for p old))) ≡ Ok (put p x (cleared_for p old))
-    by true e = absurd (grind (arith, nat_tests, e, room, more_put p x (cleared_for p old), fewer_kept (λ q. not (is_in_the_way p q)) old))
+    by true e = absurd (grind (arith, nat_tests, e, room, more_put p x (cleared_for p old), length_where (λ q. not (is_in_the_way p q)) old))
     by false e = refl
 
 -- ---- what always holds of a tree holds after an operation

@@ -22,7 +22,7 @@ use Rattle.path_tree.specs.Folders.Member.{file, folder}
 use Rattle.path_tree.specs.Inside.{bounded}
 use Rattle.path_tree.specs.PathMaps.{IsInOrder}
 use Rattle.path_tree.specs.Setting.{ends_with_slash, suffixes, Finds, FitsNode, Places}
-use Rattle.path_tree.specs.Sound.{AllPaths}
+use Rattle.history_laws.specs.SoundTrees.{AllPaths}
 use Rattle.path_tree.proofs.Orders.{turned_bytes, same_tree}
 use Rattle.path_tree.proofs.Keys.{prefixed_in_order}
 use Rattle.path_tree.proofs.Measures.{longest-prefixed, length-prefixed}

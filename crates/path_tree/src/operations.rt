@@ -10,7 +10,7 @@ ghost use Rattle.path_tree.specs.Folders.{longest, prefixed};
 ghost use Rattle.path_tree.specs.Inside.{member_of};
 ghost use Rattle.path_tree.specs.PathMaps.{IsInOrder};
 ghost use Rattle.path_tree.specs.Setting.{ends_with_slash, suffixes, Finds, FitsNode};
-ghost use Rattle.path_tree.specs.Sound.{AllPaths};
+ghost use Rattle.history_laws.specs.SoundTrees.{AllPaths};
 
 use crate::fault::ApplyFault;
 use crate::folder::{Folder, Node, set_shared, with_slash};

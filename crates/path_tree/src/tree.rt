@@ -22,7 +22,7 @@ pub struct PathTree {
 
 impl Model for PathTree {
     ghost use Rattle.plain_model.specs.Trees.{Tree};
-    ghost use Rattle.path_tree.specs.Sound.{IsSound};
+    ghost use Rattle.history_laws.specs.SoundTrees.{IsSound};
 
     ghost Value = { Tree };
 

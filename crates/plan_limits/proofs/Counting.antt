@@ -1,5 +1,5 @@
 -- Sums over the events of a list, counted so far.
-use Rattle.std.proofs.Common.{◌≡◌, ◌∙◌, ℕ, zero, suc, ◌+◌, ◌-◌, ◌≤◌, ◌<◌, Bool, true, false, List, [], ◌∷◌, ◌++◌, take, drop, take-append-drop, Some, refl, sym, ap, length, arith, length-append, true≢false}
+use Rattle.std.proofs.Common.{◌≡◌, ◌∙◌, ℕ, zero, suc, ◌+◌, ◌-◌, ◌≤◌, ◌<◌, Bool, true, false, List, [], ◌∷◌, ◌++◌, take, drop, take-append-drop, Some, sym, ap, length, arith, length-append, true≢false}
 use Rattle.std.specs.List.{list_any}
 use Rattle.std.specs.Prelude.{◌||◌, nat_lt, slice_get}
 use Rattle.std.proofs.Math.Bool.{or-true}
@@ -16,39 +16,14 @@ use Rattle.edit_laws.specs.Parts.{tally}
 use Rattle.edit_laws.proofs.Limits.{not_many}
 use Rattle.edit_laws.proofs.Lists.{tally_append}
 use Rattle.event_arena.specs.Weights.{event_weight, weight_of}
-use Rattle.event_arena.proofs.ListLemmas.{take-all, take-item}
+use Rattle.event_arena.proofs.ListLemmas.{take-item}
+use Rattle.edit_laws.proofs.Tallies.{aliases_counted, ops_counted}
 use Rattle.plan_limits.specs.Counts.{IsSum, count_of, total_of}
 use Rattle.plan_limits.specs.declared.limits.Sum.{Sum}
 use Rattle.plan_limits.specs.declared.limits.Counted.{Counted}
 use Rattle.plan_limits.specs.declared.limits.Counted.TheVariants.{Operations, Aliases}
 
 -- ---- sums
-
-abbrev pub own_ops : PlainEvent → ℕ
-own_ops e = length (ops_along (nodes (e ∷ [])))
-
-pub ops_counted : (es : List PlainEvent) → tally own_ops es ≡ length (ops_along (nodes es))
-ops_counted [] = refl
-ops_counted (Commit id mark branch author committer encoding comment parents ops aliases ∷ es) =
-    let rest = ops_counted es in
-    let own : own_ops (Commit id mark branch author committer encoding comment parents ops aliases) ≡ length ops = length-append ops [] ∙ (let z : length ops + 0 ≡ length ops = omega arith in z) in
-    let whole = length-append ops (ops_along (nodes es)) in
-    omega arith
-ops_counted (Blob id mark bytes ∷ es) = let rest = ops_counted es in omega arith
-ops_counted (Tag id name target tagger comment mark ∷ es) = let rest = ops_counted es in omega arith
-ops_counted (Reset id branch target ∷ es) = let rest = ops_counted es in omega arith
-ops_counted (Pass id line ∷ es) = let rest = ops_counted es in omega arith
-
-abbrev pub own_aliases : PlainEvent → ℕ
-own_aliases e = alias_count (e ∷ [])
-
-pub aliases_counted : (es : List PlainEvent) → tally own_aliases es ≡ alias_count es
-aliases_counted [] = refl
-aliases_counted (Commit id mark branch author committer encoding comment parents ops aliases ∷ es) = let rest = aliases_counted es in omega arith
-aliases_counted (Blob id mark bytes ∷ es) = let rest = aliases_counted es in omega arith
-aliases_counted (Tag id name target tagger comment mark ∷ es) = let rest = aliases_counted es in omega arith
-aliases_counted (Reset id branch target ∷ es) = let rest = aliases_counted es in omega arith
-aliases_counted (Pass id line ∷ es) = let rest = aliases_counted es in omega arith
 
 -- one event more, and no more than all
 pub tally_item : (f : PlainEvent → ℕ) (es : List PlainEvent) (k : ℕ) (e : PlainEvent) → slice_get es k ≡ Some e →
@@ -66,30 +41,6 @@ tally_less f es k =
 
 pub more_than : (most n : ℕ) → most < n → nat_lt most n ≡ true
 more_than most n h = grind (arith, nat_tests)
-
--- counted so far, and the next event passes the limit, or it doesn't
-module _ (f : PlainEvent → ℕ) (count : List PlainEvent → ℕ) (counted : (es : List PlainEvent) → tally f es ≡ count es) (most : ℕ) where
-  pub count_more : (es : List PlainEvent) (k total more : ℕ) (e : PlainEvent) → slice_get es k ≡ Some e → total ≡ count (take k es) → more ≡ f e →
-      total + more ≡ count (take (suc k) es)
-  count_more es k total more e at so_far own =
-      let item = tally_item f es k e at in
-      let old = counted (take k es) in
-      let new = counted (take (suc k) es) in
-      omega arith
-
-  pub count_passed : (es : List PlainEvent) (k total more : ℕ) (e : PlainEvent) → slice_get es k ≡ Some e → total ≡ count (take k es) → more ≡ f e →
-      most < total + more → true ≡ nat_lt most (count es)
-  count_passed es k total more e at so_far own passed =
-      let now = count_more es k total more e at so_far own in
-      let new = counted (take (suc k) es) in
-      let less = tally_less f es (suc k) in
-      let whole = counted es in
-      sym (more_than most (count es) (omega arith))
-
-  pub count_within : (es : List PlainEvent) (k total : ℕ) → length es ≤ k → total ≡ count (take k es) → total ≤ most → false ≡ nat_lt most (count es)
-  count_within es k total all so_far low =
-      let same : count (take k es) ≡ count es = ap count (take-all es k all) in
-      sym (not_many most (count es) (omega arith))
 
 -- events weigh no less than what they have
 pub ops_weight : (es : List PlainEvent) → length (ops_along (nodes es)) ≤ weight_of es

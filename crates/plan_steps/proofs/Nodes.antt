@@ -15,9 +15,9 @@ use Rattle.plain_model.specs.Lookups.{event_parents, find_event, id_of, same_id}
 use Rattle.plain_model.specs.Snapshots.{commit_mark}
 use Rattle.plain_model.specs.Soundness.{IsSound}
 use Rattle.plain_model.proofs.Numbers.{eqb_turned}
+use Rattle.history_laws.proofs.Ids.{find-id}
 use Rattle.ancestry_laws.proofs.Pasts.{known_past}
-use Rattle.event_arena.proofs.SoundLemmas.{has_id-find}
-use Rattle.event_arena.proofs.SpentLemmas.{find-id}
+use Rattle.history_laws.proofs.SoundOnce.{has_id-find}
 use Rattle.edit_laws.proofs.Lists.{OfNodes}
 use Rattle.manifest_cache.specs.Walks.{event_ops}
 use Rattle.commit_laws.specs.Selected.{node_of}

@@ -1,26 +1,21 @@
 -- How the list of a plan goes on, while one event after another becomes what it becomes.
-use Rattle.std.proofs.Common.{◌≡◌, ◌∙◌, ℕ, zero, suc, ◌≤◌, inl, inr, List, [], ◌∷◌, ◌++◌, Option, Some, None, refl, sym, ap, subst, length, take, drop, map, arith, append_assoc, append-nil}
+use Rattle.std.proofs.Common.{◌≡◌, ◌∙◌, ℕ, zero, suc, inl, inr, List, [], ◌∷◌, ◌++◌, Some, None, refl, sym, ap, subst, take, drop, map, append_assoc}
 use Rattle.std.proofs.lemmas.Bool.{cases_Bool}
 use Rattle.std.proofs.lemmas.List.{take-append-drop}
 use Rattle.std.proofs.lemmas.Option.{none-some, same_Some}
-use Rattle.std.specs.Prelude.{Result, Ok, Err, slice_get, is_some, IfSome, OnOk}
+use Rattle.std.specs.Prelude.{slice_get, is_some, IfSome}
 use Rattle.plain_model.specs.declared.id.AnyId.{AnyId}
 use Rattle.plain_model.specs.declared.event.PlainEvent.{PlainEvent}
 use Rattle.plain_model.specs.Lookups.{find_event, id_of, same_id}
-use Rattle.history_laws.proofs.Ids.{same_id-refl}
+use Rattle.history_laws.proofs.Ids.{absent-cons, cons-absent}
 use Rattle.event_arena.specs.Changes.{changed}
 use Rattle.event_arena.specs.Graphs.{Change}
-use Rattle.event_arena.specs.Once.{AreDistinct}
-use Rattle.event_arena.proofs.ListLemmas.{drop-item, take-all, take-item}
+use Rattle.history_laws.specs.Once.{AreDistinct}
+use Rattle.event_arena.proofs.ListLemmas.{drop-item, take-item}
 use Rattle.event_arena.proofs.OnceLemmas.{distinct-absent}
-use Rattle.event_arena.proofs.SpentLemmas.{absent-cons, cons-absent}
+use Rattle.event_arena.proofs.StepLemmas.{changed_after, changed_same, find_after, found_holds, map_push}
 
 -- ---- changes of one event
-
--- what holds of the event that is found
-pub found_holds : (o : Option PlainEvent) (e : PlainEvent) (P : PlainEvent → Type 0) → o ≡ Some e → P e → IfSome o P
-found_holds None e P is h = tt
-found_holds (Some x) e P is h = subst P (sym (same_Some x e is)) h
 
 -- two changes that are one for the event that is found
 pub changed_alike : (id : AnyId) (f g : PlainEvent → PlainEvent) (es : List PlainEvent) → IfSome (find_event id es) (λ e. f e ≡ g e) → changed id f es ≡ changed id g es
@@ -28,14 +23,6 @@ changed_alike id f g [] h = refl
 changed_alike id f g (x ∷ es) h = elim (cases_Bool (same_id id (id_of x))) [
   | inl it ↦ rw it (ap (λ y. y ∷ es) (rw it at h))
   | inr no_it ↦ rw no_it (ap (λ ys. x ∷ ys) (changed_alike id f g es (rw no_it at h)))
-]
-
--- one that leaves it as it is
-pub changed_same : (id : AnyId) (f : PlainEvent → PlainEvent) (es : List PlainEvent) → IfSome (find_event id es) (λ e. f e ≡ e) → changed id f es ≡ es
-changed_same id f [] h = refl
-changed_same id f (x ∷ es) h = elim (cases_Bool (same_id id (id_of x))) [
-  | inl it ↦ rw it (ap (λ y. y ∷ es) (rw it at h))
-  | inr no_it ↦ rw no_it (ap (λ ys. x ∷ ys) (changed_same id f es (rw no_it at h)))
 ]
 
 -- a plan in which nothing changes
@@ -61,31 +48,6 @@ changed_nowhere id f (e ∷ es) h =
 
 -- ---- an event between others
 
--- it is found after events that have another id
-find_after : (xs ys : List PlainEvent) (e : PlainEvent) → find_event (id_of e) xs ≡ None → find_event (id_of e) (xs ++ e ∷ ys) ≡ Some e
-find_after [] ys e h = rw same_id-refl refl
-find_after (x ∷ xs) ys e h =
-    let rest = absent-cons (id_of e) x xs h in
-    rw rest.0 (find_after xs ys e rest.1)
-
--- and changed there
-changed_after : (f : PlainEvent → PlainEvent) (xs ys : List PlainEvent) (e : PlainEvent) → find_event (id_of e) xs ≡ None →
-    changed (id_of e) f (xs ++ e ∷ ys) ≡ xs ++ f e ∷ ys
-changed_after f [] ys e h = rw same_id-refl refl
-changed_after f (x ∷ xs) ys e h =
-    let rest = absent-cons (id_of e) x xs h in
-    rw rest.0 (ap (λ zs. x ∷ zs) (changed_after f xs ys e rest.1))
-
-map_push : (g : PlainEvent → PlainEvent) (xs : List PlainEvent) (e : PlainEvent) → map g (xs ++ e ∷ []) ≡ map g xs ++ g e ∷ []
-map_push g [] e = refl
-map_push g (x ∷ xs) e = ap (λ zs. g x ∷ zs) (map_push g xs e)
-
-none_left : (k : ℕ) (xs : List PlainEvent) → length xs ≤ k → drop k xs ≡ []
-none_left zero [] h = refl
-none_left (suc k) [] h = refl
-none_left zero (x ∷ xs) h = absurd (omega arith)
-none_left (suc k) (x ∷ xs) h = none_left k xs (omega arith)
-
 -- what is at a place afterwards
 pub item_map : (g : PlainEvent → PlainEvent) (es : List PlainEvent) (k : ℕ) (e : PlainEvent) → slice_get es k ≡ Some e → slice_get (map g es) k ≡ Some (g e)
 item_map g [] k e at = absurd (none-some e at)
@@ -97,13 +59,6 @@ item_map g (x ∷ es) (suc k) e at = item_map g es k e at
 module _ (g : PlainEvent → PlainEvent) where
   abbrev pub so_far : ℕ → List PlainEvent → List PlainEvent
   so_far k events = map g (take k events) ++ drop k events
-
-  -- all of them
-  pub so_far_all : (k : ℕ) (events : List PlainEvent) → length events ≤ k → so_far k events ≡ map g events
-  so_far_all k events h =
-      ap (λ (xs : List PlainEvent). map g xs ++ drop k events) (take-all events k h)
-      ∙ ap (λ (ys : List PlainEvent). map g events ++ ys) (none_left k events h)
-      ∙ append-nil (map g events)
 
   module _ (same : (e : PlainEvent) → id_of (g e) ≡ id_of e) where
     -- what isn't there isn't there afterwards
@@ -143,10 +98,6 @@ module _ (g : PlainEvent → PlainEvent) where
           ∙ ap (λ (xs : List PlainEvent). xs ++ drop (suc k) events) (sym (map_push g (take k events) e) ∙ ap (map g) (sym (take-item events k e is)))
 
 -- ---- facts of calls
-
-pub on_ok : {T E : Type 0} (r : Result T E) (P Q : Type 0) → (P → Q) → OnOk r P → OnOk r Q
-on_ok (Ok x) P Q f h = f h
-on_ok (Err e) P Q f h = tt
 
 -- the event that is found is this one, which two changes make the same
 pub alike_of : (es : List PlainEvent) (event e : PlainEvent) (f g : PlainEvent → PlainEvent) → event ≡ e → find_event (id_of event) es ≡ Some event → f e ≡ g e →

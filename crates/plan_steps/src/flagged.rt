@@ -36,7 +36,7 @@ impl<'a> Flagged<'a> {
         ensures events { IfOk result (λ made. made.events ≡ events.now.list) }
         ensures set { IfOk result (λ made. made.set ≡ set.now) }
     {
-        let flags = flags_of(alloc, events, set)?;
+        let flags = flags_of(alloc, events.table(), set)?;
         let set = IdList::of(alloc, set)?;
         Ok(Flagged { events, set, flags })
     }

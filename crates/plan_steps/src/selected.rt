@@ -1,12 +1,7 @@
 //! Which events a command is for: so many, and commits alone.
 ghost use Rattle.std.specs.Prelude.{◌≡◌, IfOk};
-ghost use Rattle.commit_laws.specs.Selected.{
-  chosen,
-  event_number,
-  kind_fault,
-  not_a_commit,
-  the_commit,
-};
+ghost use Rattle.commit_laws.specs.Selected.{chosen, kind_fault, not_a_commit, the_commit};
+ghost use Rattle.history_laws.specs.Finding.{event_number};
 
 use event_arena::Events;
 use plain_model::{AnyId, CommitId, Fault, Items, NoMemory};

@@ -23,10 +23,6 @@ use Rattle.production_laws.specs.Raw.{Ref, ref_spelled, named, Field, field_in, 
 use Rattle.production_laws.specs.Raw.Ref.{OfMark, OfBranch}
 use Rattle.production_laws.specs.Texts.{is_alone}
 
-bind_assoc : {A B C : Type 0} (r : Result A Why) (f : A → Result B Why) (g : B → Result C Why) → (r >>= f >>= g) ≡ (r >>= λ x. f x >>= g)
-bind_assoc (Ok x) f g = refl
-bind_assoc (Err why) f g = refl
-
 -- a commit is found by what is spelled
 ref_is : (k : Known) (text : Bytes) → ref_in k.events k.aliases text ≡ (ref_spelled text >>= λ ref. named k ref)
 unfolding ref_spelled

@@ -202,9 +202,6 @@ ends_at d promised h =
 same_stand : (d : Expected) (promised : Bool) (t : Standing) → ◌≡◌ {A = Result Standing Why} (Ok (stand d promised)) (Ok t) → stand d promised ≡ t
 same_stand d promised t e = cc
 
-same_goes : (d e : Expected) → Goes d ≡ Goes e → d ≡ e
-same_goes d e h = cc
-
 -- what the automaton accepts has the productions
 pub has_form : (ws : List Word) (d : Expected) (promised : Bool) → Accepts (stand d promised) ws → Rest d promised ws
 has_form [] d promised h = ended_at d promised h

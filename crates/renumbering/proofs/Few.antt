@@ -12,8 +12,8 @@ use Rattle.plain_model.specs.declared.event.PlainEvent.{PlainEvent}
 use Rattle.plain_model.specs.declared.event.PlainEvent.TheVariants.{Blob, Commit, Tag, Reset, Pass}
 use Rattle.plain_model.specs.Lookups.{event_marks, id_of, marks_of, own_marks}
 use Rattle.plain_model.specs.Marks.{IsMark}
-use Rattle.event_arena.specs.Once.{AreMarkedOnce}
-use Rattle.event_arena.proofs.SoundLemmas.{sound-once}
+use Rattle.history_laws.specs.Once.{AreMarkedOnce}
+use Rattle.history_laws.proofs.SoundOnce.{sound-once}
 use Rattle.plain_model.specs.Soundness.{IsFormedEvent, IsSound}
 
 -- the numbers alone

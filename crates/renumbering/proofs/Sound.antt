@@ -15,7 +15,7 @@ use Rattle.plain_model.specs.declared.event.PlainEvent.TheVariants.{Blob, Commit
 use Rattle.plain_model.specs.Lookups.{event_marks, marks_of, own_marks}
 use Rattle.plain_model.specs.Soundness.{AreSoundAfter, IsCommitOf, IsFormedEvent, IsSound, IsSoundEvent, RefersBack, has_id}
 use Rattle.plain_model.specs.Streams.{is_among, is_marked}
-use Rattle.event_arena.proofs.SoundLemmas.{is_marked-own}
+use Rattle.history_laws.proofs.SoundOnce.{is_marked-own}
 use Rattle.history_laws.proofs.Ids.{has_id-append, is_marked-append}
 use Rattle.renumbering.specs.Renumbered.{marked_from, marks_from, renumbered, renumbered_from}
 use Rattle.renumbering.proofs.Few.{few_marks}

@@ -1,6 +1,6 @@
 -- How the list of a plan goes on, while one event after another gets its marks.
 use Rattle.std.proofs.Common.{◌≡◌, ℕ, zero, suc, ◌+◌, ◌≤◌, false, List, [], ◌∷◌, ◌++◌, length, take, drop, Option, Some, None, refl, sym, ap, subst, ◌∙◌, inl, inr, arith, append_assoc, append-nil, length-append}
-use Rattle.std.specs.Prelude.{is_some, slice_get, IfSome}
+use Rattle.std.specs.Prelude.{is_some, slice_get}
 use Rattle.std.proofs.lemmas.Bool.{cases_Bool}
 use Rattle.std.proofs.lemmas.List.{take-append-drop}
 use Rattle.std.proofs.lemmas.Option.{none-some, same_Some}
@@ -12,32 +12,18 @@ use Rattle.plain_model.specs.Soundness.{IsSound}
 use Rattle.event_arena.specs.declared.field.Field.TheVariants as field
 use Rattle.event_arena.specs.Changes.{changed, with_aliases}
 use Rattle.event_arena.specs.Graphs.{Change}
-use Rattle.event_arena.specs.Once.{AreDistinct}
+use Rattle.history_laws.specs.Once.{AreDistinct}
 use Rattle.event_arena.proofs.ChangeLemmas.{id-with_field}
 use Rattle.event_arena.proofs.ListLemmas.{take-all, take-item, drop-item, flat-take-item}
 use Rattle.event_arena.proofs.OnceLemmas.{distinct-absent, marks-room}
-use Rattle.event_arena.proofs.SoundLemmas.{has_id-find}
-use Rattle.event_arena.proofs.SpentLemmas.{absent-cons}
-use Rattle.history_laws.proofs.Ids.{same_id-refl}
+use Rattle.history_laws.proofs.SoundOnce.{has_id-find}
+use Rattle.event_arena.proofs.StepLemmas.{changed_after, changed_same, find_after, found_holds}
 use Rattle.renumbering.specs.Renumbered.{marked_from, renumbered, renumbered_from}
 use Rattle.renumbering.proofs.Few.{few_marks}
 use Rattle.renumbering.proofs.Kept.{has_id_same}
 use Rattle.renumbering.proofs.Marks.{length-own}
 
 -- ---- changes of one event
-
--- what holds of the event that is found
-pub found-holds : (o : Option PlainEvent) (e : PlainEvent) (P : PlainEvent → Type 0) → o ≡ Some e → P e → IfSome o P
-found-holds None e P is h = tt
-found-holds (Some x) e P is h = subst P (sym (same_Some x e is)) h
-
--- a change that leaves the event as it is
-pub changed-same : (id : AnyId) (f : PlainEvent → PlainEvent) (events : List PlainEvent) → IfSome (find_event id events) (λ e. f e ≡ e) → changed id f events ≡ events
-changed-same id f [] h = refl
-changed-same id f (x ∷ events) h = elim (cases_Bool (same_id id (id_of x))) [
-  | inl it ↦ rw it (ap (λ y. y ∷ events) (rw it at h))
-  | inr no_it ↦ rw no_it (ap (λ ys. x ∷ ys) (changed-same id f events (rw no_it at h)))
-]
 
 module _ (id : AnyId) (f : PlainEvent → PlainEvent) (same : (e : PlainEvent) → id_of (f e) ≡ id_of e) where
   -- a changed event is found
@@ -59,7 +45,7 @@ module _ (id : AnyId) (f : PlainEvent → PlainEvent) (same : (e : PlainEvent) �
 -- a plan that keeps an event as it is
 pub kept : (plan : Change) (event : PlainEvent) (f : PlainEvent → PlainEvent) → find_event (id_of event) plan.after ≡ Some event → f event ≡ event →
     plan ≡ record plan { after = changed (id_of event) f plan.after }
-kept plan event f there same = ap (λ events. record plan { after = events }) (sym (changed-same (id_of event) f plan.after (found-holds (find_event (id_of event) plan.after) event (λ e. f e ≡ e) there same)))
+kept plan event f there same = ap (λ events. record plan { after = events }) (sym (changed_same (id_of event) f plan.after (found_holds (find_event (id_of event) plan.after) event (λ e. f e ≡ e) there same)))
 
 -- a commit whose aliases are set is found with them
 pub aliases-set : (event commit : PlainEvent) (new : List ℕ) (before after : List PlainEvent) → event ≡ commit → find_event (id_of event) before ≡ Some event → after ≡ changed (id_of commit) (with_aliases new) before →
@@ -69,20 +55,6 @@ aliases-set event commit new before after is there set =
     ∙ find-changed (id_of commit) (with_aliases new) (id-with_field (field.Aliases new)) before commit (subst (λ e. find_event (id_of e) before ≡ Some e) is there)
 
 -- ---- an event between others
-
--- it is found after events that have another id
-find-after : (xs ys : List PlainEvent) (e : PlainEvent) → find_event (id_of e) xs ≡ None → find_event (id_of e) (xs ++ e ∷ ys) ≡ Some e
-find-after [] ys e h = rw same_id-refl refl
-find-after (x ∷ xs) ys e h =
-    let rest = absent-cons (id_of e) x xs h in
-    rw rest.0 (find-after xs ys e rest.1)
-
--- and changed there
-changed-after : (f : PlainEvent → PlainEvent) (xs ys : List PlainEvent) (e : PlainEvent) → find_event (id_of e) xs ≡ None → changed (id_of e) f (xs ++ e ∷ ys) ≡ xs ++ f e ∷ ys
-changed-after f [] ys e h = rw same_id-refl refl
-changed-after f (x ∷ xs) ys e h =
-    let rest = absent-cons (id_of e) x xs h in
-    rw rest.0 (ap (λ zs. x ∷ zs) (changed-after f xs ys e rest.1))
 
 -- what isn't there isn't there under other marks
 absent-renumbered : (n : ℕ) (events : List PlainEvent) (id : AnyId) → find_event id events ≡ None → find_event id (renumbered_from n events) ≡ None
@@ -137,12 +109,12 @@ module _ (events : List PlainEvent) (k : ℕ) (e : PlainEvent) (is : slice_get e
     absent = absent-renumbered 1 (take k events) (id_of e) (distinct-absent (take k events) (drop (suc k) events) e (subst AreDistinct parts once))
 
     pub found-so-far : find_event (id_of e) (so_far k events) ≡ Some e
-    found-so-far = ap (λ ys. find_event (id_of e) (renumbered (take k events) ++ ys)) (drop-item events k e is) ∙ find-after (renumbered (take k events)) (drop (suc k) events) e absent
+    found-so-far = ap (λ ys. find_event (id_of e) (renumbered (take k events) ++ ys)) (drop-item events k e is) ∙ find_after (renumbered (take k events)) (drop (suc k) events) e absent
 
     pub changed-so-far : changed (id_of e) (marked_from (next_at k events)) (so_far k events) ≡ so_far (suc k) events
     changed-so-far =
         ap (λ ys. changed (id_of e) (marked_from (next_at k events)) (renumbered (take k events) ++ ys)) (drop-item events k e is)
-        ∙ changed-after (marked_from (next_at k events)) (renumbered (take k events)) (drop (suc k) events) e absent
+        ∙ changed_after (marked_from (next_at k events)) (renumbered (take k events)) (drop (suc k) events) e absent
         ∙ sym (append_assoc (renumbered (take k events)) (marked_from (next_at k events) e ∷ []) (drop (suc k) events))
         ∙ ap (λ xs. xs ++ drop (suc k) events) (sym (renumbered-push 1 (take k events) e) ∙ ap renumbered (sym (take-item events k e is)))
 

@@ -17,13 +17,15 @@ use Rattle.plain_model.specs.Histories.{Node, node_at, past}
 use Rattle.plain_model.specs.Lookups.{children_of, is_listed, own_child}
 use Rattle.plain_model.specs.Soundness.{IsSound, are_distinct, has_id}
 use Rattle.plain_model.proofs.Numbers.{eqb_turned}
+use Rattle.history_laws.specs.Finding.{event_number, is_only}
 use Rattle.history_laws.proofs.Lists.{all_imply}
 use Rattle.edit_laws.proofs.Lists.{OfNodes}
-use Rattle.commit_laws.specs.Selected.{chosen, event_number, listed, node_of}
+use Rattle.commit_laws.specs.Selected.{chosen, listed, node_of}
 use Rattle.edit_laws.specs.Selecting.{IsSelection}
+use Rattle.edit_laws.proofs.Limits.{not_many}
 use Rattle.commit_laws.proofs.Given.{IsGiven, IsHere, all_given, parents_here, rank}
 use Rattle.commit_laws.proofs.Selections.{any_chosen, chosen_distinct, in_both, in_set, listed_here}
-use Rattle.reorder_laws.specs.Reorder.{instead, is_only, last_of, line_fault, lined_up}
+use Rattle.reorder_laws.specs.Reorder.{instead, last_of, line_fault, lined_up}
 
 -- ---- lists
 
@@ -146,9 +148,6 @@ numbered k (u ∷ us) d =
 
 lt_true : (a b : ℕ) → a < b → nat_lt a b ≡ true
 lt_true a b h = grind (arith, nat_tests)
-
-lt_false : (a b : ℕ) → b ≤ a → nat_lt a b ≡ false
-lt_false a b h = grind (arith, nat_tests)
 
 -- ---- the line of a history
 
@@ -275,7 +274,7 @@ module _ (set : List AnyId) (events : List PlainEvent) (h : IsSound events) (sel
   number_high x l up = number_out x l ∙ ap (λ b. low x + cond b (suc (length ws)) 0) (lt_true (low v) (low x) up)
 
   number_low : (x : ℕ) → is_listed (any.Commit x) set ≡ false → low x ≤ low v → number x ≡ low x
-  number_low x l down = let is = number_out x l ∙ ap (λ b. low x + cond b (suc (length ws)) 0) (lt_false (low v) (low x) down) in omega arith
+  number_low x l down = let is = number_out x l ∙ ap (λ b. low x + cond b (suc (length ws)) 0) (not_many (low v) (low x) down) in omega arith
 
   -- along the new line
   abbrev AtPlaces : ℕ → List ℕ → Type 0

@@ -15,6 +15,7 @@ use Rattle.history_laws.proofs.Lists.{all_join}
 use Rattle.edit_laws.proofs.Lists.{none_passing, own_id, some_passing, tally_append}
 use Rattle.commit_laws.specs.Selected.{chosen}
 use Rattle.edit_laws.specs.Selecting.{are_apart}
+use Rattle.edit_laws.proofs.Tallies.{tally_sum}
 use Rattle.commit_laws.proofs.Given.{IsHere}
 use Rattle.commit_laws.proofs.Selections.{any_chosen, chosen_distinct}
 use Rattle.reorder_laws.specs.Reorder.{filled, is_placed}
@@ -36,10 +37,6 @@ tally_same f g same (e ∷ es) = λ i. same e i + tally_same f g same es i
 tally_zero : (es : List PlainEvent) → tally (λ e. 0) es ≡ 0
 tally_zero [] = refl
 tally_zero (e ∷ es) = let rest = tally_zero es in omega arith
-
-tally_sum : (f g : PlainEvent → ℕ) (es : List PlainEvent) → tally (λ e. f e + g e) es ≡ tally f es + tally g es
-tally_sum f g [] = refl
-tally_sum f g (e ∷ es) = let rest = tally_sum f g es in omega arith
 
 exchanged : (g : ℕ → PlainEvent → ℕ) (ws : List ℕ) (es : List PlainEvent) → total (λ w. tally (g w) es) ws ≡ tally (λ e. total (λ w. g w e) ws) es
 exchanged g [] es = sym (tally_zero es)

@@ -1,59 +1,37 @@
 -- What a reorder that isn't refused leaves.
-use Rattle.std.proofs.Common.{◌≡◌, ◌≤◌, ◌+◌, ◌⊎◌, ℕ, Bool, true, false, cond, List, [], ◌∷◌, ◌++◌, length, inl, inr, refl, sym, ap, subst, ◌∙◌, arith, true≢false, is_ok, Option, Some, None, Result, Ok, Err}
-use Rattle.std.specs.Prelude.{◌↔◌, ◌||◌, IsSome, is_some, nat_lt}
+use Rattle.std.proofs.Common.{◌≡◌, ◌≤◌, ◌⊎◌, ℕ, Bool, true, false, cond, List, [], ◌∷◌, ◌++◌, length, inl, inr, refl, sym, ap, subst, ◌∙◌, arith, is_ok, Option, Some, None, Result, Ok, Err}
+use Rattle.std.specs.Prelude.{◌||◌, nat_lt}
 use Rattle.std.specs.List.{AllByRecursion}
 use Rattle.std.proofs.lemmas.Bool.{cases_Bool}
-use Rattle.std.proofs.lemmas.List.{length-append}
 use Rattle.plain_model.specs.declared.fault.Fault.{Fault}
 use Rattle.plain_model.specs.declared.fault.Fault.TheVariants as fault
 use Rattle.plain_model.specs.declared.id.AnyId.{AnyId}
 use Rattle.plain_model.specs.declared.limit.TheConstants.{MAX_ALIASES, MAX_EVENTS, MAX_OPERATIONS}
 use Rattle.plain_model.specs.declared.event.PlainEvent.{PlainEvent}
 use Rattle.plain_model.specs.declared.event.PlainEvent.TheVariants.{Blob, Commit, Tag, Reset, Pass}
-use Rattle.plain_model.specs.Histories.{IsLinkedPast, nodes, past, tree}
-use Rattle.plain_model.specs.Lookups.{alias_count, find_event, id_of}
-use Rattle.plain_model.specs.Soundness.{IsCommitOf, IsSound, has_id}
+use Rattle.plain_model.specs.Histories.{nodes, tree}
+use Rattle.plain_model.specs.Lookups.{alias_count}
+use Rattle.plain_model.specs.Soundness.{IsSound, has_id}
 use Rattle.plain_model.specs.Streams.{is_marked}
 use Rattle.history_laws.specs.FirstParents.{ops_along}
-use Rattle.history_laws.proofs.Ids.{has_id-append, is_marked-append}
-use Rattle.event_arena.specs.Once.{AreDistinct}
-use Rattle.event_arena.proofs.SoundLemmas.{has_id-find}
+use Rattle.history_laws.proofs.Ids.{is_marked-append}
+use Rattle.edit_laws.specs.Checking.{tree_check}
 use Rattle.edit_laws.specs.Equations.{Fits}
-use Rattle.edit_laws.specs.Parts.{HasFewParents, of_id, one_if, tally}
+use Rattle.edit_laws.specs.Keeping.{HasOperationsOf}
+use Rattle.edit_laws.specs.Parts.{HasFewParents, one_if, tally}
 use Rattle.edit_laws.specs.Passing.{IsWithinLimits}
 use Rattle.edit_laws.specs.Settling.{settle}
-use Rattle.edit_laws.proofs.Lists.{OfNodes, events_of_nodes, has_own_id, none_passing, not_before, some_passing}
+use Rattle.edit_laws.proofs.Lists.{OfNodes, events_of_nodes, none_passing, some_passing}
 use Rattle.edit_laws.proofs.Settled.{settled}
 use Rattle.edit_laws.proofs.Settles.{any_event, settled_all, settled_ids, settled_in_order, settled_once, settled_sound, settled_sums, settling_ends}
 use Rattle.edit_laws.proofs.Sound.{in_parts}
-use Rattle.edit_laws.proofs.Trees.{linked_in_order, trees_fit}
-use Rattle.manifest_cache.specs.Checking.{tree_check}
-use Rattle.commit_laws.specs.Remaining.{HasOperationsOf}
+use Rattle.edit_laws.proofs.Trees.{trees_fit}
 use Rattle.commit_laws.specs.Selected.{chosen, kind_fault, listed, node_of}
 use Rattle.edit_laws.specs.Selecting.{IsSelection}
+use Rattle.edit_laws.proofs.Checked.{checked}
+use Rattle.edit_laws.proofs.Tallies.{aliases_counted, counted, one, ops_counted, own_aliases, own_ops}
 use Rattle.reorder_laws.specs.Reorder.{last_of, line_fault, lined_up, relinked, reorder_of, reorder_these, reordered, unless_refused}
 use Rattle.reorder_laws.proofs.Reordered.{left, left_few, left_ids, left_ops, left_settles, left_sums}
-
--- the law that the tree check finds what has no tree
-abbrev pub CheckFinds : Type 0
-CheckFinds =
-    (events : List PlainEvent) → AreDistinct events → IsLinkedPast (past events) →
-    (((c : ℕ) → IsCommitOf events c → IsSome (tree events c)) ↔ (tree_check events ≡ Ok tt))
-
--- where ids occur once, no event has that of a later one
-distinct_once : (es : List PlainEvent) → ((id : AnyId) → tally (of_id id) es ≤ 1) → AreDistinct es
-distinct_once [] once = tt
-distinct_once (e ∷ es) once = (
-  none (find_event (id_of e) es) refl,
-  distinct_once es (λ id. let all = once id in omega arith),
-)
-  where
-    none : (o : Option PlainEvent) → find_event (id_of e) es ≡ o → find_event (id_of e) es ≡ None
-    none None h = h
-    none (Some x) h =
-        let there : has_id es (id_of e) ≡ true = has_id-find es (id_of e) ∙ ap is_some h in
-        let others = not_before (λ l. has_id l (id_of e)) (λ xs ys. has_id-append xs ys (id_of e)) refl (e ∷ []) es (once (id_of e)) there in
-        absurd (true≢false (sym (has_own_id e) ∙ others))
 
 -- what is true where a reorder isn't refused
 record IsDone (set : List AnyId) (events : List PlainEvent) (h : IsSound events) (sel : IsSelection events set) (new : List PlainEvent) : Type 0 where
@@ -126,19 +104,19 @@ module _ (set : List AnyId) (events : List PlainEvent) (h : IsSound events) (sel
     abbrev its : List PlainEvent
     its = left set events h sel done.v done.vs done.w done.ws done.is_vs done.is_ws done.line
 
-    reorder_sound : CheckFinds → IsSound new
-    reorder_sound finds =
+    reorder_sound : IsSound new
+    reorder_sound =
         let can = left_settles set events h sel done.v done.vs done.w done.ws done.is_vs done.is_ws done.line in
         let once = settled_once its new can.once (settled (λ e. Unit {0}) its new (any_event its) done.is) in
         settled_sound its new can done.is
         (settled_all HasFewParents its new (left_few set events h sel done.v done.vs done.w done.ws done.is_vs done.is_ws done.line) done.is)
-        ((finds new (distinct_once new once.ids) (linked_in_order new once (settled_in_order its new done.is))).1 done.found)
+        ((checked new once (settled_in_order its new done.is)).1 done.found)
 
     reorder_ops : AllByRecursion (HasOperationsOf events) (nodes new)
     reorder_ops = events_of_nodes (HasOperationsOf events) new (settled_all (OfNodes (HasOperationsOf events)) its new (left_ops set events h sel done.v done.vs done.w done.ws done.is_vs done.is_ws done.line) done.is)
 
-    reorder_fits : CheckFinds → AllByRecursion (Fits (tree new)) (nodes new)
-    reorder_fits finds = let parts = in_parts new (reorder_sound finds) in trees_fit new parts.once parts.in_order
+    reorder_fits : AllByRecursion (Fits (tree new)) (nodes new)
+    reorder_fits = let parts = in_parts new reorder_sound in trees_fit new parts.once parts.in_order
 
     reorder_few : AllByRecursion HasFewParents new
     reorder_few = settled_all HasFewParents its new (left_few set events h sel done.v done.vs done.w done.ws done.is_vs done.is_ws done.line) done.is
@@ -189,52 +167,19 @@ done_ids set events new h sel d id =
     settled_ids (left set events h sel done.v done.vs done.w done.ws done.is_vs done.is_ws done.line) new done.is id
     ∙ left_ids set events h sel done.v done.vs done.w done.ws done.is_vs done.is_ws done.line id
 
-pub done_sound : CheckFinds → (set : List AnyId) (events new : List PlainEvent) → IsSound events → IsSelection events set →
+pub done_sound : (set : List AnyId) (events new : List PlainEvent) → IsSound events → IsSelection events set →
     reorder_of set events ≡ Ok new → IsSound new
-done_sound finds set events new h sel d = reorder_sound set events h sel new d finds
+done_sound set events new h sel d = reorder_sound set events h sel new d
 
 pub done_ops : (set : List AnyId) (events new : List PlainEvent) → IsSound events → IsSelection events set →
     reorder_of set events ≡ Ok new → AllByRecursion (HasOperationsOf events) (nodes new)
 done_ops set events new h sel d = reorder_ops set events h sel new d
 
-pub done_fits : CheckFinds → (set : List AnyId) (events new : List PlainEvent) → IsSound events → IsSelection events set →
+pub done_fits : (set : List AnyId) (events new : List PlainEvent) → IsSound events → IsSelection events set →
     reorder_of set events ≡ Ok new → AllByRecursion (Fits (tree new)) (nodes new)
-done_fits finds set events new h sel d = reorder_fits set events h sel new d finds
+done_fits set events new h sel d = reorder_fits set events h sel new d
 
 -- ---- as many as before
-
-abbrev one : PlainEvent → ℕ
-one e = 1
-
-counted : (es : List PlainEvent) → tally one es ≡ length es
-counted [] = refl
-counted (e ∷ es) = let rest = counted es in omega arith
-
-abbrev own_ops : PlainEvent → ℕ
-own_ops e = length (ops_along (nodes (e ∷ [])))
-
-ops_counted : (es : List PlainEvent) → tally own_ops es ≡ length (ops_along (nodes es))
-ops_counted [] = refl
-ops_counted (Commit id mark branch author committer encoding comment parents ops aliases ∷ es) =
-    let rest = ops_counted es in
-    let own : own_ops (Commit id mark branch author committer encoding comment parents ops aliases) ≡ length ops = length-append ops [] ∙ (let zero : length ops + 0 ≡ length ops = omega arith in zero) in
-    let whole = length-append ops (ops_along (nodes es)) in
-    omega arith
-ops_counted (Blob id mark bytes ∷ es) = let rest = ops_counted es in omega arith
-ops_counted (Tag id name target tagger comment mark ∷ es) = let rest = ops_counted es in omega arith
-ops_counted (Reset id branch target ∷ es) = let rest = ops_counted es in omega arith
-ops_counted (Pass id line ∷ es) = let rest = ops_counted es in omega arith
-
-abbrev own_aliases : PlainEvent → ℕ
-own_aliases e = alias_count (e ∷ [])
-
-aliases_counted : (es : List PlainEvent) → tally own_aliases es ≡ alias_count es
-aliases_counted [] = refl
-aliases_counted (Commit id mark branch author committer encoding comment parents ops aliases ∷ es) = let rest = aliases_counted es in omega arith
-aliases_counted (Blob id mark bytes ∷ es) = let rest = aliases_counted es in omega arith
-aliases_counted (Tag id name target tagger comment mark ∷ es) = let rest = aliases_counted es in omega arith
-aliases_counted (Reset id branch target ∷ es) = let rest = aliases_counted es in omega arith
-aliases_counted (Pass id line ∷ es) = let rest = aliases_counted es in omega arith
 
 ops_alike : (given : List (ℕ × List ℕ)) (old last : ℕ) (e : PlainEvent) → own_ops (relinked given old last e) ≡ own_ops e
 ops_alike given old last (Commit id mark branch author committer encoding comment parents ops aliases) = refl

@@ -17,12 +17,13 @@ use Rattle.edit_laws.specs.Parts.{AreOnce, CanBeSettled, HasFewParents, IsAbove,
 use Rattle.edit_laws.specs.Settling.{is_ready}
 use Rattle.history_laws.proofs.Ids.{has_id-append}
 use Rattle.history_laws.proofs.Lists.{all_imply, all_join}
+use Rattle.edit_laws.specs.Keeping.{HasOperationsOf}
 use Rattle.edit_laws.proofs.Lists.{OfNodes, all_rear, all_true, events_of_nodes, none_passing, own_id, some_passing, true_all}
 use Rattle.edit_laws.proofs.Sound.{in_parts}
-use Rattle.commit_laws.specs.Remaining.{HasOperationsOf}
 use Rattle.commit_laws.specs.Selected.{chosen, listed, node_of}
 use Rattle.edit_laws.specs.Selecting.{IsSelection}
-use Rattle.commit_laws.proofs.Given.{IsGiven, IsHere, There, all_given, here_parents, parents_here, rank}
+use Rattle.edit_laws.proofs.Fine.{There}
+use Rattle.commit_laws.proofs.Given.{IsGiven, IsHere, all_given, here_parents, parents_here, rank}
 use Rattle.commit_laws.proofs.Selections.{chosen_here}
 use Rattle.reorder_laws.specs.Reorder.{filled, instead, last_of, line_fault, lined_up, parents_after, relinked, relinked_all}
 use Rattle.reorder_laws.proofs.Line.{IsApart, IsChild, all_children, distinct_instead, each_in, given_is, in_ws, line_here, node_is, not_given, not_new, number, number_given, number_other, outside}

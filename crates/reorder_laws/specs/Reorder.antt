@@ -9,16 +9,12 @@ use Rattle.plain_model.specs.declared.id.AnyId.TheVariants as any
 use Rattle.plain_model.specs.declared.event.PlainEvent.{PlainEvent}
 use Rattle.plain_model.specs.declared.event.PlainEvent.TheVariants.{Blob, Commit, Tag, Reset, Pass}
 use Rattle.plain_model.specs.Lookups.{children_of, find_event, is_listed}
+use Rattle.history_laws.specs.Finding.{event_number, is_only}
+use Rattle.edit_laws.specs.Checking.{tree_check}
 use Rattle.edit_laws.specs.Settling.{settle}
-use Rattle.manifest_cache.specs.Checking.{tree_check}
-use Rattle.commit_laws.specs.Selected.{chosen, event_number, kind_fault, listed, node_of}
+use Rattle.commit_laws.specs.Selected.{chosen, kind_fault, listed, node_of}
 
 -- ---- the line
-
--- the commit is the only one of the list
-abbrev pub is_only : ℕ → List ℕ → Bool
-is_only c (d ∷ []) = d == c
-is_only c other = false
 
 -- each commit has the one before it as its only parent, and is its only child; else the first that hasn't or isn't
 abbrev pub line_fault : List PlainEvent → ℕ → List ℕ → Option Fault

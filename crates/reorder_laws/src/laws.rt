@@ -12,12 +12,10 @@ ghost use Rattle.history_laws.specs.FirstParents.{ops_along};
 ghost use Rattle.edit_laws.specs.Equations.{Fits};
 ghost use Rattle.edit_laws.specs.Editing.{IsEdit, with_number};
 ghost use Rattle.edit_laws.specs.Passing.{IsWithinLimits};
-ghost use Rattle.commit_laws.specs.Remaining.{HasOperationsOf};
+ghost use Rattle.edit_laws.specs.Keeping.{HasOperationsOf};
 ghost use Rattle.commit_laws.specs.Selected.{chosen, listed};
 ghost use Rattle.edit_laws.specs.Selecting.{IsSelection};
 ghost use Rattle.reorder_laws.specs.Reorder.{line_fault, reorder_of, reordered};
-
-use manifest_cache::the_check_finds_what_has_no_tree;
 
 /// Settling a line that is put into another order comes to its end, so no parents run in a circle.
 pub fn a_line_is_settled_in_any_order()
@@ -36,9 +34,7 @@ pub fn a_reorder_keeps_the_ids()
 pub fn a_reorder_keeps_soundness()
     ensures { (set : List AnyId) (events new : List PlainEvent) → IsSound events → IsSelection events set →
         reorder_of set events ≡ Ok new → IsSound new }
-{
-    the_check_finds_what_has_no_tree();
-}
+{}
 
 /// As many events, operations and aliases are there as before, and the same marks.
 pub fn nothing_is_added()
@@ -68,13 +64,9 @@ pub fn a_reorder_replays_operations()
     ensures trees { (set : List AnyId) (events new : List PlainEvent) → IsSound events →
         IsSelection events set → reorder_of set events ≡ Ok new →
         AllByRecursion (Fits (tree new)) (nodes new) }
-{
-    the_check_finds_what_has_no_tree();
-}
+{}
 
 /// A reorder is an edit that gives no number: of a lawful history it makes a lawful one.
 pub fn a_reorder_is_an_edit()
     ensures { IsEdit (λ set next events. with_number next (reorder_of set events)) }
-{
-    the_check_finds_what_has_no_tree();
-}
+{}

@@ -1,48 +1,28 @@
 -- A history in which one commit was changed: each event is one of the old ones, and no more are there.
-use Rattle.std.proofs.Common.{◌≡◌, ℕ, ◌≤◌, Bool, true, false, cond, List, [], ◌∷◌, ◌++◌, length, refl, sym, ap, ◌∙◌, inl, inr, ◌⊎◌, arith, le_trans, Option, Some, None}
-use Rattle.std.specs.Prelude.{◌||◌, ◌==◌}
+use Rattle.std.proofs.Common.{◌≡◌, ℕ, ◌≤◌, true, false, cond, List, [], length, refl, sym, ap, ◌∙◌, arith, le_trans, Option, Some}
+use Rattle.std.specs.Prelude.{◌==◌}
 use Rattle.std.specs.List.{AllByRecursion}
-use Rattle.std.proofs.lemmas.Bool.{cases_Bool, cond-false, cond-true}
 use Rattle.std.proofs.lemmas.List.{length-append}
 use Rattle.plain_model.specs.declared.operation.FileOp.{FileOp}
 use Rattle.plain_model.specs.declared.person.Signed.{Signed}
 use Rattle.plain_model.specs.declared.event.PlainEvent.{PlainEvent}
 use Rattle.plain_model.specs.declared.event.PlainEvent.TheVariants.{Blob, Commit, Tag, Reset, Pass}
 use Rattle.plain_model.specs.Histories.{nodes}
-use Rattle.plain_model.specs.Lookups.{alias_count, find_event, id_of, same_id}
+use Rattle.plain_model.specs.Lookups.{find_event, id_of, same_id}
 use Rattle.plain_model.specs.Paths.{Bytes}
 use Rattle.plain_model.specs.Soundness.{IsSound, has_id}
 use Rattle.plain_model.specs.Streams.{is_marked}
 use Rattle.history_laws.specs.FirstParents.{ops_along}
-use Rattle.history_laws.proofs.Ids.{has_id-append, is_marked-append, same_id-refl, same_id-true}
-use Rattle.event_arena.specs.Once.{AreDistinct}
-use Rattle.event_arena.proofs.SoundLemmas.{sound-once}
-use Rattle.edit_laws.specs.Parts.{HasFewParents, one_if, tally}
+use Rattle.history_laws.proofs.Ids.{each_found, has_id-append, is_marked-append}
+use Rattle.history_laws.proofs.SoundOnce.{sound-once}
+use Rattle.edit_laws.specs.Keeping.{AddsNothing}
+use Rattle.edit_laws.specs.Parts.{HasFewParents, of_id, of_mark, one_if, tally}
 use Rattle.edit_laws.specs.Passing.{IsWithinLimits}
-use Rattle.edit_laws.proofs.Lists.{none_passing, own_id, some_passing}
+use Rattle.edit_laws.proofs.Lists.{own_id}
+use Rattle.edit_laws.proofs.Tallies.{aliases_counted, counted, mapped_no_greater, none_new, one, ops_counted, own_aliases, own_ops}
 use Rattle.commit_laws.specs.Rewriting.{Rewrite, rewritten, rewritten_all}
 use Rattle.commit_laws.proofs.Rewritten.{all_new}
-use Rattle.reparent_laws.specs.Remaining.{AddsNothing, IsOneOf}
-
--- ---- each event of a list is found by its id
-
-found_later : (e : PlainEvent) (es xs : List PlainEvent) → find_event (id_of e) es ≡ None →
-    AllByRecursion (λ x. find_event (id_of x) es ≡ Some x) xs → AllByRecursion (λ x. find_event (id_of x) (e ∷ es) ≡ Some x) xs
-found_later e es [] none f = tt
-found_later e es (x ∷ xs) none f = (its (cases_Bool (same_id (id_of x) (id_of e))), found_later e es xs none f.1)
-  where
-    its : (same_id (id_of x) (id_of e) ≡ true) ⊎ (same_id (id_of x) (id_of e) ≡ false) → find_event (id_of x) (e ∷ es) ≡ Some x
-    its (inl same) =
-        let is : ◌≡◌ {A = Option PlainEvent} None (Some x) = sym none ∙ ap (λ id. find_event id es) (sym (same_id-true (id_of x) (id_of e) same)) ∙ f.0 in
-        absurd cc
-    its (inr other) = cond-false (same_id (id_of x) (id_of e)) (Some e) (find_event (id_of x) es) other ∙ f.0
-
-each_found : (es : List PlainEvent) → AreDistinct es → AllByRecursion (λ e. find_event (id_of e) es ≡ Some e) es
-each_found [] d = tt
-each_found (e ∷ es) d = (
-  cond-true (same_id (id_of e) (id_of e)) (Some e) (find_event (id_of e) es) (same_id-refl (id_of e)),
-  found_later e es es d.0 (each_found es d.1),
-)
+use Rattle.reparent_laws.specs.Remaining.{IsOneOf}
 
 -- ---- one commit
 
@@ -71,44 +51,7 @@ module _ (c : ℕ) (how : Rewrite) where
       (λ e f. (e, ap (λ id. find_event id events) (rewritten_id e) ∙ f, refl))
       events (each_found events (sound-once events h).ids)
 
-  no_greater : (f : PlainEvent → ℕ) → ((e : PlainEvent) → f (rewritten c how e) ≤ f e) → (es : List PlainEvent) → tally f (rewritten_all c how es) ≤ tally f es
-  no_greater f less [] = omega arith
-  no_greater f less (e ∷ es) = let first = less e in let rest = no_greater f less es in omega arith
-
 -- ---- sums
-
-abbrev one : PlainEvent → ℕ
-one e = 1
-
-counted : (es : List PlainEvent) → tally one es ≡ length es
-counted [] = refl
-counted (e ∷ es) = let rest = counted es in omega arith
-
-abbrev own_aliases : PlainEvent → ℕ
-own_aliases e = alias_count (e ∷ [])
-
-aliases_counted : (es : List PlainEvent) → tally own_aliases es ≡ alias_count es
-aliases_counted [] = refl
-aliases_counted (Commit id mark branch author committer encoding comment parents ops aliases ∷ es) = let rest = aliases_counted es in omega arith
-aliases_counted (Blob id mark bytes ∷ es) = let rest = aliases_counted es in omega arith
-aliases_counted (Tag id name target tagger comment mark ∷ es) = let rest = aliases_counted es in omega arith
-aliases_counted (Reset id branch target ∷ es) = let rest = aliases_counted es in omega arith
-aliases_counted (Pass id line ∷ es) = let rest = aliases_counted es in omega arith
-
-abbrev own_ops : PlainEvent → ℕ
-own_ops e = length (ops_along (nodes (e ∷ [])))
-
-ops_counted : (es : List PlainEvent) → tally own_ops es ≡ length (ops_along (nodes es))
-ops_counted [] = refl
-ops_counted (Commit id mark branch author committer encoding comment parents ops aliases ∷ es) =
-    let rest = ops_counted es in
-    let own = length-append ops [] in
-    let whole = length-append ops (ops_along (nodes es)) in
-    omega arith
-ops_counted (Blob id mark bytes ∷ es) = let rest = ops_counted es in omega arith
-ops_counted (Tag id name target tagger comment mark ∷ es) = let rest = ops_counted es in omega arith
-ops_counted (Reset id branch target ∷ es) = let rest = ops_counted es in omega arith
-ops_counted (Pass id line ∷ es) = let rest = ops_counted es in omega arith
 
 -- no more operations than the commit had
 fewer_ops : (c : ℕ) (how : Rewrite) → ((parents : List ℕ) (ops : List FileOp) → length (how.ops parents ops) ≤ length ops) → (e : PlainEvent) → own_ops (rewritten c how e) ≤ own_ops e
@@ -126,29 +69,16 @@ fewer_ops c how less (Pass id line) = omega arith
 
 module _ (c : ℕ) (how : Rewrite) (events new : List PlainEvent) (taken : (f : PlainEvent → ℕ) → tally f new ≤ tally f (rewritten_all c how events)) where
   pub no_more : (f : PlainEvent → ℕ) → ((e : PlainEvent) → f (rewritten c how e) ≤ f e) → tally f new ≤ tally f events
-  no_more f less = let first = taken f in let rest = no_greater c how f less events in omega arith
+  no_more f less = let first = taken f in let rest = mapped_no_greater f (rewritten c how) less events in omega arith
 
   same_no_more : (f : PlainEvent → ℕ) → ((e : PlainEvent) → f (rewritten c how e) ≡ f e) → tally f new ≤ tally f events
   same_no_more f same = no_more f (λ e. let is = same e in omega arith)
 
-  -- what some event of the new list passes, one of the old list passes
-  none_new : (test : List PlainEvent → Bool) → ((xs ys : List PlainEvent) → test (xs ++ ys) ≡ test xs || test ys) →
-      test [] ≡ false → ((e : PlainEvent) → test (rewritten c how e ∷ []) ≡ test (e ∷ [])) → test new ≡ true → test events ≡ true
-  none_new test joins none same there =
-      elim (cases_Bool (test events)) [
-        | inl was ↦ was
-        | inr never ↦
-            let some : 1 ≤ tally (λ x. one_if (test (x ∷ []))) new = some_passing test joins none new there in
-            let zero : tally (λ x. one_if (test (x ∷ []))) events ≡ 0 = none_passing test joins none events never in
-            let fewer : tally (λ x. one_if (test (x ∷ []))) new ≤ tally (λ x. one_if (test (x ∷ []))) events = same_no_more (λ x. one_if (test (x ∷ []))) (λ e. ap one_if (same e)) in
-            absurd (omega arith)
-      ]
-
   pub adds_nothing : AddsNothing events new
   adds_nothing = record {
     events = let fewer = same_no_more one (λ e. refl) in let before = counted events in let after = counted new in omega arith;
-    ids = λ id there. none_new (λ l. has_id l id) (λ xs ys. has_id-append xs ys id) refl (λ e. own_id (rewritten c how e) id ∙ ap (same_id id) (rewritten_id c how e) ∙ sym (own_id e id)) there;
-    marks = λ m there. none_new (λ l. is_marked l m) (λ xs ys. is_marked-append xs ys m) refl (alike c how (λ e. is_marked (e ∷ []) m) (λ i mark branch author committer encoding comment parents others ops more aliases. refl)) there;
+    ids = λ id there. none_new (λ l. has_id l id) (λ xs ys. has_id-append xs ys id) refl events new (same_no_more (of_id id) (λ e. ap one_if (own_id (rewritten c how e) id ∙ ap (same_id id) (rewritten_id c how e) ∙ sym (own_id e id)))) there;
+    marks = λ m there. none_new (λ l. is_marked l m) (λ xs ys. is_marked-append xs ys m) refl events new (same_no_more (of_mark m) (alike c how (of_mark m) (λ i mark branch author committer encoding comment parents others ops more aliases. refl))) there;
     aliases =
         let fewer = same_no_more own_aliases (alike c how own_aliases (λ i mark branch author committer encoding comment parents others ops more aliases. refl)) in
         let before = aliases_counted events in

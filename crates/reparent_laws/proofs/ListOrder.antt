@@ -10,10 +10,11 @@ use Rattle.plain_model.specs.Histories.{Node, nodes}
 use Rattle.plain_model.specs.Lookups.{is_listed, place_of}
 use Rattle.plain_model.specs.Soundness.{IsCommitOf, IsSound, has_id}
 use Rattle.plain_model.proofs.Numbers.{eqb_turned}
-use Rattle.event_arena.specs.Once.{AreDistinct}
-use Rattle.event_arena.proofs.PlaceLemmas.{found-place, place-at, some_suc}
-use Rattle.event_arena.proofs.SoundLemmas.{has_id-find, sound-once}
-use Rattle.commit_laws.specs.Selected.{event_number, listed}
+use Rattle.history_laws.specs.Finding.{event_number}
+use Rattle.history_laws.specs.Once.{AreDistinct}
+use Rattle.history_laws.proofs.Ids.{found-place, place-at, some_suc}
+use Rattle.history_laws.proofs.SoundOnce.{has_id-find, sound-once}
+use Rattle.commit_laws.specs.Selected.{listed}
 
 -- what has a place is there
 placed_there : (es : List PlainEvent) (id : AnyId) (p : ℕ) → place_of id es ≡ Some p → has_id es id ≡ true

@@ -18,8 +18,10 @@ use Rattle.plain_model.specs.Trees.{Tree}
 use Rattle.plain_model.proofs.Numbers.{eqb_turned}
 use Rattle.history_laws.proofs.Lists.{all_join}
 use Rattle.edit_laws.specs.Equations.{Fits}
+use Rattle.edit_laws.specs.Keeping.{AddsNothing, KeepsTrees}
 use Rattle.edit_laws.specs.Parts.{AreInOrder, HasFewParents}
 use Rattle.edit_laws.specs.Passing.{IsWithinLimits, limit_fault}
+use Rattle.edit_laws.proofs.Fine.{IsFine, There}
 use Rattle.edit_laws.proofs.Limits.{limits_hold}
 use Rattle.edit_laws.proofs.Settles.{sound_settles}
 use Rattle.edit_laws.proofs.Shown.{shown_alike}
@@ -27,11 +29,11 @@ use Rattle.edit_laws.proofs.Sound.{from_parts, in_parts}
 use Rattle.edit_laws.proofs.Trees.{trees_solve}
 use Rattle.commit_laws.specs.Rewriting.{Rewrite, rewritten_all}
 use Rattle.commit_laws.specs.Selected.{kind_fault, listed, the_commit}
-use Rattle.commit_laws.proofs.Given.{IsFine, IsHere, There, all_take}
+use Rattle.commit_laws.proofs.Given.{IsHere, all_take}
 use Rattle.commit_laws.proofs.Rewritten.{MayHave, all_fit, bytes_new, few_new, ids_same, in_order, lawful_all, once_same, spelled_all}
 use Rattle.commit_laws.proofs.Selections.{listed_distinct, listed_here, low_before}
 use Rattle.reparent_laws.specs.Merge.{merge_of, merge_these, merges, ops_with_parent, unmerge_of, unmerges, with_parent}
-use Rattle.reparent_laws.specs.Remaining.{AddsNothing, IsOneOf, KeepsTrees}
+use Rattle.reparent_laws.specs.Remaining.{IsOneOf}
 use Rattle.reparent_laws.proofs.Changed.{adds_nothing, one_of_all, still_within}
 use Rattle.reparent_laws.proofs.Checked.{no_fault}
 

@@ -27,10 +27,13 @@ use Rattle.plain_model.specs.Soundness.{IsFormedEvent, IsSound, has_id}
 use Rattle.history_laws.proofs.Ids.{has_id-append, has_id-cons}
 use Rattle.history_laws.proofs.Lists.{all_join}
 use Rattle.edit_laws.specs.Equations.{Fits}
+use Rattle.edit_laws.specs.Keeping.{AddsNothing, HasOperationsOf, IsNoBlob}
 use Rattle.edit_laws.specs.Parts.{AreInOrder, AreOnce, CanBeSettled, HasFewParents, IsLawful, of_id, of_mark, tally}
 use Rattle.edit_laws.specs.Passing.{IsWithinLimits, limit_fault}
 use Rattle.edit_laws.specs.Settling.{settle}
 use Rattle.edit_laws.specs.Sweeping.{is_left_over}
+use Rattle.edit_laws.proofs.Checked.{none_of_both}
+use Rattle.edit_laws.proofs.Fine.{IsFine, There, joined_blobs, parted_blobs}
 use Rattle.edit_laws.proofs.Limits.{limits_hold}
 use Rattle.edit_laws.proofs.Lists.{OfNodes, all_filter, events_of_nodes, has_own_id, tally_filter}
 use Rattle.edit_laws.proofs.Settled.{settled}
@@ -38,18 +41,17 @@ use Rattle.edit_laws.proofs.Settles.{any_event, settled_all, settled_ids, settle
 use Rattle.edit_laws.proofs.Sound.{from_parts, in_parts}
 use Rattle.edit_laws.proofs.Swept.{swept_in_order}
 use Rattle.edit_laws.proofs.Trees.{trees_fit}
-use Rattle.commit_laws.specs.Remaining.{HasOperationsOf}
 use Rattle.commit_laws.specs.Rewriting.{Rewrite, rewritten, rewritten_all}
 use Rattle.commit_laws.specs.Selected.{node_of, the_commit}
-use Rattle.commit_laws.proofs.Given.{IsFine, IsGiven, There, all_drop, all_given, all_take, joined_blobs, parted_blobs, rank}
+use Rattle.commit_laws.proofs.Given.{IsGiven, all_drop, all_given, all_take, rank}
 use Rattle.commit_laws.proofs.Rewritten.{all_new, can_settle, few_new, ids_same, in_order, lawful_all, once_same, spelled_all}
 use Rattle.reparent_laws.specs.Faults.{any_fault, tree_fault, unless_fault}
 use Rattle.reparent_laws.specs.Operations.{add_of, add_to, adds, as_blob, content_of, op_of, ops_without, removal_fault, remove_of, removed, removes}
-use Rattle.reparent_laws.specs.Remaining.{AddsNothing, IsNoBlob, IsOneOf}
+use Rattle.reparent_laws.specs.Remaining.{IsOneOf}
 use Rattle.reparent_laws.specs.declared.removal.Removal.{Removal}
 use Rattle.reparent_laws.specs.declared.removal.Removal.TheVariants.{Index, At}
 use Rattle.reparent_laws.proofs.Changed.{adds_nothing, one_of_all, still_within}
-use Rattle.reparent_laws.proofs.Checked.{CheckFinds, no_fault, none_of_both, trees_checked}
+use Rattle.reparent_laws.proofs.Checked.{no_fault, trees_checked}
 
 -- ---- add: the operation
 
@@ -144,10 +146,10 @@ module _ (events : List PlainEvent) (h : IsSound events) (c : ℕ) (op : FileOp)
           let is : ◌≡◌ {A = Result (List PlainEvent) (List PlainEvent)} (Err never) (Ok ends.0) = sym e ∙ ends.1 in
           absurd cc
 
-  added_sound : CheckFinds → (new : List PlainEvent) → IsAdded new → IsSound new
-  added_sound finds new a =
+  added_sound : (new : List PlainEvent) → IsAdded new → IsSound new
+  added_sound new a =
       let once = settled_once left new add_settles.once (settled (λ e. Unit {0}) left new (any_event left) a.is) in
-      settled_sound left new add_settles a.is a.limits.few_parents (trees_checked finds new once (settled_in_order left new a.is) a.found)
+      settled_sound left new add_settles a.is a.limits.few_parents (trees_checked new once (settled_in_order left new a.is) a.found)
 
 module _ (spelled : RawOp) (set : List AnyId) (events new : List PlainEvent) (h : IsSound events) (its : HasItsContent spelled) (fits : OpFits spelled) (d : add_of spelled set events ≡ Ok new) where
   -- for whatever is true where an operation was added to a commit
@@ -163,8 +165,8 @@ module _ (spelled : RawOp) (set : List AnyId) (events new : List PlainEvent) (h 
       first (Ok c) d = second c (op_of events spelled) refl d
       first (Err why) d = absurd cc
 
-  pub add_sound : CheckFinds → IsSound new
-  add_sound finds = of_added (IsSound new) (λ c op fine a. added_sound events h c op fine finds new a)
+  pub add_sound : IsSound new
+  add_sound = of_added (IsSound new) (λ c op fine a. added_sound events h c op fine new a)
 
   pub add_limits : IsWithinLimits new
   add_limits = of_added (IsWithinLimits new) (λ c op fine a. a.limits)
@@ -175,8 +177,8 @@ module _ (spelled : RawOp) (set : List AnyId) (events new : List PlainEvent) (h 
   pub add_adds_nothing : AddsNothing events new
   add_adds_nothing = of_added (AddsNothing events new) (λ c op fine a. adds_nothing c (adds op) events new (λ f. let same = settled_sums (left events h c op fine) new a.is f in omega arith))
 
-  pub add_fits : CheckFinds → AllByRecursion (Fits (tree new)) (nodes new)
-  add_fits finds = let parts = in_parts new (add_sound finds) in trees_fit new parts.once parts.in_order
+  pub add_fits : AllByRecursion (Fits (tree new)) (nodes new)
+  add_fits = let parts = in_parts new add_sound in trees_fit new parts.once parts.in_order
 
 pub add_changes_one : (spelled : RawOp) (op : FileOp) (c : ℕ) (events new : List PlainEvent) → IsSound events → HasItsContent spelled → OpFits spelled → op_of events spelled ≡ Ok op → add_of spelled (any.Commit c ∷ []) events ≡ Ok new →
     AllByRecursion (IsOneOf c (adds op) events) new
@@ -226,7 +228,7 @@ add_others spelled c events new h its fits d = go (op_of events spelled) refl d
 
 -- ---- remove
 
-without_all : (P : FileOp → Type 0) (what : Removal) (ops : List FileOp) → AllByRecursion P ops → AllByRecursion P (ops_without what ops)
+pub without_all : (P : FileOp → Type 0) (what : Removal) (ops : List FileOp) → AllByRecursion P ops → AllByRecursion P (ops_without what ops)
 without_all P (Index number) ops a = all_join P (take (number - 1) ops) (drop (suc (number - 1)) ops) (all_take P (number - 1) ops a) (all_drop P (suc (number - 1)) ops a)
 without_all P (At path) ops a = all_filter P _ ops a
 
@@ -269,14 +271,14 @@ module _ (events : List PlainEvent) (h : IsSound events) (c : ℕ) (what : Remov
       (λ xs e es is its parents ops a b. (a, joined_blobs xs (ops_without what ops) (without_all (λ op. AllByRecursion (There xs) (op_blobs op)) what ops (parted_blobs xs ops b))))
       (in_parts events h).in_order)
 
-  removed_sound : CheckFinds → tree_fault (removed events c what) ≡ None → IsSound (removed events c what)
-  removed_sound finds found = from_parts (removed events c what) (record {
+  removed_sound : tree_fault (removed events c what) ≡ None → IsSound (removed events c what)
+  removed_sound found = from_parts (removed events c what) (record {
     lawful = all_filter IsLawful kept fewer (lawful_all c (removes what) events h (λ parents ops m. record { distinct = m.distinct; here = m.here; fine = without_all (IsFine events) what ops m.fine }));
     spelled = all_filter IsFormedEvent kept fewer (spelled_all c (removes what) events h (λ parents ops m. record { distinct = m.distinct; here = m.here; fine = without_all (IsFine events) what ops m.fine }));
     few = all_filter HasFewParents kept fewer (few_new c (removes what) events (λ parents f. f) (in_parts events h).few);
     once = removed_once;
     in_order = removed_order;
-    trees = trees_checked finds (removed events c what) removed_once removed_order found;
+    trees = trees_checked (removed events c what) removed_once removed_order found;
   })
 
 module _ (what : Removal) (set : List AnyId) (events new : List PlainEvent) (h : IsSound events) (d : remove_of what set events ≡ Ok new) where
@@ -293,8 +295,8 @@ module _ (what : Removal) (set : List AnyId) (events new : List PlainEvent) (h :
       first (Ok c) d = second c (removal_fault what (node_of events c).ops) d
       first (Err why) d = absurd cc
 
-  pub remove_sound : CheckFinds → IsSound new
-  remove_sound finds = of_removed IsSound (λ c found. removed_sound events h c what finds found)
+  pub remove_sound : IsSound new
+  remove_sound = of_removed IsSound (λ c found. removed_sound events h c what found)
 
   taken : (c : ℕ) (f : PlainEvent → ℕ) → tally f (removed events c what) ≤ tally f (rewritten_all c (removes what) events)
   taken c f = tally_filter f (kept events h c what) (fewer events h c what)
@@ -302,12 +304,12 @@ module _ (what : Removal) (set : List AnyId) (events new : List PlainEvent) (h :
   pub remove_adds_nothing : AddsNothing events new
   remove_adds_nothing = of_removed (AddsNothing events) (λ c found. adds_nothing c (removes what) events (removed events c what) (taken c))
 
-  pub remove_limits : CheckFinds → IsWithinLimits events → IsWithinLimits new
-  remove_limits finds within =
-      of_removed IsWithinLimits (λ c found. still_within c (removes what) events (removed events c what) (taken c) (λ parents ops. without_no_more what ops) (in_parts (removed events c what) (removed_sound events h c what finds found)).few within)
+  pub remove_limits : IsWithinLimits events → IsWithinLimits new
+  remove_limits within =
+      of_removed IsWithinLimits (λ c found. still_within c (removes what) events (removed events c what) (taken c) (λ parents ops. without_no_more what ops) (in_parts (removed events c what) (removed_sound events h c what found)).few within)
 
-  pub remove_fits : CheckFinds → AllByRecursion (Fits (tree new)) (nodes new)
-  remove_fits finds = let parts = in_parts new (remove_sound finds) in trees_fit new parts.once parts.in_order
+  pub remove_fits : AllByRecursion (Fits (tree new)) (nodes new)
+  remove_fits = let parts = in_parts new remove_sound in trees_fit new parts.once parts.in_order
 
 -- ---- of one commit
 

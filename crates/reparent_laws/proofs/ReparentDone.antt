@@ -14,6 +14,7 @@ use Rattle.plain_model.specs.Histories.{nodes, tree}
 use Rattle.plain_model.specs.Snapshots.{commit_mark}
 use Rattle.plain_model.specs.Soundness.{IsCommitOf, IsSound, are_distinct, has_id}
 use Rattle.edit_laws.specs.Equations.{Fits}
+use Rattle.edit_laws.specs.Keeping.{AddsNothing, HasOperationsOf, KeepsTrees}
 use Rattle.edit_laws.specs.Passing.{IsWithinLimits, limit_fault}
 use Rattle.edit_laws.proofs.Limits.{limits_hold}
 use Rattle.edit_laws.proofs.Lists.{OfNodes, all_front, all_rear, events_of_nodes}
@@ -22,16 +23,16 @@ use Rattle.edit_laws.proofs.Settles.{any_event, settled_all, settled_in_order, s
 use Rattle.edit_laws.proofs.Shown.{shown_alike}
 use Rattle.edit_laws.proofs.Sound.{in_parts}
 use Rattle.edit_laws.proofs.Trees.{trees_fit}
-use Rattle.commit_laws.specs.Remaining.{HasOperationsOf}
 use Rattle.commit_laws.specs.Selected.{kind_fault}
 use Rattle.edit_laws.specs.Selecting.{IsSelection}
+use Rattle.edit_laws.proofs.Checked.{none_of_both}
 use Rattle.commit_laws.proofs.Given.{IsHere}
 use Rattle.commit_laws.proofs.Rewritten.{ops_all}
 use Rattle.commit_laws.proofs.Selections.{chosen_distinct, chosen_here, listed_distinct, listed_here}
 use Rattle.reparent_laws.specs.Faults.{tree_fault, unless_fault}
-use Rattle.reparent_laws.specs.Remaining.{AddsNothing, IsOneOf, KeepsTrees}
+use Rattle.reparent_laws.specs.Remaining.{IsOneOf}
 use Rattle.reparent_laws.specs.Reparent.{descendant, fault_after, ordered, reparent_commit, reparent_last, reparent_of, reparented, reparents}
-use Rattle.reparent_laws.proofs.Checked.{CheckFinds, no_fault, none_of_both, trees_checked}
+use Rattle.reparent_laws.proofs.Checked.{no_fault, trees_checked}
 use Rattle.reparent_laws.proofs.Reparented.{changes_one, kept_trees, left, left_ends, left_settles, no_event_more, same_bytes, same_ids}
 
 -- ---- the commits that it is for
@@ -45,7 +46,7 @@ ordered_distinct true set events h s = chosen_distinct set s.apart
 ordered_distinct false set events h s = listed_distinct set events h
 
 -- what is before some items of a list without repeats has none
-distinct_front : (xs ys : List ℕ) → are_distinct (xs ++ ys) ≡ true → are_distinct xs ≡ true
+pub distinct_front : (xs ys : List ℕ) → are_distinct (xs ++ ys) ≡ true → are_distinct xs ≡ true
 distinct_front [] ys h = refl
 distinct_front (x ∷ xs) ys h =
     let parts = and_parts (not (list_any (λ m. m == x) (xs ++ ys))) (are_distinct (xs ++ ys)) h in
@@ -100,25 +101,25 @@ module _ (rebase : Bool) (events : List PlainEvent) (h : IsSound events) (c : �
       its_ids : (id : AnyId) → has_id after id ≡ has_id events id
       its_ids = same_ids rebase events h c new there here_new distinct_new after done.is
 
-      its_trees : CheckFinds → (x : ℕ) → IsCommitOf after x → IsSome (tree after x)
-      its_trees finds x k = go rebase refl done.fine
+      its_trees : (x : ℕ) → IsCommitOf after x → IsSome (tree after x)
+      its_trees x k = go rebase refl done.fine
         where
           go : (b : Bool) → rebase ≡ b → fault_after b after ≡ None → IsSome (tree after x)
           go true e fine =
               let can = left_settles rebase events h c new there here_new distinct_new done.none in
               let once = settled_once its after can.once (settled (λ e. Unit {0}) its after (any_event its) done.is) in
-              trees_checked finds after once (settled_in_order its after done.is) (none_of_both (limit_fault after) (tree_fault after) fine).1 x k
+              trees_checked after once (settled_in_order its after done.is) (none_of_both (limit_fault after) (tree_fault after) fine).1 x k
           go false e fine =
               subst IsSome (sym (kept_trees rebase events h c new there here_new distinct_new after done.is e x k)) (h.trees x (sym (its_ids (any.Commit x)) ∙ k))
 
-      its_sound : CheckFinds → IsSound after
-      its_sound finds =
-          settled_sound its after (left_settles rebase events h c new there here_new distinct_new done.none) done.is its_limits.few_parents (its_trees finds)
+      its_sound : IsSound after
+      its_sound =
+          settled_sound its after (left_settles rebase events h c new there here_new distinct_new done.none) done.is its_limits.few_parents its_trees
 
-      its_kept : CheckFinds → rebase ≡ false → KeepsTrees events after
-      its_kept finds default = record {
+      its_kept : rebase ≡ false → KeepsTrees events after
+      its_kept default = record {
         trees = kept;
-        shown = λ x k. shown_alike events after (same_bytes rebase events h c new there here_new distinct_new after done.is) (sound_settles after (its_sound finds)).complete x x (kept x k);
+        shown = λ x k. shown_alike events after (same_bytes rebase events h c new there here_new distinct_new after done.is) (sound_settles after its_sound).complete x x (kept x k);
       }
         where
           kept : (x : ℕ) → IsCommitOf events x → tree after x ≡ tree events x
@@ -174,8 +175,8 @@ module _ (use_order rebase : Bool) (set : List AnyId) (events after : List Plain
   done_of : (new : List ℕ) (c : ℕ) (is : ordered use_order set events ≡ new ++ c ∷ []) → reparent_commit rebase events c new ≡ Ok after → IsDone rebase events c new after
   done_of new c is d = commit_done rebase events h c new after (here_c new c is) (here_new new c is) (distinct_new new c is) d
 
-  pub done_sound : CheckFinds → IsSound after
-  done_sound finds = of_last (IsSound after) (λ new c is x. its_sound rebase events h c new after (here_c new c is) (here_new new c is) (distinct_new new c is) (done_of new c is x) finds)
+  pub done_sound : IsSound after
+  done_sound = of_last (IsSound after) (λ new c is x. its_sound rebase events h c new after (here_c new c is) (here_new new c is) (distinct_new new c is) (done_of new c is x))
 
   pub done_limits : IsWithinLimits after
   done_limits = of_last (IsWithinLimits after) (λ new c is x. its_limits rebase events h c new after (here_c new c is) (here_new new c is) (distinct_new new c is) (done_of new c is x))
@@ -191,17 +192,17 @@ module _ (use_order rebase : Bool) (set : List AnyId) (events after : List Plain
       let x = sym (last_is rebase events others c) ∙ sym (ap (reparent_last rebase events) is) ∙ of_commits in
       its_change rebase events h c others after (here_c others c is) (here_new others c is) (distinct_new others c is) (done_of others c is x)
 
-  keeps : CheckFinds → rebase ≡ false → KeepsTrees events after
-  keeps finds default = of_last (KeepsTrees events after) (λ new c is x. its_kept rebase events h c new after (here_c new c is) (here_new new c is) (distinct_new new c is) (done_of new c is x) finds default)
+  keeps : rebase ≡ false → KeepsTrees events after
+  keeps default = of_last (KeepsTrees events after) (λ new c is x. its_kept rebase events h c new after (here_c new c is) (here_new new c is) (distinct_new new c is) (done_of new c is x) default)
 
   replays : rebase ≡ true → AllByRecursion (HasOperationsOf events) (nodes after)
   replays rebased = of_last (AllByRecursion (HasOperationsOf events) (nodes after)) (λ new c is x. its_ops rebase events h c new after (here_c new c is) (here_new new c is) (distinct_new new c is) (done_of new c is x) rebased)
 
-  pub done_fits : CheckFinds → AllByRecursion (Fits (tree after)) (nodes after)
-  done_fits finds = let parts = in_parts after (done_sound finds) in trees_fit after parts.once parts.in_order
+  pub done_fits : AllByRecursion (Fits (tree after)) (nodes after)
+  done_fits = let parts = in_parts after done_sound in trees_fit after parts.once parts.in_order
 
-pub done_keeps : CheckFinds → (use_order : Bool) (set : List AnyId) (events after : List PlainEvent) → IsSound events → IsSelection events set → reparent_of use_order false set events ≡ Ok after → KeepsTrees events after
-done_keeps finds use_order set events after h sel d = keeps use_order false set events after h sel d finds refl
+pub done_keeps : (use_order : Bool) (set : List AnyId) (events after : List PlainEvent) → IsSound events → IsSelection events set → reparent_of use_order false set events ≡ Ok after → KeepsTrees events after
+done_keeps use_order set events after h sel d = keeps use_order false set events after h sel d refl
 
 pub done_ops : (use_order : Bool) (set : List AnyId) (events after : List PlainEvent) → IsSound events → IsSelection events set → reparent_of use_order true set events ≡ Ok after → AllByRecursion (HasOperationsOf events) (nodes after)
 done_ops use_order set events after h sel d = replays use_order true set events after h sel d refl

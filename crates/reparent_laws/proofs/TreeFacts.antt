@@ -1,5 +1,5 @@
 -- What is true of each tree of a sound history: it is sound, and each put of its entries may stand in the history.
-use Rattle.std.proofs.Common.{◌≡◌, ℕ, suc, ◌≤◌, Bool, true, false, cond, not, List, [], ◌∷◌, length, refl, sym, subst, arith, true≢false, Option, Some, None, Result, Ok, Err, nat_lt, ltb-false}
+use Rattle.std.proofs.Common.{◌≡◌, ℕ, ◌≤◌, true, false, cond, not, List, [], ◌∷◌, length, refl, sym, subst, arith, true≢false, Option, Some, None, Result, Ok, Err}
 use Rattle.std.specs.Prelude.{◌==◌, IfOk}
 use Rattle.std.specs.List.{AllByRecursion}
 use Rattle.plain_model.specs.declared.limit.TheConstants.{MAX_PATHS}
@@ -11,37 +11,20 @@ use Rattle.plain_model.specs.declared.operation.Content.TheVariants.{Blob as OfB
 use Rattle.plain_model.specs.declared.operation.FileOp.{FileOp}
 use Rattle.plain_model.specs.declared.operation.FileOp.TheVariants.{Modify, Delete, Copy, Rename, DeleteAll}
 use Rattle.plain_model.specs.declared.event.PlainEvent.{PlainEvent}
-use Rattle.plain_model.specs.declared.event.PlainEvent.TheVariants.{Blob, Commit, Tag, Reset, Pass}
 use Rattle.plain_model.specs.Histories.{Node, Past, begun, folded, if_ok, nodes, past, tree, tree_in}
 use Rattle.plain_model.specs.Paths.{Bytes, IsPath, is_at_or_below}
 use Rattle.plain_model.specs.Soundness.{IsFormedOp, IsSound}
-use Rattle.plain_model.specs.Trees.{IsTree, Refusal, Tree, apply, apply_all, cleared_for, has, has_long_path, meaning, moved, placed, put, put_all, subtree, where_path, within_paths, without, ◌>>=◌}
-use Rattle.plain_model.specs.Trees.Refusal.{PathBytes, Paths}
+use Rattle.plain_model.specs.Trees.{IsTree, Refusal, Tree, apply, apply_all, cleared_for, has, meaning, put, subtree, without, ◌>>=◌}
 use Rattle.history_laws.proofs.Lists.{all_imply}
 use Rattle.history_laws.proofs.TreeLaws.{apply_tree}
 use Rattle.ancestry_laws.proofs.Pasts.{all_reverse}
-use Rattle.edit_laws.proofs.Lists.{OfNodes, events_of_nodes}
 use Rattle.edit_laws.proofs.Shown.{IfTree, Puts, all_in}
-use Rattle.path_tree.specs.Sound.{IsSound as IsSoundTree}
-use Rattle.path_tree.proofs.KeptPaths.{PutsAtPath, change_paths}
-use Rattle.commit_laws.proofs.Given.{IsFine, IsGiven, all_given, fine_ops, rank}
+use Rattle.history_laws.specs.SoundTrees.{IsSound as IsSoundTree}
+use Rattle.history_laws.proofs.KeptPaths.{PutsAtPath, change_paths}
+use Rattle.history_laws.proofs.TreeMaps.{entries_found, few_within, found_has, length_where, placed_small}
+use Rattle.edit_laws.proofs.Fine.{IsFine}
+use Rattle.edit_laws.proofs.Settles.{fine_nodes}
 use Rattle.reparent_laws.specs.WrittenOut.{puts_of}
-use Rattle.reparent_laws.proofs.Puts.{each_found, found_has}
-
--- ---- the operations of a history
-
-pub fine_nodes : (events : List PlainEvent) → IsSound events → AllByRecursion (λ (n : Node). AllByRecursion (IsFine events) n.ops) (nodes events)
-fine_nodes events h =
-    events_of_nodes (λ (n : Node). AllByRecursion (IsFine events) n.ops) events
-    (all_imply (IsGiven events (rank events h)) (OfNodes (λ (n : Node). AllByRecursion (IsFine events) n.ops)) each events (all_given events h))
-  where
-    each : (e : PlainEvent) → IsGiven events (rank events h) e → OfNodes (λ (n : Node). AllByRecursion (IsFine events) n.ops) e
-    each (Commit id mark branch author committer encoding comment parents ops aliases) g =
-        (fine_ops events parents ops g.lawful.5 g.spelled.1 g.ready, tt)
-    each (Blob id mark bytes) g = tt
-    each (Tag id name target tagger comment mark) g = tt
-    each (Reset id branch target) g = tt
-    each (Pass id line) g = tt
 
 -- ---- what each operation keeps is true of each tree
 
@@ -83,35 +66,14 @@ module _ (Q : Tree → Type 0) (P : FileOp → Type 0) (empty : Q []) (step : (o
 
 -- ---- the limit on paths
 
-within_ok : (tree new : Tree) → within_paths tree ≡ Ok new → length new ≤ MAX_PATHS
-within_ok tree new h = go (nat_lt MAX_PATHS (length tree)) refl h
-  where
-    go : (b : Bool) → nat_lt MAX_PATHS (length tree) ≡ b → cond b (Err Paths) (Ok tree) ≡ Ok new → length new ≤ MAX_PATHS
-    go true e x = absurd cc
-    go false e x = let is : tree ≡ new = cc in subst (λ (t : Tree). length t ≤ MAX_PATHS) is (ltb-false MAX_PATHS (length tree) e)
-
-length_where : (f : Bytes → Bool) (t : Tree) → length (where_path f t) ≤ length t
-length_where f [] = omega arith
-length_where f (e ∷ es) =
-    let rest = length_where f es in
-    elim (f e.0) as (λ b. length (cond b (e ∷ where_path f es) (where_path f es)) ≤ suc (length es)) [ true ↦ omega arith | false ↦ omega arith ]
-
-placed_few : (source target : Bytes) (taken base new : Tree) → placed source target taken base ≡ Ok new → length new ≤ MAX_PATHS
-placed_few source target [] base new h = absurd cc
-placed_few source target (e ∷ taken) base new h = go (has_long_path (moved source target (e ∷ taken))) h
-  where
-    go : (b : Bool) → cond b (Err PathBytes) (within_paths (put_all (moved source target (e ∷ taken)) (cleared_for target base))) ≡ Ok new → length new ≤ MAX_PATHS
-    go true x = absurd cc
-    go false x = within_ok (put_all (moved source target (e ∷ taken)) (cleared_for target base)) new x
-
 few_after : (op : FileOp) (old new : Tree) → apply op old ≡ Ok new → length old ≤ MAX_PATHS → length new ≤ MAX_PATHS
-few_after (Modify mode content path) old new h few = within_ok (put path (record { mode = mode; content = content }) (cleared_for path old)) new h
+few_after (Modify mode content path) old new h few = few_within (put path (record { mode = mode; content = content }) (cleared_for path old)) new h
 few_after (Delete path) old new h few =
     let is : without path old ≡ new = cc in
     let less = length_where (λ q. not (is_at_or_below path q)) old in
     subst (λ (t : Tree). length t ≤ MAX_PATHS) is (omega arith)
-few_after (Copy source target) old new h few = placed_few source target (subtree source old) old new h
-few_after (Rename source target) old new h few = placed_few source target (subtree source old) (without source old) new h
+few_after (Copy source target) old new h few = placed_small source target (subtree source old) old new h
+few_after (Rename source target) old new h few = placed_small source target (subtree source old) (without source old) new h
 few_after DeleteAll old new h few = let is : [] ≡ new = cc in subst (λ (t : Tree). length t ≤ MAX_PATHS) is (omega arith)
 
 -- ---- it is a tree of paths, within the limit
@@ -175,7 +137,7 @@ fine_entries events h c =
 -- each put of a tree may stand in the history
 pub puts_fine : (events : List PlainEvent) → IsSound events → (c : ℕ) (t : Tree) → tree events c ≡ Some t → AllByRecursion (IsFine events) (puts_of t)
 puts_fine events h c t is =
-    each t (subst (IfTree (IsFineEntry events)) is (fine_entries events h c)) (found_has t t (each_found t sound.form.in_order))
+    each t (subst (IfTree (IsFineEntry events)) is (fine_entries events h c)) (found_has t t (entries_found t sound.form.in_order))
   where
     sound : IsSoundTree t
     sound = tree_sound events h c t is

@@ -3,8 +3,8 @@ use Rattle.std.specs.Prelude.{List, Option, Some, None, Result, Ok, Err}
 use Rattle.std.specs.Option.{option_or}
 use Rattle.plain_model.specs.declared.fault.Fault.{Fault}
 use Rattle.plain_model.specs.declared.event.PlainEvent.{PlainEvent}
+use Rattle.edit_laws.specs.Checking.{first_fault}
 use Rattle.edit_laws.specs.Passing.{limit_fault}
-use Rattle.manifest_cache.specs.Checking.{first_fault}
 
 -- the first operation that a tree refuses
 abbrev pub tree_fault : List PlainEvent → Option Fault

@@ -41,18 +41,17 @@ ghost use Rattle.edit_laws.specs.Editing.{IsEdit, with_number};
 ghost use Rattle.edit_laws.specs.Passing.{IsWithinLimits};
 ghost use Rattle.edit_laws.specs.Settling.{settle};
 ghost use Rattle.edit_laws.specs.Sweeping.{is_named};
-ghost use Rattle.commit_laws.specs.Remaining.{HasOperationsOf};
+ghost use Rattle.edit_laws.specs.Keeping.{HasOperationsOf, KeepsTrees, AddsNothing, IsNoBlob};
 ghost use Rattle.commit_laws.specs.Rewriting.{rewritten_all};
-ghost use Rattle.commit_laws.specs.Selected.{event_number, listed, node_of};
+ghost use Rattle.commit_laws.specs.Selected.{listed, node_of};
+ghost use Rattle.history_laws.specs.Finding.{event_number};
 ghost use Rattle.edit_laws.specs.Selecting.{IsSelection};
 ghost use Rattle.reparent_laws.specs.declared.removal.Removal.{Removal};
 ghost use Rattle.reparent_laws.specs.Merge.{merge_of, merges, unmerge_of, unmerges};
 ghost use Rattle.reparent_laws.specs.Operations.{add_of, adds, op_of, remove_of, removes};
-ghost use Rattle.reparent_laws.specs.Remaining.{AddsNothing, IsNoBlob, IsOneOf, KeepsTrees};
+ghost use Rattle.reparent_laws.specs.Remaining.{IsOneOf};
 ghost use Rattle.reparent_laws.specs.Reparent.{descendant, ordered, reparent_of, reparented, reparents};
 ghost use Rattle.reparent_laws.specs.WrittenOut.{puts_of};
-
-use manifest_cache::the_check_finds_what_has_no_tree;
 
 /// A new parent is refused where a path of parents leads from it to the commit that is changed, and nowhere else.
 pub fn a_cycle_is_a_path_of_parents()
@@ -173,9 +172,7 @@ pub fn a_change_keeps_soundness()
         add_of spelled set events ≡ Ok new → IsSound new }
     ensures remove { (what : Removal) (set : List AnyId) (events new : List PlainEvent) →
         IsSound events → remove_of what set events ≡ Ok new → IsSound new }
-{
-    the_check_finds_what_has_no_tree();
-}
+{}
 
 /// What isn't refused is within the limits. An unmerge and a removal exceed none, where the history was within them.
 pub fn a_change_keeps_the_limits()
@@ -192,9 +189,7 @@ pub fn a_change_keeps_the_limits()
     ensures remove { (what : Removal) (set : List AnyId) (events new : List PlainEvent) →
         IsSound events → IsWithinLimits events → remove_of what set events ≡ Ok new →
         IsWithinLimits new }
-{
-    the_check_finds_what_has_no_tree();
-}
+{}
 
 /// A tree whose paths are put one by one after `deleteall` is there again, whatever was there before.
 pub fn a_tree_is_written_out()
@@ -212,9 +207,7 @@ pub fn other_parents_keep_trees()
         merge_of set events ≡ Ok new → KeepsTrees events new }
     ensures unmerge { (set : List AnyId) (events new : List PlainEvent) → IsSound events →
         unmerge_of set events ≡ Ok new → KeepsTrees events new }
-{
-    the_check_finds_what_has_no_tree();
-}
+{}
 
 /// After a rebase each commit has the operations that it had, and its tree is what they make of its first parent's.
 pub fn a_rebase_replays_operations()
@@ -224,9 +217,7 @@ pub fn a_rebase_replays_operations()
     ensures trees { (use_order : Bool) (set : List AnyId) (events new : List PlainEvent) →
         IsSound events → IsSelection events set → reparent_of use_order true set events ≡ Ok new →
         AllByRecursion (Fits (tree new)) (nodes new) }
-{
-    the_check_finds_what_has_no_tree();
-}
+{}
 
 /// After an operation was added or some were removed each other commit has the operations that it had, and the tree of
 /// every commit is what its operations make of its first parent's.
@@ -243,9 +234,7 @@ pub fn other_operations_are_replayed()
     ensures left_trees { (what : Removal) (set : List AnyId) (events new : List PlainEvent) →
         IsSound events → remove_of what set events ≡ Ok new →
         AllByRecursion (Fits (tree new)) (nodes new) }
-{
-    the_check_finds_what_has_no_tree();
-}
+{}
 
 /// Each change of one commit is an edit that gives no number: of a lawful history it makes a lawful one.
 pub fn a_change_is_an_edit()
@@ -257,6 +246,4 @@ pub fn a_change_is_an_edit()
         IsEdit (λ set next events. with_number next (add_of spelled set events)) }
     ensures remove { (what : Removal) → IsEdit (λ set next events.
         with_number next (remove_of what set events)) }
-{
-    the_check_finds_what_has_no_tree();
-}
+{}

@@ -26,10 +26,6 @@ two_items (x ∷ []) a b low high p q = absurd (omega arith)
 two_items (x ∷ y ∷ []) a b low high p q = λ i. sym p i ∷ sym q i ∷ []
 two_items (x ∷ y ∷ z ∷ cs) a b low high p q = absurd (omega arith)
 
-pub nil_of : {X : Type 0} (xs : List X) → length xs ≡ 0 → xs ≡ []
-nil_of [] h = refl
-nil_of (x ∷ xs) h = absurd (omega arith)
-
 -- only a root gets an operation more
 pub no_root : (ps : List ℕ) (ops : List FileOp) → (length ps == 0) ≡ false → ops_with_parent ps ops ≡ ops
 no_root [] ops h = absurd (true≢false h)

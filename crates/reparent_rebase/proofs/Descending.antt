@@ -1,27 +1,21 @@
 -- Which commits descend from some, by flags.
-use Rattle.std.proofs.Common.{◌≡◌, ◌∙◌, ℕ, zero, suc, ◌<◌, length, drop, get_or, arith, Bool, true, false, cond, List, [], ◌∷◌, ◌++◌, filter, map, Option, Some, None, refl, sym, ap, subst, eqb-true, find}
-use Rattle.std.specs.Prelude.{not, ◌||◌, ◌&&◌, ◌==◌, is_some}
+use Rattle.std.proofs.Common.{◌≡◌, ◌∙◌, ℕ, suc, ◌<◌, length, drop, get_or, Bool, true, false, cond, List, [], ◌∷◌, filter, map, Option, Some, None, refl, sym, ap, subst, eqb-true, find}
+use Rattle.std.specs.Prelude.{◌||◌, ◌&&◌, ◌==◌, is_some}
 use Rattle.std.specs.List.{AllByRecursion, list_any}
-use Rattle.std.proofs.lemmas.Bool.{and_from, and_parts, cond-false, not-true, or_parts}
-use Rattle.std.proofs.lemmas.List.Folds.{list_any-append}
+use Rattle.std.proofs.lemmas.Bool.{cond-false, or_parts}
 use Rattle.plain_model.specs.declared.id.AnyId.TheVariants as any
 use Rattle.plain_model.specs.declared.event.PlainEvent.{PlainEvent}
 use Rattle.plain_model.specs.declared.event.PlainEvent.TheVariants.{Blob, Commit, Tag, Reset, Pass}
 use Rattle.plain_model.specs.Histories.{Past, knows, past}
 use Rattle.plain_model.specs.Lookups.{is_listed, place_of}
-use Rattle.plain_model.specs.Soundness.{are_distinct, has_id}
+use Rattle.plain_model.specs.Soundness.{has_id}
 use Rattle.plain_model.proofs.Numbers.{eqb_turned}
 use Rattle.ancestry_laws.specs.Ancestry.{commits, descendants_of, descends, descends_in}
 use Rattle.ancestry_laws.proofs.Pasts.{known_past}
 use Rattle.graph_walk.specs.Flags.{FlagsOf, flag_at, is_flagged_commit}
+use Rattle.graph_walk.proofs.ExpansionLemmas.{drop_read}
 use Rattle.reparent_laws.specs.Reparent.{descendant}
 use Rattle.graph_walk.proofs.PlaceLemmas.{event_placed, has_id_place}
-
--- an item begins what is left
-next_item : (xs : List ℕ) (k x : ℕ) → k < length xs → x ≡ get_or xs k x → drop k xs ≡ x ∷ drop (suc k) xs
-next_item [] k x h g = absurd (omega arith)
-next_item (y ∷ xs) zero x h g = ap (λ z. z ∷ xs) (sym g)
-next_item (y ∷ xs) (suc k) x h g = next_item xs k x (omega arith) g
 
 -- what isn't known descends from nothing
 unknown_descends : (set : List ℕ) (older : Past) (c : ℕ) → knows older c ≡ false → descends_in set older c ≡ false
@@ -87,7 +81,7 @@ module _ (events : List PlainEvent) (set : List ℕ) (c : ℕ) where
 
 module _ (events : List PlainEvent) (c : ℕ) (ps : List ℕ) (k p : ℕ) (all : Option ℕ) (within : k < length ps) (item : p ≡ get_or ps k p) (so_far : descendant events c (drop k ps) ≡ all) where
   begun : descendant events c (p ∷ drop (suc k) ps) ≡ all
-  begun = ap (descendant events c) (sym (next_item ps k p within item)) ∙ so_far
+  begun = ap (descendant events c) (sym (drop_read ps k p within item)) ∙ so_far
 
   -- it is this one
   pub first_descends : descends events (c ∷ []) p ≡ true → all ≡ Some p
@@ -107,10 +101,3 @@ found_among P test (q ∷ ps) p a h = go (test q) h (found_among P test ps p a.1
     go false h f = f h
 
 -- ---- the front of a list without repeats
-
-pub distinct_front : (xs ys : List ℕ) → are_distinct (xs ++ ys) ≡ true → are_distinct xs ≡ true
-distinct_front [] ys h = refl
-distinct_front (x ∷ xs) ys h =
-    let parts = and_parts (not (list_any (λ m. m == x) (xs ++ ys))) (are_distinct (xs ++ ys)) h in
-    let absent = or_parts (list_any (λ m. m == x) xs) (list_any (λ m. m == x) ys) (sym (list_any-append (λ m. m == x) xs ys) ∙ not-true (list_any (λ m. m == x) (xs ++ ys)) parts.0) in
-    and_from (not (list_any (λ m. m == x) xs)) (are_distinct xs) (ap not absent.0) (distinct_front xs ys parts.1)

@@ -60,7 +60,7 @@ fn descendant(
     ensures { IfOk result (λ found. found ≡ descendant events.now.list commit parents.now) }
 {
     let ids = descendants(alloc, events, &[commit])?;
-    let flags = flags_of(alloc, events, ids.as_slice())?;
+    let flags = flags_of(alloc, events.table(), ids.as_slice())?;
     for parent in parents {
         if is_flagged(events, &flags, *parent) {
             return Ok(Some(*parent));

@@ -24,10 +24,10 @@ use Rattle.plain_model.specs.Paths.{Bytes, is_at_or_below, is_in_the_way}
 use Rattle.plain_model.specs.Soundness.{AreSoundAfter, IsCommitOf, IsFormedEvent, IsFormedOp, IsFormedSigned, IsSound, IsSoundEvent, RefersBack, are_distinct, has_id}
 use Rattle.plain_model.specs.Streams.{is_marked}
 use Rattle.plain_model.specs.Trees.{Tree, TreeOf, cleared_for, put, where_path, without}
+use Rattle.history_laws.specs.Counts.{ops_in}
 use Rattle.history_laws.proofs.Commits.{nodes_append}
 use Rattle.history_laws.proofs.Ids.{has_id-append, has_id_after, has_id_step, has_id_still, has_own, ids-below, is_marked-append, same_number}
 use Rattle.sample_history.specs.Sample.{blob_number, blob_of, commit_number, commit_of, file, folder, ops_of, parents_of, path_in, sample, sample_from, signed_at, drawn, stepped}
-use Rattle.stream_grammar.specs.Limits.{ops_in}
 use Rattle.sample_history.specs.declared.limit.TheConstants.{MAX_COMMITS}
 use Rattle.sample_history.proofs.Files.{is_file}
 

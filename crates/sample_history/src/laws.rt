@@ -3,7 +3,7 @@ ghost use Rattle.std.specs.Prelude.{◌≤◌, ℕ, length};
 ghost use Rattle.plain_model.specs.declared.limit.TheConstants.{MAX_ALIASES, MAX_EVENTS, MAX_OPERATIONS};
 ghost use Rattle.plain_model.specs.Lookups.{alias_count};
 ghost use Rattle.plain_model.specs.Soundness.{IsSound};
-ghost use Rattle.stream_grammar.specs.Limits.{ops_in};
+ghost use Rattle.history_laws.specs.Counts.{ops_in};
 ghost use Rattle.sample_history.specs.Sample.{sample};
 
 /// Every sample is a sound history, and within the limits of events, operations and aliases.

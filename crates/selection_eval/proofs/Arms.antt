@@ -1,16 +1,16 @@
 -- Each form of a selection: its texts, and its parts in turn.
 use Rattle.std.proofs.Common.{◌≡◌, ℕ, zero, suc, ◌+◌, ◌<◌, ◌≤◌, Bool, true, false, List, [], ◌∷◌, length, get_or, drop, map, Option, Some, None, Result, Ok, Err, Global, refl, sym, ap, subst, ◌∙◌, arith, IsTrue}
-use Rattle.std.specs.Prelude.{Vec, Box, ◌&&◌, slice_index_or}
+use Rattle.std.specs.Prelude.{Vec, Box, ◌&&◌}
 use Rattle.std.specs.List.{All}
 use Rattle.std.specs.Str.{is_utf8}
 use Rattle.plain_model.specs.Paths.{Bytes}
 use Rattle.plain_model.specs.declared.event.PlainEvent.{PlainEvent}
 use Rattle.plain_model.specs.declared.fault.Halt.{Halt}
-use Rattle.byte_patterns.specs.Judging.{Judged, Judges, ◌>>>◌}
+use Rattle.byte_patterns.specs.Judging.{◌>>>◌}
 use Rattle.event_sets.specs.declared.set.EventSet.{EventSet}
 use Rattle.event_sets.specs.Sets.{Ids}
 use Rattle.selection_parser.specs.Plain.{PlainSelection, PlainSelections, in_order}
-use Rattle.selection_parser.specs.Plain.PlainSelections.{none, more}
+use Rattle.selection_parser.specs.Plain.PlainSelections.{more}
 use Rattle.selection_parser.specs.Texts.{has_utf8_texts, have_utf8_texts}
 use Rattle.selection_parser.specs.Views.{plain_of}
 use Rattle.selection_parser.specs.declared.field.FieldSet.{FieldSet}
@@ -18,10 +18,10 @@ use Rattle.selection_parser.specs.declared.function.Function.{Function}
 use Rattle.selection_parser.specs.declared.selection.Selection.{Selection}
 use Rattle.selection_parser.specs.declared.selection.Selection.TheVariants as selection
 use Rattle.selection_parser.proofs.Layers.{plain-Union, plain-Both, plain-Not, plain-Near, plain-Call, plain-Search, plain-AtPattern}
-use Rattle.selection_eval.specs.Denoted.{denote, in_turn, joined, known}
+use Rattle.selection_eval.specs.Denoted.{denote, in_turn, joined}
 use Rattle.selection_eval.specs.Names.{Names}
 use Rattle.selection_eval.specs.Turning.{JudgesSet, step, turn}
-use Rattle.selection_eval.proofs.Judged.{stopped, went_on}
+use Rattle.byte_patterns.proofs.Judged.{stopped, went_on}
 use Rattle.selection_eval.proofs.Steps.{next_item}
 
 -- ---- texts

@@ -1,6 +1,6 @@
 -- Texts of days and moments.
 use Rattle.std.proofs.Common.{◌≡◌, ℕ, zero, suc, ◌<◌, ◌≤◌, Bool, true, false, List, [], ◌∷◌, length, get_or, length-drop, Option, Some, None, Err, inl, inr, refl, ap, ◌-◌, arith}
-use Rattle.std.specs.Prelude.{◌&&◌, ◌==◌, ◌/◌, take, drop, if◌then◌else◌}
+use Rattle.std.specs.Prelude.{◌&&◌, ◌/◌, take, drop, if◌then◌else◌}
 use Rattle.plain_model.specs.Paths.{Bytes}
 use Rattle.std.proofs.lemmas.Bool.{cases_Bool}
 use Rattle.plain_model.specs.declared.event.PlainEvent.{PlainEvent}
@@ -37,13 +37,6 @@ pub cut_at : (text : Bytes) (place : ℕ) → place < length text → get_or tex
 cut_at [] place lt is none = absurd (omega arith)
 cut_at (b ∷ text) zero lt is none = rw (none, is) refl
 cut_at (b ∷ text) (suc place) lt is none = rw (cut_at text place (omega arith) is none) refl
-
--- there is none from a place on that has another byte, where there is none after it
-pub none_from : (text : Bytes) (place : ℕ) → place < length text → (get_or text place 0 == 35) ≡ false
-    → at_last_sign (drop (suc place) text) ≡ None → at_last_sign (drop place text) ≡ None
-none_from [] place lt isnt none = absurd (omega arith)
-none_from (b ∷ text) zero lt isnt none = rw (none, isnt) refl
-none_from (b ∷ text) (suc place) lt isnt none = none_from text place (omega arith) isnt none
 
 pub none_after_all : (text : Bytes) → at_last_sign (drop (length text) text) ≡ None
 none_after_all [] = refl

@@ -1,17 +1,15 @@
 -- Events of a set, by their places in its list; and what a sound history says of an event at a place.
-use Rattle.std.proofs.Common.{◌≡◌, ℕ, zero, suc, Bool, true, false, List, [], ◌∷◌, ◌++◌, inl, inr, Option, Some, None, ◌≤◌, refl, ap, take, IsSome}
-use Rattle.std.specs.Prelude.{◌||◌, map, option_to_list, slice_get, IfSome}
+use Rattle.std.proofs.Common.{◌≡◌, ℕ, zero, suc, true, List, [], ◌∷◌, ◌++◌, inl, inr, Some, refl, IsSome}
+use Rattle.std.specs.Prelude.{option_to_list, slice_get}
 use Rattle.std.proofs.lemmas.Bool.{cases_Bool}
-use Rattle.plain_model.specs.Lookups.{find_event, id_of, is_listed, same_id}
-use Rattle.plain_model.specs.Soundness.{AreSoundAfter, IsFormedSigned, IsSound, IsSoundEvent}
+use Rattle.plain_model.specs.Lookups.{find_event, id_of, same_id}
+use Rattle.plain_model.specs.Soundness.{AreSoundAfter, IsSound}
 use Rattle.plain_model.specs.declared.id.AnyId.{AnyId}
 use Rattle.plain_model.specs.declared.event.PlainEvent.{PlainEvent}
-use Rattle.plain_model.specs.declared.event.PlainEvent.TheVariants.{Blob, Commit, Tag, Reset, Pass}
-use Rattle.plain_model.specs.declared.limit.TheConstants.{MAX_SECONDS}
-use Rattle.plain_model.specs.declared.person.Signed.{Signed}
+use Rattle.history_laws.specs.Finding.{IsDated}
+use Rattle.history_laws.proofs.SoundDates.{dated_event}
 use Rattle.event_sets.specs.Once.{AreLive}
 use Rattle.event_sets.specs.Sets.{Ids, is_live}
-use Rattle.selection_eval.specs.Moments.{IsDated}
 use Rattle.selection_eval.specs.Spots.{first}
 
 -- ---- lists
@@ -38,18 +36,6 @@ found_live events (x ∷ ids) (suc n) id h k = found_live events ids n id h.1 k
 
 -- ---- dates
 
-dated_tagger : (tagger : Option Signed) → IfSome tagger IsFormedSigned
-    → IfSome tagger (λ t. t.when.seconds ≤ MAX_SECONDS)
-dated_tagger (Some t) h = h.1
-dated_tagger None h = tt
-
-dated_event : (earlier : List PlainEvent) (e : PlainEvent) → IsSoundEvent earlier e → IsDated e
-dated_event earlier (Blob id mark bytes) h = tt
-dated_event earlier (Commit id mark branch author committer encoding comment parents ops aliases) h = h.4.1
-dated_event earlier (Tag id name target tagger comment mark) h = dated_tagger tagger h.3
-dated_event earlier (Reset id branch target) h = tt
-dated_event earlier (Pass id line) h = tt
-
 dated_after : (earlier events : List PlainEvent) (k : ℕ) (e : PlainEvent) → AreSoundAfter earlier events
     → slice_get events k ≡ Some e → IsDated e
 dated_after earlier [] zero e h k = absurd cc
@@ -62,10 +48,3 @@ pub dated_at : (events : List PlainEvent) (k : ℕ) (e : PlainEvent) → IsSound
 dated_at events k e h is = dated_after [] events k e h.formed is
 
 -- ---- one more
-
-pub map-more : {X Y : Type 0} (f : X → Y) (xs : List X) (k : ℕ) (x : X) → slice_get xs k ≡ Some x
-    → map f (take (suc k) xs) ≡ map f (take k xs) ++ f x ∷ []
-map-more f [] zero x h = absurd cc
-map-more f [] (suc k) x h = absurd cc
-map-more f (y ∷ xs) zero x h = let is : y ≡ x = cc in rw is refl
-map-more f (y ∷ xs) (suc k) x h = ap (λ l. f y ∷ l) (map-more f xs k x h)

@@ -2,7 +2,6 @@ mod Arms
 mod BigLaws
 mod Found
 mod DayTexts
-mod Judged
 mod LiveLaws
 mod LiveParts
 mod Marks

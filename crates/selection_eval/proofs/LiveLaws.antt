@@ -2,14 +2,13 @@
 use Rattle.std.proofs.Common.{ℕ, zero, suc, Bool, true, false, List, [], ◌∷◌, ◌++◌, length, Option, Some, None, Result, Ok, Err}
 use Rattle.std.specs.Prelude.{◌+◌, ◌==◌, ◌-◌, codes, drop, take, bytes_eq, slice_get, option_to_list, nat_lt, if◌then◌else◌}
 use Rattle.std.specs.List.{AllByRecursion}
-use Rattle.std.specs.Map.{lookup}
-use Rattle.plain_model.specs.Lookups.{event_at, find_mark}
+use Rattle.plain_model.specs.Lookups.{find_mark}
 use Rattle.plain_model.specs.Paths.{Bytes}
 use Rattle.plain_model.specs.Trees.{◌>>=◌}
-use Rattle.plain_model.specs.declared.id.AnyId.{AnyId}
 use Rattle.plain_model.specs.declared.event.PlainEvent.{PlainEvent}
 use Rattle.plain_model.specs.declared.fault.Fault.{Fault}
 use Rattle.plain_model.specs.declared.fault.Fault.TheVariants as fault
+use Rattle.history_laws.specs.Finding.{is_commit}
 use Rattle.byte_patterns.specs.Judging.{Judged, ◌>>>◌, next_of, pattern_of}
 use Rattle.selection_parser.specs.Plain.{PlainSelection, PlainSelections}
 use Rattle.selection_parser.specs.Plain.PlainSelection.{Union, Both, Not, Near, Call, Kinds, Search, AtPath, AtPattern, Listed}
@@ -27,7 +26,7 @@ use Rattle.selection_eval.specs.Denoted.{at_found, denote, in_turn, joined}
 use Rattle.selection_eval.specs.Given.{AreTipsLive, GivesLive}
 use Rattle.selection_eval.specs.Paths.{at_paths, in_trees}
 use Rattle.selection_eval.specs.Names.{Names, assigned}
-use Rattle.selection_eval.specs.Spots.{dated, end, first, first_some, has_stamp, is_at_moment, is_commit, is_committed, is_numbered, is_on_day, is_signed, stamp_dated, is_tag_of, item, itemized, with_item, with_items, assigned_or, named, picked, some_or, spot, stamped, tag_or_tip, tip}
+use Rattle.selection_eval.specs.Spots.{dated, end, first, first_some, has_stamp, is_at_moment, is_committed, is_numbered, is_on_day, is_signed, is_tag_of, item, with_item, with_items, assigned_or, named, picked, some_or, spot, stamped, tag_or_tip, tip}
 use Rattle.selection_eval.proofs.LiveParts.{all_passed, live_common, live_event, live_ids, live_mark, live_passing, live_union, stand_all}
 
 module _ (events : List PlainEvent) where

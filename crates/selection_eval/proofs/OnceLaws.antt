@@ -2,15 +2,14 @@
 use Rattle.std.proofs.Common.{◌≡◌, ℕ, zero, suc, Bool, true, false, List, [], ◌∷◌, ◌++◌, map, Option, Some, None, Result, Ok, Err, refl, subst}
 use Rattle.std.specs.Prelude.{◌+◌, ◌==◌, ◌-◌, codes, drop, take, bytes_eq, slice_get, option_to_list, length, nat_lt, if◌then◌else◌}
 use Rattle.std.specs.List.{AllByRecursion}
-use Rattle.std.specs.Map.{lookup}
 use Rattle.plain_model.specs.Lookups.{event_at, find_mark, id_of}
 use Rattle.plain_model.specs.Paths.{Bytes}
 use Rattle.plain_model.specs.Snapshots.{refs}
 use Rattle.plain_model.specs.Trees.{◌>>=◌, at}
-use Rattle.plain_model.specs.declared.id.AnyId.{AnyId}
 use Rattle.plain_model.specs.declared.event.PlainEvent.{PlainEvent}
 use Rattle.plain_model.specs.declared.fault.Fault.{Fault}
 use Rattle.plain_model.specs.declared.fault.Fault.TheVariants as fault
+use Rattle.history_laws.specs.Finding.{is_commit}
 use Rattle.byte_patterns.specs.Judging.{Judged, ◌>>>◌, next_of, pattern_of}
 use Rattle.selection_parser.specs.Plain.{PlainSelection, PlainSelections}
 use Rattle.selection_parser.specs.Plain.PlainSelection.{Union, Both, Not, Near, Call, Kinds, Search, AtPath, AtPattern, Listed}
@@ -26,10 +25,11 @@ use Rattle.selection_eval.specs.Denoted.{at_found, denote, in_turn, joined}
 use Rattle.selection_eval.specs.Given.{AreNamesOnce, GivesOnce, HaveOwnIds}
 use Rattle.event_sets.specs.Once.{IsOnce}
 use Rattle.selection_eval.specs.Paths.{at_paths, in_trees}
-use Rattle.event_sets.specs.Sets.{Ids, called, common, greatest, is_live, least, near_times, numbered, passing, union, unless_empty}
+use Rattle.event_sets.specs.Sets.{Ids, called, common, greatest, is_live, least, near_times, numbered, passing, union}
+use Rattle.event_sets.proofs.OnceLemmas.{once_part, once_some, once_union, once_unless}
 use Rattle.selection_eval.specs.Names.{Names, assigned}
-use Rattle.selection_eval.specs.Spots.{dated, end, first, first_some, has_stamp, is_at_moment, is_commit, is_committed, is_numbered, is_on_day, is_signed, stamp_dated, is_tag_of, item, itemized, with_item, with_items, assigned_or, named, picked, some_or, span, spot, stamped, tag_or_tip, tip, tip_of}
-use Rattle.selection_eval.proofs.OnceParts.{once_common, once_part, once_passing, once_union}
+use Rattle.selection_eval.specs.Spots.{dated, end, first, first_some, has_stamp, is_at_moment, is_committed, is_numbered, is_on_day, is_signed, is_tag_of, item, with_item, with_items, assigned_or, named, picked, some_or, span, spot, stamped, tag_or_tip, tip, tip_of}
+use Rattle.selection_eval.proofs.OnceParts.{once_common, once_passing}
 
 -- ---- what may be refused
 
@@ -58,10 +58,6 @@ once_pattern j f k = once_text j.built j.value f k
 
 -- ---- single events
 
-once_some : (o : Option AnyId) → IsOnce (option_to_list o)
-once_some None = refl
-once_some (Some id) = refl
-
 once_or : (why : Fault) (ids : Ids) → IsOnce ids → GivesOnce (some_or why ids)
 once_or why [] h = tt
 once_or why (id ∷ ids) h = h
@@ -78,10 +74,6 @@ once_first_some : (why : Fault) (lists : List Ids) → AllByRecursion IsOnce lis
 once_first_some why [] h = tt
 once_first_some why ([] ∷ lists) h = once_first_some why lists h.1
 once_first_some why ((id ∷ ids) ∷ lists) h = h.0
-
-once_unless : (ids others : Ids) → IsOnce others → IsOnce (unless_empty ids others)
-once_unless [] others h = refl
-once_unless (id ∷ ids) others h = h
 
 once_if : (b : Bool) (r q : Result Ids Fault) → GivesOnce r → GivesOnce q → GivesOnce (if b then r else q)
 once_if true r q h k = h

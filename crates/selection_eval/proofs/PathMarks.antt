@@ -1,30 +1,25 @@
 -- Bits that are set event by event: that of an event itself, and those of the blobs that it names.
-use Rattle.std.proofs.Common.{◌≡◌, ◌∙◌, ℕ, zero, suc, ◌<◌, ◌≤◌, Bool, true, false, List, [], ◌∷◌, ◌++◌, Some, inl, inr, refl, sym, ap, length, get_or, take, map, append_assoc}
+use Rattle.std.proofs.Common.{◌≡◌, ◌∙◌, ℕ, suc, ◌<◌, ◌≤◌, Bool, true, false, List, [], ◌∷◌, ◌++◌, Some, inl, inr, refl, sym, ap, length, get_or, take, map, append_assoc}
+use Rattle.std.proofs.Math.Bool.{or-false}
 use Rattle.std.proofs.Math.ListN.{set}
 use Rattle.std.proofs.lemmas.Bool.{cases_Bool}
 use Rattle.std.proofs.lemmas.Grind.{flat_map-append}
 use Rattle.std.proofs.lemmas.List.{length-map}
 use Rattle.std.proofs.lemmas.List.Folds.{list_any-append}
-use Rattle.std.proofs.lemmas.Option.{none-some, same_Some}
 use Rattle.std.specs.List.{list_any}
-use Rattle.std.specs.Prelude.{◌||◌, flat_map, option_map, slice_get, if◌then◌else◌}
-use Rattle.plain_model.specs.Lookups.{find_event, id_of, is_listed, place_of, same_id}
+use Rattle.std.specs.Prelude.{◌||◌, flat_map, slice_get, if◌then◌else◌}
+use Rattle.plain_model.specs.Lookups.{id_of, is_listed, same_id}
 use Rattle.plain_model.specs.declared.id.AnyId.{AnyId}
 use Rattle.plain_model.specs.declared.event.PlainEvent.{PlainEvent}
-use Rattle.history_laws.proofs.Ids.{same_id-refl, same_id-true}
-use Rattle.event_arena.specs.Once.{AreDistinct}
+use Rattle.history_laws.specs.Once.{AreDistinct}
 use Rattle.event_arena.proofs.ChangeLemmas.{is_listed-append, listed-more}
 use Rattle.event_arena.proofs.ListLemmas.{append-nil, flat-take-item, take-all, take-more}
-use Rattle.event_arena.proofs.OnceLemmas.{found-at}
 use Rattle.event_sets.specs.Bits.{Adds, bits_of}
 use Rattle.event_sets.specs.Sets.{Ids, passing}
 use Rattle.event_sets.proofs.BitLemmas.{picks-passing, picks-tied}
+use Rattle.event_sets.proofs.SetLemmas.{place-own}
 
 -- ---- lists, one item more
-
-or-false : (b : Bool) → b || false ≡ b
-or-false true = refl
-or-false false = refl
 
 pub any-more : {X : Type 0} (p : X → Bool) (xs : List X) (k : ℕ) (x : X) → k < length xs → x ≡ get_or xs k x →
     list_any p (take (suc k) xs) ≡ list_any p (take k xs) || p x
@@ -46,21 +41,6 @@ map-or p q r (x ∷ xs) h =
     let first : p x ≡ q x = cc in
     let rest : map p xs ≡ map q xs = cc in
     λ i. (first i || r x) ∷ map-or p q r xs rest i
-
--- ---- places
-
--- the place of the event at a place
-place-own : (es : List PlainEvent) (k : ℕ) (e : PlainEvent) → AreDistinct es → slice_get es k ≡ Some e →
-    place_of (id_of e) es ≡ Some k
-place-own [] k e once at = absurd (none-some e at)
-place-own (x ∷ es) zero e once at =
-    rw (ap (λ y. same_id (id_of e) (id_of y)) (same_Some x e at) ∙ same_id-refl (id_of e)) refl
-place-own (x ∷ es) (suc k) e once at = elim (cases_Bool (same_id (id_of e) (id_of x))) [
-  | inl it ↦
-      let own = ap (λ id. find_event id es) (sym (same_id-true (id_of e) (id_of x) it)) in
-      absurd (none-some e (sym once.0 ∙ own ∙ found-at es k e once.1 at))
-  | inr no_it ↦ rw no_it (ap (option_map suc) (place-own es k e once.1 at))
-]
 
 -- ---- events that pass a test, and the ids that each event names
 

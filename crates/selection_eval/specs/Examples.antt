@@ -10,6 +10,7 @@ use Rattle.plain_model.specs.declared.person.Signed.{Signed}
 use Rattle.plain_model.specs.declared.event.PlainEvent.{PlainEvent}
 use Rattle.plain_model.specs.declared.event.PlainEvent.TheVariants.{Blob, Commit, Tag, Reset}
 use Rattle.plain_model.specs.Paths.{Bytes}
+use Rattle.history_laws.specs.Finding.{event_number}
 use Rattle.selection_parser.specs.Plain.{PlainSelection}
 use Rattle.selection_parser.specs.Plain.PlainSelection.{Union, Both, Not, Near, Call, Kinds, Search, AtPath, AtPattern, Listed}
 use Rattle.selection_parser.specs.Plain.PlainSelections.{none, more}
@@ -19,7 +20,7 @@ use Rattle.selection_parser.specs.declared.item.Item.TheVariants.{One, Span}
 use Rattle.selection_parser.specs.declared.item.Spot.{Spot}
 use Rattle.selection_parser.specs.declared.item.Spot.TheVariants.{Number, Marked, Last, Named}
 use Rattle.selection_eval.specs.Denoted.{denote}
-use Rattle.event_sets.specs.Sets.{Ids, number}
+use Rattle.event_sets.specs.Sets.{Ids}
 
 -- ---- histories
 
@@ -80,7 +81,7 @@ marked =
 
 -- the numbers of the events, as `resolve` prints them
 abbrev pub numbers : List PlainEvent → Result Ids Fault → Result (List ℕ) Fault
-numbers events (Ok ids) = Ok (map (number events) ids)
+numbers events (Ok ids) = Ok (map (event_number events) ids)
 numbers events (Err why) = Err why
 
 abbrev pub resolved : List PlainEvent → PlainSelection → Result (List ℕ) Fault

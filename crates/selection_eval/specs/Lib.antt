@@ -3,7 +3,6 @@ pub mod Denoted
 pub mod Examples
 pub mod Fields
 pub mod Given
-pub mod Moments
 pub mod Names
 pub mod Paths
 pub mod Spots

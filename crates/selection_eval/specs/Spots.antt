@@ -1,10 +1,9 @@
 -- Spots: single events, and what texts in angle brackets name.
-use Rattle.std.specs.Prelude.{ℕ, ◌==◌, ◌&&◌, ◌-◌, ◌/◌, nat_lt, Bool, true, false, List, [], ◌∷◌, ◌++◌, length, drop, take, bytes_eq, codes, slice_get, option_to_list, Option, Some, None, Result, Ok, Err, if◌then◌else◌}
+use Rattle.std.specs.Prelude.{ℕ, ◌==◌, ◌&&◌, ◌-◌, ◌/◌, nat_lt, Bool, false, List, [], ◌∷◌, ◌++◌, length, drop, take, bytes_eq, codes, slice_get, option_to_list, Option, Some, None, Result, Ok, Err, if◌then◌else◌}
 use Rattle.plain_model.specs.Paths.{Bytes}
 use Rattle.plain_model.specs.Lookups.{find_mark}
 use Rattle.plain_model.specs.Snapshots.{refs}
 use Rattle.plain_model.specs.Trees.{◌>>=◌, at}
-use Rattle.plain_model.specs.declared.id.AnyId.{AnyId}
 use Rattle.plain_model.specs.declared.id.AnyId.TheVariants as any
 use Rattle.plain_model.specs.declared.event.PlainEvent.{PlainEvent}
 use Rattle.plain_model.specs.declared.event.PlainEvent.TheVariants.{Commit, Tag}
@@ -12,6 +11,7 @@ use Rattle.plain_model.specs.declared.fault.Fault.{Fault}
 use Rattle.plain_model.specs.declared.fault.Fault.TheVariants as fault
 use Rattle.plain_model.specs.declared.person.Signed.{Signed}
 use Rattle.civil_dates.specs.Dates.{civil_day, date_text, day_text}
+use Rattle.history_laws.specs.Finding.{is_commit}
 use Rattle.selection_parser.specs.declared.item.Item.{Item}
 use Rattle.selection_parser.specs.declared.item.Item.TheVariants.{One, Span}
 use Rattle.selection_parser.specs.declared.item.Spot.{Spot}
@@ -69,10 +69,6 @@ dated text events =
     stamp_dated text events
 
 -- ---- names
-
-abbrev pub is_commit : PlainEvent → Bool
-is_commit (Commit id mark branch author committer encoding comment parents ops aliases) = true
-is_commit other = false
 
 abbrev pub is_tag_of : Bytes → PlainEvent → Bool
 is_tag_of text (Tag id name target tagger comment mark) = bytes_eq name text

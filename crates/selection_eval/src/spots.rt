@@ -34,7 +34,7 @@ struct Commits;
 
 impl EventTest for Commits {
     ghost use Rattle.selection_eval.specs.Names.{assigned};
-    ghost use Rattle.selection_eval.specs.Spots.{is_commit};
+    ghost use Rattle.history_laws.specs.Finding.{is_commit};
 
     ghost test = { λ _. is_commit };
 

@@ -2,7 +2,7 @@
 ghost use Rattle.std.specs.Prelude.{◌≡◌, ◌<◌, bytes_eq, length, slice_get, Some, IfOk};
 ghost use Rattle.event_sets.specs.Sets.{passing};
 ghost use Rattle.plain_model.specs.declared.event.PlainEvent.{PlainEvent};
-ghost use Rattle.selection_eval.specs.Moments.{IsDated};
+ghost use Rattle.history_laws.specs.Finding.{IsDated};
 
 use event_arena::Events;
 use event_sets::EventSet;

@@ -22,9 +22,6 @@ pub was_placed : {A B : Type 0} (f : A → B) (o : Option A) (y : B) → placed 
 was_placed f None y h = absurd cc
 was_placed f (Some x) y h = (x, refl, cc)
 
-pushed : (x y : Bytes) (b : ℕ) → (x ++ y) ++ b ∷ [] ≡ x ++ y ++ b ∷ []
-pushed x y b = refl
-
 -- ---- letters
 
 pub adds_push : {A : Type 0} (with : A → ℕ → Option A) (letters : Bytes) (set new next : A) (b : ℕ) → Adds with set letters new → with new b ≡ Some next

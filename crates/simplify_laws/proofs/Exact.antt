@@ -12,13 +12,13 @@ use Rattle.plain_model.specs.Lookups.{is_listed}
 use Rattle.plain_model.specs.Soundness.{IsCommitOf, IsSound}
 use Rattle.plain_model.specs.Trees.{Tree}
 use Rattle.ancestry_laws.proofs.Pasts.{known_past}
+use Rattle.edit_laws.specs.Checking.{tree_check}
 use Rattle.edit_laws.specs.Equations.{Fits}
+use Rattle.edit_laws.proofs.Checked.{checked}
 use Rattle.edit_laws.proofs.Swept.{swept_nodes}
 use Rattle.edit_laws.proofs.Trees.{trees_fit, trees_solve}
-use Rattle.manifest_cache.specs.Checking.{tree_check}
 use Rattle.simplify_laws.specs.Remaining.{CanBeCarriedOut}
 use Rattle.simplify_laws.specs.Simplify.{ops_left, simplified, simplified_event, simplify_of}
-use Rattle.simplify_laws.proofs.Checked.{CheckFinds, checked}
 use Rattle.simplify_laws.proofs.Simplified.{IsCarriedOut, all_known, begun_ordered, carried, carried_out, done, nodes_simple, old_fit, once, order, other_ids, simple_node, starts}
 
 module _ (set : List AnyId) (events : List PlainEvent) (h : IsSound events) where
@@ -53,11 +53,11 @@ module _ (set : List AnyId) (events : List PlainEvent) (h : IsSound events) wher
   all_fit [] f c k = tt
   all_fit (n ∷ ns) f c k = (new_fits n f.0 c.0 k.0, all_fit ns f.1 c.1 k.1)
 
-  pub is_done : CheckFinds → AllByRecursion Can (nodes events) → simplify_of set events ≡ Ok new
-  is_done finds can =
+  pub is_done : AllByRecursion Can (nodes events) → simplify_of set events ≡ Ok new
+  is_done can =
       let fits = subst (AllByRecursion (Fits (tree events))) (sym nodes_new) (all_fit (nodes events) (old_fit set events h) (carried_out set events h) can) in
       let same = λ (c : ℕ) (there : IsCommitOf new c). trees_solve (tree events) new (order set events h) fits c there in
-      let check = (checked finds new (once set events h) (order set events h)).0
+      let check = (checked new (once set events h) (order set events h)).0
       (λ c there. subst IsSome (sym (same c there)) (h.trees c (sym (other_ids set events c) ∙ there))) in
       ap (λ (r : Result (Unit {0}) Fault). elim r [ Ok y ↦ Ok new | Err why ↦ Err why ]) check
 
@@ -79,11 +79,11 @@ module _ (set : List AnyId) (events : List PlainEvent) (h : IsSound events) wher
     all_can trees ns k.1 f.1,
   )
 
-  pub can_be : CheckFinds → tree_check new ≡ Ok tt → AllByRecursion Can (nodes events)
-  can_be finds check =
-      all_can ((checked finds new (once set events h) (order set events h)).1 check) (nodes events) (all_known set events h)
+  pub can_be : tree_check new ≡ Ok tt → AllByRecursion Can (nodes events)
+  can_be check =
+      all_can ((checked new (once set events h) (order set events h)).1 check) (nodes events) (all_known set events h)
       (subst (AllByRecursion (Fits (tree new))) nodes_new (trees_fit new (once set events h) (order set events h)))
 
-pub only_done : CheckFinds → (set : List AnyId) (events result : List PlainEvent) → IsSound events →
+pub only_done : (set : List AnyId) (events result : List PlainEvent) → IsSound events →
     simplify_of set events ≡ Ok result → AllByRecursion (CanBeCarriedOut set events) (nodes events)
-only_done finds set events result h d = can_be set events h finds (done set events result d).0
+only_done set events result h d = can_be set events h (done set events result d).0

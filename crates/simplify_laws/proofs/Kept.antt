@@ -1,9 +1,8 @@
 -- What a simplifying keeps: trees and what they show, ids, limits, all but the operations of selected commits; and the
 -- second time changes nothing.
-use Rattle.std.proofs.Common.{◌≡◌, ℕ, suc, ◌≤◌, Bool, true, false, not, List, [], ◌∷◌, ◌++◌, length, map, refl, sym, ap, subst, ◌∙◌, inl, inr, ◌⊎◌, arith, le_trans, Option, Some, None, Result, Ok, Err}
-use Rattle.std.specs.Prelude.{◌&&◌, ◌||◌, if◌then◌else◌}
+use Rattle.std.proofs.Common.{◌≡◌, ℕ, suc, ◌≤◌, Bool, true, false, not, List, [], ◌∷◌, length, map, refl, sym, ap, subst, ◌∙◌, arith, le_trans, Some, Result, Ok, Err}
+use Rattle.std.specs.Prelude.{◌&&◌, if◌then◌else◌}
 use Rattle.std.specs.List.{AllByRecursion}
-use Rattle.std.proofs.lemmas.Bool.{cases_Bool, cond-false, cond-true}
 use Rattle.std.proofs.lemmas.List.{length-append}
 use Rattle.plain_model.specs.declared.fault.Fault.{Fault}
 use Rattle.plain_model.specs.declared.id.AnyId.{AnyId}
@@ -12,83 +11,31 @@ use Rattle.plain_model.specs.declared.operation.FileOp.{FileOp}
 use Rattle.plain_model.specs.declared.event.PlainEvent.{PlainEvent}
 use Rattle.plain_model.specs.declared.event.PlainEvent.TheVariants.{Blob, Commit, Tag, Reset, Pass}
 use Rattle.plain_model.specs.Histories.{nodes}
-use Rattle.plain_model.specs.Lookups.{AreIdsBelow, alias_count, find_event, id_of, is_listed, same_id}
+use Rattle.plain_model.specs.Lookups.{AreIdsBelow, find_event, id_of, is_listed}
 use Rattle.plain_model.specs.Soundness.{IsSound, has_id}
 use Rattle.plain_model.specs.Streams.{is_marked}
 use Rattle.history_laws.specs.FirstParents.{ops_along}
-use Rattle.history_laws.proofs.Ids.{has_id-append, is_marked-append, same_id-refl, same_id-true}
-use Rattle.event_arena.specs.Once.{AreDistinct}
-use Rattle.event_arena.proofs.SoundLemmas.{has_id-find, sound-once}
+use Rattle.history_laws.proofs.Ids.{each_found, has_id-append, is_marked-append}
+use Rattle.history_laws.proofs.Lists.{map_same}
+use Rattle.history_laws.proofs.SoundOnce.{has_id-find, sound-once}
 use Rattle.edit_laws.specs.Blobs.{HasBytesOf}
-use Rattle.edit_laws.specs.Parts.{HasFewParents, one_if, tally}
+use Rattle.edit_laws.specs.Checking.{tree_check}
+use Rattle.edit_laws.specs.Keeping.{AddsNothing, IsNoBlob, KeepsTrees}
+use Rattle.edit_laws.specs.Parts.{HasFewParents, of_id, of_mark, one_if, tally}
 use Rattle.edit_laws.specs.Passing.{IsWithinLimits}
 use Rattle.edit_laws.specs.Sweeping.{is_left_over, is_named, swept}
-use Rattle.edit_laws.proofs.Lists.{all_filter, none_passing, some_passing, tally_filter}
+use Rattle.edit_laws.proofs.Checked.{checked}
+use Rattle.edit_laws.proofs.Lists.{all_filter, tally_filter}
+use Rattle.edit_laws.proofs.Naming.{swept_blob}
 use Rattle.edit_laws.proofs.Settles.{sound_settles}
 use Rattle.edit_laws.proofs.Shown.{has_own_bytes, shown_alike}
 use Rattle.edit_laws.proofs.Sound.{in_parts}
-use Rattle.manifest_cache.specs.Checking.{tree_check}
-use Rattle.simplify_laws.specs.Remaining.{AddsNothing, IsNoBlob, IsOneOf, KeepsTrees}
+use Rattle.edit_laws.proofs.Swept.{swept_itself, swept_others}
+use Rattle.edit_laws.proofs.Tallies.{aliases_counted, counted, mapped_no_greater, none_new, one, ops_counted, own_aliases, own_ops}
+use Rattle.simplify_laws.specs.Remaining.{IsOneOf}
 use Rattle.simplify_laws.specs.Simplify.{is_void, ops_left, simpler, simplified, simplified_event, simplify_of}
 use Rattle.simplify_laws.proofs.Again.{simpler_again}
-use Rattle.simplify_laws.proofs.Checked.{CheckFinds, checked}
 use Rattle.simplify_laws.proofs.Simplified.{all_simple, done, few, ids_same, new_sound, new_trees, one_same, same_id_of}
-use Rattle.simplify_laws.proofs.Swept.{swept_blob, swept_itself, swept_others}
-
--- ---- each event of a list is found by its id
-
-found_later : (e : PlainEvent) (es xs : List PlainEvent) → find_event (id_of e) es ≡ None →
-    AllByRecursion (λ x. find_event (id_of x) es ≡ Some x) xs → AllByRecursion (λ x. find_event (id_of x) (e ∷ es) ≡ Some x) xs
-found_later e es [] none f = tt
-found_later e es (x ∷ xs) none f = (its (cases_Bool (same_id (id_of x) (id_of e))), found_later e es xs none f.1)
-  where
-    its : (same_id (id_of x) (id_of e) ≡ true) ⊎ (same_id (id_of x) (id_of e) ≡ false) → find_event (id_of x) (e ∷ es) ≡ Some x
-    its (inl same) =
-        let is : ◌≡◌ {A = Option PlainEvent} None (Some x) = sym none ∙ ap (λ id. find_event id es) (sym (same_id-true (id_of x) (id_of e) same)) ∙ f.0 in
-        absurd cc
-    its (inr other) = cond-false (same_id (id_of x) (id_of e)) (Some e) (find_event (id_of x) es) other ∙ f.0
-
-each_found : (es : List PlainEvent) → AreDistinct es → AllByRecursion (λ e. find_event (id_of e) es ≡ Some e) es
-each_found [] d = tt
-each_found (e ∷ es) d = (
-  cond-true (same_id (id_of e) (id_of e)) (Some e) (find_event (id_of e) es) (same_id-refl (id_of e)),
-  found_later e es es d.0 (each_found es d.1),
-)
-
--- ---- sums
-
-abbrev one : PlainEvent → ℕ
-one e = 1
-
-counted : (es : List PlainEvent) → tally one es ≡ length es
-counted [] = refl
-counted (e ∷ es) = let rest = counted es in omega arith
-
-abbrev own_aliases : PlainEvent → ℕ
-own_aliases e = alias_count (e ∷ [])
-
-aliases_counted : (es : List PlainEvent) → tally own_aliases es ≡ alias_count es
-aliases_counted [] = refl
-aliases_counted (Commit id mark branch author committer encoding comment parents ops aliases ∷ es) = let rest = aliases_counted es in omega arith
-aliases_counted (Blob id mark bytes ∷ es) = let rest = aliases_counted es in omega arith
-aliases_counted (Tag id name target tagger comment mark ∷ es) = let rest = aliases_counted es in omega arith
-aliases_counted (Reset id branch target ∷ es) = let rest = aliases_counted es in omega arith
-aliases_counted (Pass id line ∷ es) = let rest = aliases_counted es in omega arith
-
-abbrev own_ops : PlainEvent → ℕ
-own_ops e = length (ops_along (nodes (e ∷ [])))
-
-ops_counted : (es : List PlainEvent) → tally own_ops es ≡ length (ops_along (nodes es))
-ops_counted [] = refl
-ops_counted (Commit id mark branch author committer encoding comment parents ops aliases ∷ es) =
-    let rest = ops_counted es in
-    let own = length-append ops [] in
-    let whole = length-append ops (ops_along (nodes es)) in
-    omega arith
-ops_counted (Blob id mark bytes ∷ es) = let rest = ops_counted es in omega arith
-ops_counted (Tag id name target tagger comment mark ∷ es) = let rest = ops_counted es in omega arith
-ops_counted (Reset id branch target ∷ es) = let rest = ops_counted es in omega arith
-ops_counted (Pass id line ∷ es) = let rest = ops_counted es in omega arith
 
 -- ---- operations
 
@@ -105,10 +52,6 @@ no_longer false ops = omega arith
 left_again : (b : Bool) (ops : List FileOp) → ops_left b (ops_left b ops) ≡ ops_left b ops
 left_again true ops = simpler_again ops
 left_again false ops = refl
-
-map_same : (f : PlainEvent → PlainEvent) (es : List PlainEvent) → AllByRecursion (λ e. f e ≡ e) es → map f es ≡ es
-map_same f [] a = refl
-map_same f (e ∷ es) a = λ i. a.0 i ∷ map_same f es a.1 i
 
 module _ (set : List AnyId) where
   abbrev simple : PlainEvent → PlainEvent
@@ -148,10 +91,6 @@ module _ (set : List AnyId) where
   twice (Reset id branch target) = refl
   twice (Pass id line) = refl
 
-  no_greater : (f : PlainEvent → ℕ) → ((e : PlainEvent) → f (simple e) ≤ f e) → (es : List PlainEvent) → tally f (map simple es) ≤ tally f es
-  no_greater f less [] = omega arith
-  no_greater f less (e ∷ es) = let first = less e in let rest = no_greater f less es in omega arith
-
   module _ (events : List PlainEvent) where
     abbrev new : List PlainEvent
     new = simplified set events
@@ -160,29 +99,16 @@ module _ (set : List AnyId) where
     kept e = not (is_left_over events (map simple events) e)
 
     no_more : (f : PlainEvent → ℕ) → ((e : PlainEvent) → f (simple e) ≤ f e) → tally f new ≤ tally f events
-    no_more f less = let first = tally_filter f kept (map simple events) in let rest = no_greater f less events in omega arith
+    no_more f less = let first = tally_filter f kept (map simple events) in let rest = mapped_no_greater f simple less events in omega arith
 
     same_no_more : (f : PlainEvent → ℕ) → ((e : PlainEvent) → f (simple e) ≡ f e) → tally f new ≤ tally f events
     same_no_more f same = no_more f (λ e. let is = same e in omega arith)
 
-    -- what some event of the new list passes, one of the old list passes
-    none_new : (test : List PlainEvent → Bool) → ((xs ys : List PlainEvent) → test (xs ++ ys) ≡ test xs || test ys) →
-        test [] ≡ false → ((e : PlainEvent) → test (simple e ∷ []) ≡ test (e ∷ [])) → test new ≡ true → test events ≡ true
-    none_new test joins none same there =
-        elim (cases_Bool (test events)) [
-          | inl was ↦ was
-          | inr never ↦
-              let some : 1 ≤ tally (λ x. one_if (test (x ∷ []))) new = some_passing test joins none new there in
-              let zero : tally (λ x. one_if (test (x ∷ []))) events ≡ 0 = none_passing test joins none events never in
-              let fewer : tally (λ x. one_if (test (x ∷ []))) new ≤ tally (λ x. one_if (test (x ∷ []))) events = same_no_more (λ x. one_if (test (x ∷ []))) (λ e. ap one_if (same e)) in
-              absurd (omega arith)
-        ]
-
     adds_nothing : AddsNothing events new
     adds_nothing = record {
       events = let fewer = same_no_more one (λ e. refl) in let before = counted events in let after = counted new in omega arith;
-      ids = λ id there. none_new (λ l. has_id l id) (λ xs ys. has_id-append xs ys id) refl (λ e. one_same set e id) there;
-      marks = λ m there. none_new (λ l. is_marked l m) (λ xs ys. is_marked-append xs ys m) refl (same_marks m) there;
+      ids = λ id there. none_new (λ l. has_id l id) (λ xs ys. has_id-append xs ys id) refl events new (same_no_more (of_id id) (λ e. ap one_if (one_same set e id))) there;
+      marks = λ m there. none_new (λ l. is_marked l m) (λ xs ys. is_marked-append xs ys m) refl events new (same_no_more (of_mark m) (λ e. ap one_if (same_marks m e))) there;
       aliases =
           let fewer = same_no_more own_aliases same_aliases in
           let before = aliases_counted events in
@@ -213,10 +139,10 @@ module _ (set : List AnyId) where
       same_bytes : AllByRecursion (HasBytesOf events) new
       same_bytes = all_filter (HasBytesOf events) kept (map simple events) (all_simple set (HasBytesOf events) (HasBytesOf events) own_bytes events (has_own_bytes events (in_parts events h).once))
 
-      keeps : CheckFinds → tree_check new ≡ Ok tt → KeepsTrees events new
-      keeps finds d = record {
-        trees = new_trees set events h finds d;
-        shown = λ c there. shown_alike events new same_bytes (sound_settles new (new_sound set events h finds d)).complete c c (new_trees set events h finds d c there);
+      keeps : tree_check new ≡ Ok tt → KeepsTrees events new
+      keeps d = record {
+        trees = new_trees set events h d;
+        shown = λ c there. shown_alike events new same_bytes (sound_settles new (new_sound set events h d)).complete c c (new_trees set events h d c there);
       }
 
       one_of_all : AllByRecursion (IsOneOf set events) new
@@ -252,11 +178,11 @@ module _ (set : List AnyId) where
     of_it : (P : List PlainEvent → Type 0) → P (simplified set events) → P result
     of_it P p = subst P (done set events result d).1 p
 
-    pub result_trees : IsSound events → CheckFinds → KeepsTrees events result
-    result_trees h finds = of_it (KeepsTrees events) (keeps events h finds (done set events result d).0)
+    pub result_trees : IsSound events → KeepsTrees events result
+    result_trees h = of_it (KeepsTrees events) (keeps events h (done set events result d).0)
 
-    pub result_sound : IsSound events → CheckFinds → IsSound result
-    result_sound h finds = of_it IsSound (new_sound set events h finds (done set events result d).0)
+    pub result_sound : IsSound events → IsSound result
+    result_sound h = of_it IsSound (new_sound set events h (done set events result d).0)
 
     pub result_within : IsWithinLimits events → IsWithinLimits result
     result_within w = of_it IsWithinLimits (within events w)
@@ -285,10 +211,10 @@ module _ (set : List AnyId) where
         of_it (λ l. simplify_of set l ≡ Ok l) (unchanged (simplified set events) parts.0 (same_again events))
 
 -- nothing changes where no commit is selected
-pub none_selected : CheckFinds → (events : List PlainEvent) → IsSound events → simplify_of [] events ≡ Ok events
-none_selected finds events h =
+pub none_selected : (events : List PlainEvent) → IsSound events → simplify_of [] events ≡ Ok events
+none_selected events h =
     let parts = in_parts events h in
-    unchanged [] events ((checked finds events parts.once parts.in_order).0 h.trees) (each events)
+    unchanged [] events ((checked events parts.once parts.in_order).0 h.trees) (each events)
   where
     its : (e : PlainEvent) → simplified_event [] e ≡ e
     its (Commit id mark branch author committer encoding comment parents ops aliases) = refl

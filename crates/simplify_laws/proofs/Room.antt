@@ -11,16 +11,16 @@ use Rattle.plain_model.specs.declared.operation.Content.TheVariants.{Blob as OfB
 use Rattle.plain_model.specs.declared.operation.Mode.TheVariants.{Plain}
 use Rattle.plain_model.specs.Histories.{folded, if_ok}
 use Rattle.plain_model.specs.Paths.{Bytes, is_at_or_below, is_in_the_way}
-use Rattle.plain_model.specs.Trees.{IsTree, Refusal, Tree, apply, apply_all, at, cleared_for, put, where_path, within_paths, without, ◌>>=◌}
+use Rattle.plain_model.specs.Trees.{IsTree, Refusal, Tree, apply, apply_all, at, cleared_for, put, within_paths, without, ◌>>=◌}
 use Rattle.history_laws.proofs.TreeLaws.{by_bytes}
 use Rattle.history_laws.specs.Examples as examples
+use Rattle.history_laws.proofs.TreeMaps.{IsOrdered, length_where, ordered_put, ordered_where, within_small}
 use Rattle.simplify_laws.specs.Examples.{folder_goes, folder_goes_last}
-use Rattle.simplify_laws.proofs.Voided.{IsInOrder, order_put, order_where}
 
 -- ---- how many paths
 
 -- a put at most adds one path, and adds one where nothing is there
-one_more : (p : Bytes) (e : Entry) (t : Tree) → IsInOrder t → length (put p e t) ≤ suc (length t)
+one_more : (p : Bytes) (e : Entry) (t : Tree) → IsOrdered t → length (put p e t) ≤ suc (length t)
 one_more p e t o =
     let is = entries.length-put by_bytes nat_list_cmp_total p e t o in
     let most = each (is_some (at t p)) in
@@ -30,26 +30,14 @@ one_more p e t o =
     each true = omega arith
     each false = omega arith
 
-one_new : (p : Bytes) (e : Entry) (t : Tree) → IsInOrder t → at t p ≡ None → length (put p e t) ≡ suc (length t)
+one_new : (p : Bytes) (e : Entry) (t : Tree) → IsOrdered t → at t p ≡ None → length (put p e t) ≡ suc (length t)
 one_new p e t o none =
     let is = entries.length-put by_bytes nat_list_cmp_total p e t o in
     let other : cond (is_some (at t p)) (length t) (length t + 1) ≡ length t + 1 = cond-false (is_some (at t p)) (length t) (length t + 1) (ap is_some none) in
     omega arith
 
-fewer_where : (test : Bytes → Bool) (t : Tree) → length (where_path test t) ≤ length t
-fewer_where test [] = omega arith
-fewer_where test (e ∷ es) =
-    let rest = fewer_where test es in
-    elim (test e.0) as (λ b. length (cond b (e ∷ where_path test es) (where_path test es)) ≤ suc (length es)) [ true ↦ omega arith | false ↦ omega arith ]
-
 too_many : (n : ℕ) → n ≡ suc MAX_PATHS → nat_lt MAX_PATHS n ≡ true
 too_many n h = grind (arith, nat_tests)
-
-few_enough : (n : ℕ) → n ≤ MAX_PATHS → nat_lt MAX_PATHS n ≡ false
-few_enough n h = grind (arith, nat_tests)
-
-stays_within : (t : Tree) → length t ≤ MAX_PATHS → within_paths t ≡ Ok t
-stays_within t h = cond-false (nat_lt MAX_PATHS (length t)) (Err Refusal.Paths) (Ok t) (few_enough (length t) h)
 
 passes : (t : Tree) → length t ≡ suc MAX_PATHS → within_paths t ≡ Err Refusal.Paths
 passes t h = cond-true (nat_lt MAX_PATHS (length t)) (Err Refusal.Paths) (Ok t) (too_many (length t) h)
@@ -62,22 +50,22 @@ blob = record { mode = Plain; content = OfBlob 1 }
 abbrev put_in : Bytes → Tree → Tree
 put_in p t = put p blob (cleared_for p t)
 
-put_order : (p : Bytes) (t : Tree) → IsInOrder t → IsInOrder (put_in p t)
-put_order p t o = order_put p blob (cleared_for p t) (order_where (λ q. not (is_in_the_way p q)) t o)
+put_order : (p : Bytes) (t : Tree) → IsOrdered t → IsOrdered (put_in p t)
+put_order p t o = ordered_put p blob (cleared_for p t) (ordered_where (λ q. not (is_in_the_way p q)) t o)
 
-put_length : (p : Bytes) (t : Tree) → IsInOrder t → length (put_in p t) ≤ suc (length t)
+put_length : (p : Bytes) (t : Tree) → IsOrdered t → length (put_in p t) ≤ suc (length t)
 put_length p t o =
-    let fewer = fewer_where (λ q. not (is_in_the_way p q)) t in
-    let more = one_more p blob (cleared_for p t) (order_where (λ q. not (is_in_the_way p q)) t o) in
+    let fewer = length_where (λ q. not (is_in_the_way p q)) t in
+    let more = one_more p blob (cleared_for p t) (ordered_where (λ q. not (is_in_the_way p q)) t o) in
     omega arith
 
-put_applies : (p : Bytes) (t : Tree) → IsInOrder t → length t + 1 ≤ MAX_PATHS → apply (examples.put 1 p) t ≡ Ok (put_in p t)
-put_applies p t o few = let most = put_length p t o in stays_within (put_in p t) (omega arith)
+put_applies : (p : Bytes) (t : Tree) → IsOrdered t → length t + 1 ≤ MAX_PATHS → apply (examples.put 1 p) t ≡ Ok (put_in p t)
+put_applies p t o few = let most = put_length p t o in within_small (put_in p t) (omega arith)
 
 pub room_before : (full : Tree) → length (without (codes "d") full) + 2 ≤ MAX_PATHS → IsTree full → IsSome (folded folder_goes (Some full))
 room_before full few its =
     let gone = without (codes "d") full in
-    let o : IsInOrder gone = order_where (λ q. not (is_at_or_below (codes "d") q)) full its.in_order in
+    let o : IsOrdered gone = ordered_where (λ q. not (is_at_or_below (codes "d") q)) full its.in_order in
     let first = put_applies (codes "e") gone o (omega arith) in
     let most = put_length (codes "e") gone o in
     let second = put_applies (codes "d") (put_in (codes "e") gone) (put_order (codes "e") gone o) (omega arith) in

@@ -20,19 +20,21 @@ use Rattle.plain_model.specs.Soundness.{IsCommitOf, IsFormedEvent, IsFormedOp, I
 use Rattle.plain_model.specs.Trees.{Refusal, Tree, apply_all}
 use Rattle.history_laws.proofs.Ids.{has_id-append}
 use Rattle.history_laws.proofs.Lists.{all_imply, all_join}
+use Rattle.history_laws.proofs.TreeMaps.{IsOrdered}
 use Rattle.ancestry_laws.proofs.Pasts.{all_reverse, known_past, linked_past}
+use Rattle.edit_laws.specs.Checking.{event_fault, fault_of, first_fault, first_refused, tree_check, unless}
 use Rattle.edit_laws.specs.Equations.{Fits}
 use Rattle.edit_laws.specs.Parts.{AreInOrder, AreOnce, HasFewParents, IsLawful, IsLawfulOp, of_id, of_mark, one_if, tally}
 use Rattle.edit_laws.specs.Settling.{is_ready}
 use Rattle.edit_laws.specs.Sweeping.{is_left_over}
+use Rattle.edit_laws.proofs.Checked.{checked}
+use Rattle.edit_laws.proofs.Fine.{There, joined_blobs, parted_blobs}
 use Rattle.edit_laws.proofs.Lists.{OfNodes, all_filter, all_front, all_rear, all_true, nodes_of_events, own_id, tally_filter, true_all}
 use Rattle.edit_laws.proofs.Sound.{from_parts, in_parts}
 use Rattle.edit_laws.proofs.Swept.{swept_commit, swept_in_order, swept_nodes}
 use Rattle.edit_laws.proofs.Trees.{known_later, not_fresh, tree_here, tree_other, trees_fit}
-use Rattle.manifest_cache.specs.Checking.{event_fault, fault_of, first_fault, first_refused, tree_check, unless}
 use Rattle.simplify_laws.specs.Simplify.{is_void, ops_left, simpler, simplified, simplified_event, simplify_of}
-use Rattle.simplify_laws.proofs.Checked.{CheckFinds, checked}
-use Rattle.simplify_laws.proofs.Voided.{IsInOrder, apply_all_free, first_paths, free_all, order_all, simpler_same, simpler_tree}
+use Rattle.simplify_laws.proofs.Voided.{apply_all_free, first_paths, free_all, order_all, simpler_same, simpler_tree}
 
 -- ---- operations that are left
 
@@ -45,17 +47,6 @@ simpler_all P (op ∷ ops) a =
 pub either_all : (P : FileOp → Type 0) (b : Bool) (ops : List FileOp) → AllByRecursion P ops → AllByRecursion P (ops_left b ops)
 either_all P true ops a = simpler_all P ops a
 either_all P false ops a = a
-
-abbrev There : List PlainEvent → AnyId → Type 0
-There earlier id = has_id earlier id ≡ true
-
-joined_all : (earlier : List PlainEvent) (ops : List FileOp) → AllByRecursion (λ op. AllByRecursion (There earlier) (op_blobs op)) ops → AllByRecursion (There earlier) (flat_map op_blobs ops)
-joined_all earlier [] a = tt
-joined_all earlier (op ∷ ops) a = all_join (There earlier) (op_blobs op) (flat_map op_blobs ops) a.0 (joined_all earlier ops a.1)
-
-parted_all : (earlier : List PlainEvent) (ops : List FileOp) → AllByRecursion (There earlier) (flat_map op_blobs ops) → AllByRecursion (λ op. AllByRecursion (There earlier) (op_blobs op)) ops
-parted_all earlier [] a = tt
-parted_all earlier (op ∷ ops) a = (all_front (There earlier) (op_blobs op) (flat_map op_blobs ops) a, parted_all earlier ops (all_rear (There earlier) (op_blobs op) (flat_map op_blobs ops) a))
 
 module _ (set : List AnyId) where
   abbrev pub simple : PlainEvent → PlainEvent
@@ -108,8 +99,8 @@ module _ (set : List AnyId) where
       true_all (has_id earlier) (map any.Commit parents ++ flat_map op_blobs new)
       (all_join (There earlier) (map any.Commit parents) (flat_map op_blobs new)
       (all_front (There earlier) (map any.Commit parents) (flat_map op_blobs ops) refs)
-      (joined_all earlier new (either_all (λ op. AllByRecursion (There earlier) (op_blobs op)) (is_listed (any.Commit id) set) ops
-      (parted_all earlier ops (all_rear (There earlier) (map any.Commit parents) (flat_map op_blobs ops) refs)))))
+      (joined_blobs earlier new (either_all (λ op. AllByRecursion (There earlier) (op_blobs op)) (is_listed (any.Commit id) set) ops
+      (parted_blobs earlier ops (all_rear (There earlier) (map any.Commit parents) (flat_map op_blobs ops) refs)))))
   ready earlier (Blob id mark bytes) r = r
   ready earlier (Tag id name target tagger comment mark) r = r
   ready earlier (Reset id branch target) r = r
@@ -160,36 +151,36 @@ module _ (set : List AnyId) where
       ∙ ap (map simple_node) (sym (reverse-append (n ∷ []) ns))
 
   -- a tree, if there is one, is in order
-  abbrev pub IsOrdered : Option Tree → Type 0
-  IsOrdered None = Unit {0}
-  IsOrdered (Some t) = IsInOrder t
+  abbrev pub IfOrdered : Option Tree → Type 0
+  IfOrdered None = Unit {0}
+  IfOrdered (Some t) = IsOrdered t
 
-  folded_ordered : (ops : List FileOp) (o : Option Tree) → IsOrdered o → IsOrdered (folded ops o)
+  folded_ordered : (ops : List FileOp) (o : Option Tree) → IfOrdered o → IfOrdered (folded ops o)
   folded_ordered ops None h = tt
   folded_ordered ops (Some t) h = go (apply_all ops t) refl
     where
-      go : (r : Result Tree Refusal) → apply_all ops t ≡ r → IsOrdered (if_ok r)
+      go : (r : Result Tree Refusal) → apply_all ops t ≡ r → IfOrdered (if_ok r)
       go (Ok u) e = order_all ops t u h e
       go (Err why) e = tt
 
-  ordered : (a : Past) (c : ℕ) → IsOrdered (tree_in a c)
+  ordered : (a : Past) (c : ℕ) → IfOrdered (tree_in a c)
   ordered [] c = tt
   ordered (n ∷ older) c =
-      elim (n.id == c) as (λ b. IsOrdered (cond b (folded n.ops (begun (tree_in older) n.parents)) (tree_in older c))) [
+      elim (n.id == c) as (λ b. IfOrdered (cond b (folded n.ops (begun (tree_in older) n.parents)) (tree_in older c))) [
         | true ↦ folded_ordered n.ops (begun (tree_in older) n.parents) (starts n.parents (λ p. ordered older p))
         | false ↦ ordered older c
       ]
     where
-      starts : (ps : List ℕ) → ((p : ℕ) → IsOrdered (tree_in older p)) → IsOrdered (begun (tree_in older) ps)
+      starts : (ps : List ℕ) → ((p : ℕ) → IfOrdered (tree_in older p)) → IfOrdered (begun (tree_in older) ps)
       starts [] f = tt
       starts (p ∷ ps) f = f p
 
-  pub begun_ordered : (a : Past) (ps : List ℕ) → IsOrdered (begun (tree_in a) ps)
+  pub begun_ordered : (a : Past) (ps : List ℕ) → IfOrdered (begun (tree_in a) ps)
   begun_ordered a [] = tt
   begun_ordered a (p ∷ ps) = ordered a p
 
   -- the operations that are left, from a tree that is the old one where there is one
-  pub carried : (b : Bool) (ops : List FileOp) (o new : Option Tree) → IsOrdered o → ((t : Tree) → new ≡ Some t → o ≡ Some t) →
+  pub carried : (b : Bool) (ops : List FileOp) (o new : Option Tree) → IfOrdered o → ((t : Tree) → new ≡ Some t → o ≡ Some t) →
       IsSome (folded ops o) → (u : Tree) → folded (ops_left b ops) new ≡ Some u → folded ops o ≡ Some u
   carried b ops o None h same x u is = absurd cc
   carried false ops o (Some t) h same x u is = ap (folded ops) (same t refl) ∙ is
@@ -203,7 +194,7 @@ module _ (set : List AnyId) where
       go (Ok v) a (Err why) b x is = absurd cc
       go (Ok v) a (Ok w) b x is =
           let same_one : w ≡ u = cc in
-          ap Some (sym (simpler_tree ops t w v (subst IsOrdered (same t refl) h) a b) ∙ same_one)
+          ap Some (sym (simpler_tree ops t w v (subst IfOrdered (same t refl) h) a b) ∙ same_one)
 
   -- a tree, if there is one, is the old one
   old_or_none : (a : Past) → IsLinkedPast a → ((c : ℕ) → knows a c ≡ true → IsSome (tree_in a c)) → (c : ℕ) (u : Tree) →
@@ -281,8 +272,8 @@ module _ (set : List AnyId) where
         old_or_none (past events) (linked_past events h) (λ e k. h.trees e (sym (known_past events e) ∙ k)) c u
         (sym (ap (λ (a : Past). tree_in a c) past_is) ∙ is)
 
-    pub new_sound : CheckFinds → tree_check new ≡ Ok tt → IsSound new
-    new_sound finds d =
+    pub new_sound : tree_check new ≡ Ok tt → IsSound new
+    new_sound d =
         let parts = in_parts events h in
         let kept = λ (e : PlainEvent). not (is_left_over events (map simple events) e) in
         from_parts new (record {
@@ -291,11 +282,11 @@ module _ (set : List AnyId) where
           few = all_filter HasFewParents kept (map simple events) (all_simple HasFewParents HasFewParents few events parts.few);
           once = once;
           in_order = order;
-          trees = (checked finds new once order).1 d;
+          trees = (checked new once order).1 d;
         })
 
-    pub new_trees : CheckFinds → tree_check new ≡ Ok tt → (c : ℕ) → IsCommitOf events c → tree new c ≡ tree events c
-    new_trees finds d c there = go (tree new c) refl ((checked finds new once order).1 d c (other_ids events c ∙ there))
+    pub new_trees : tree_check new ≡ Ok tt → (c : ℕ) → IsCommitOf events c → tree new c ≡ tree events c
+    new_trees d c there = go (tree new c) refl ((checked new once order).1 d c (other_ids events c ∙ there))
       where
         go : (o : Option Tree) → tree new c ≡ o → IsSome o → tree new c ≡ tree events c
         go None is some = absurd (true≢false (sym some))
@@ -336,14 +327,14 @@ module _ (set : List AnyId) where
     starts [] t is = is
     starts (p ∷ ps) t is = old_tree p t is
 
-    either_free : (b : Bool) (ops : List FileOp) (t v : Tree) → IsInOrder t → free_all ops t ≡ Some v → free_all (ops_left b ops) t ≡ Some v
+    either_free : (b : Bool) (ops : List FileOp) (t v : Tree) → IsOrdered t → free_all ops t ≡ Some v → free_all (ops_left b ops) t ≡ Some v
     either_free true ops t v o f = simpler_same ops t v o f
     either_free false ops t v o f = f
 
     for_paths : (e : PlainEvent) → OfNodes IsCarriedOut e → IsForPaths (simple e)
     for_paths (Commit id mark branch author committer encoding comment parents ops aliases) f why is = first (is_listed (any.Commit id) set) (begun (tree new) parents) refl is
       where
-        third : (b : Bool) (t v : Tree) → free_all ops t ≡ Some v → IsInOrder t → (r : Option (ℕ × Refusal)) → first_refused 1 (ops_left b ops) t ≡ r →
+        third : (b : Bool) (t v : Tree) → free_all ops t ≡ Some v → IsOrdered t → (r : Option (ℕ × Refusal)) → first_refused 1 (ops_left b ops) t ≡ r →
             option_map (fault_of mark) r ≡ Some why → why ≡ too_many
         third b t v free o None e is = absurd cc
         third b t v free o (Some (k, w)) e is =
@@ -354,7 +345,7 @@ module _ (set : List AnyId) where
             option_map (fault_of mark) (first_refused 1 (ops_left b ops) t) ≡ Some why → why ≡ too_many
         second b t old (Err x) e some is = absurd (true≢false (sym some))
         second b t old (Ok v) e some is =
-            third b t v (apply_all_free ops t v e) (subst IsOrdered old (begun_ordered (past events) parents)) (first_refused 1 (ops_left b ops) t) refl is
+            third b t v (apply_all_free ops t v e) (subst IfOrdered old (begun_ordered (past events) parents)) (first_refused 1 (ops_left b ops) t) refl is
 
         first : (b : Bool) (o : Option Tree) → begun (tree new) parents ≡ o →
             option_and_then (λ t. option_map (fault_of mark) (first_refused 1 (ops_left b ops) t)) o ≡ Some why → why ≡ too_many

@@ -1,11 +1,9 @@
 -- Operations that later ones make void can be dropped: what is left leaves the same tree, and can be refused for the
 -- number of paths alone.
-use Rattle.std.proofs.Common.{◌≡◌, ℕ, ◌+◌, Bool, true, false, cond, not, T, List, [], ◌∷◌, length, refl, sym, ap, subst, ◌∙◌, inl, inr, ◌⊎◌, true≢false, Option, Some, None, Result, Ok, Err, bytes_eq, nat_lt}
+use Rattle.std.proofs.Common.{◌≡◌, ℕ, ◌+◌, Bool, true, false, cond, not, List, [], ◌∷◌, length, refl, sym, ap, subst, ◌∙◌, inl, inr, ◌⊎◌, true≢false, Option, Some, None, Result, Ok, Err, bytes_eq, nat_lt}
 use Rattle.std.specs.Prelude.{◌||◌, ◌&&◌, if◌then◌else◌}
 use Rattle.std.specs.List.{list_any}
-use Rattle.std.specs.Ordering.{eq_by_cmp, is_eq}
-use Rattle.std.specs.Cmp.Lexicographic.{nat_list_cmp_total}
-use Rattle.std.specs.FinMap.Entries as entries
+use Rattle.std.specs.Ordering.{eq_by_cmp}
 use Rattle.std.proofs.lemmas.Bool.{cases_Bool, or_cases, or_left, or_right, or_from, cond-true, cond-false}
 use Rattle.std.proofs.lemmas.Slice.Eq.{bytes_eq-Decides}
 use Rattle.plain_model.specs.declared.limit.TheConstants.{MAX_PATHS}
@@ -14,8 +12,10 @@ use Rattle.plain_model.specs.declared.operation.FileOp.{FileOp}
 use Rattle.plain_model.specs.declared.operation.FileOp.TheVariants.{Modify, Delete, Copy, Rename, DeleteAll}
 use Rattle.plain_model.specs.Paths.{Bytes, do_conflict, is_at_or_below, is_below, is_in_the_way}
 use Rattle.plain_model.specs.Trees.{Refusal, Tree, apply, apply_all, at, cleared_for, has_long_path, moved, placed, put, put_all, subtree, where_path, within_paths, without, ◌>>=◌}
+use Rattle.history_laws.proofs.PathLaws.{same_bytes}
 use Rattle.history_laws.proofs.TreeLaws.{at_put, at_where, by_bytes, same_path}
-use Rattle.manifest_cache.specs.Checking.{first_refused, unless_refused}
+use Rattle.history_laws.proofs.TreeMaps.{IsOrdered, ordered_put, ordered_put_all, ordered_where, same_tree, where_comm}
+use Rattle.edit_laws.specs.Checking.{first_refused, unless_refused}
 use Rattle.simplify_laws.specs.Simplify.{deletes_at, is_deleteall, is_void, puts_at, simpler, up_to_a_copy}
 
 -- ---- filters and puts
@@ -33,33 +33,12 @@ where_alike : (f g : Bytes → Bool) → ((q : Bytes) → f q ≡ g q) → (t : 
 where_alike f g h [] = refl
 where_alike f g h (e ∷ es) = λ i. cond (h e.0 i) (e ∷ where_alike f g h es i) (where_alike f g h es i)
 
-and_turned : (a b : Bool) → a && b ≡ b && a
-and_turned true true = refl
-and_turned true false = refl
-and_turned false true = refl
-and_turned false false = refl
-
-where_turned : (f g : Bytes → Bool) (t : Tree) → where_path f (where_path g t) ≡ where_path g (where_path f t)
-where_turned f g t = where_twice f g t ∙ where_alike (λ q. f q && g q) (λ q. g q && f q) (λ q. and_turned (f q) (g q)) t ∙ sym (where_twice g f t)
-
 -- what passes the second test passes the first
 where_more : (f g : Bytes → Bool) → ((q : Bytes) → f q && g q ≡ f q) → (t : Tree) → where_path f (where_path g t) ≡ where_path f t
 where_more f g h t = where_twice f g t ∙ where_alike (λ q. f q && g q) f h t
 
-abbrev pub IsInOrder : Tree → Type 0
-IsInOrder t = T (entries.is_sorted by_bytes t)
-
-pub order_where : (f : Bytes → Bool) (t : Tree) → IsInOrder t → IsInOrder (where_path f t)
-order_where f t h = entries.is_sorted-where_key by_bytes f t h
-
-pub order_put : (p : Bytes) (e : Entry) (t : Tree) → IsInOrder t → IsInOrder (put p e t)
-order_put p e t h = entries.is_sorted-put by_bytes nat_list_cmp_total p e t h
-
-same_tree : (s t : Tree) → IsInOrder s → IsInOrder t → ((q : Bytes) → at s q ≡ at t q) → s ≡ t
-same_tree s t a b h = entries.same_entries by_bytes nat_list_cmp_total (λ x y e. same_path x y (ap is_eq e)) s t a b h
-
 -- a put that a test lets through, or doesn't
-where_put : (f : Bytes → Bool) (p : Bytes) (e : Entry) (t : Tree) → IsInOrder t → where_path f (put p e t) ≡ cond (f p) (put p e (where_path f t)) (where_path f t)
+where_put : (f : Bytes → Bool) (p : Bytes) (e : Entry) (t : Tree) → IsOrdered t → where_path f (put p e t) ≡ cond (f p) (put p e (where_path f t)) (where_path f t)
 where_put f p e t h = go (f p) refl
   where
     here : (b : Bool) → f p ≡ b → (q : Bytes) → eq_by_cmp by_bytes q p ≡ true → f q ≡ b
@@ -77,12 +56,12 @@ where_put f p e t h = go (f p) refl
 
     go : (b : Bool) → f p ≡ b → where_path f (put p e t) ≡ cond (f p) (put p e (where_path f t)) (where_path f t)
     go true is =
-        same_tree (where_path f (put p e t)) (put p e (where_path f t)) (order_where f (put p e t) (order_put p e t h)) (order_put p e (where_path f t) (order_where f t h))
+        same_tree (where_path f (put p e t)) (put p e (where_path f t)) (ordered_where f (put p e t) (ordered_put p e t h)) (ordered_put p e (where_path f t) (ordered_where f t h))
         (λ q. at_where f q (put p e t) ∙ ap (λ (o : Option Entry). cond (f q) o None) (at_put p q e t) ∙ passed true is q
         ∙ sym (at_put p q e (where_path f t) ∙ ap (λ (o : Option Entry). cond (eq_by_cmp by_bytes q p) (Some e) o) (at_where f q t)))
         ∙ sym (cond-true (f p) (put p e (where_path f t)) (where_path f t) is)
     go false is =
-        same_tree (where_path f (put p e t)) (where_path f t) (order_where f (put p e t) (order_put p e t h)) (order_where f t h)
+        same_tree (where_path f (put p e t)) (where_path f t) (ordered_where f (put p e t) (ordered_put p e t h)) (ordered_where f t h)
         (λ q. at_where f q (put p e t) ∙ ap (λ (o : Option Entry). cond (f q) o None) (at_put p q e t) ∙ passed false is q ∙ sym (at_where f q t))
         ∙ sym (cond-false (f p) (put p e (where_path f t)) (where_path f t) is)
 
@@ -144,15 +123,15 @@ apply_all_free (op ∷ ops) t u h = go (apply op t) refl h (λ s x. apply_all_fr
 module _ (test : Bytes → Bool) (ends : FileOp → Bool)
     (ended : (op : FileOp) (s t : Tree) → ends op ≡ true → where_path test s ≡ where_path test t → free op s ≡ free op t)
   where
-    alike_put : (q : Bytes) (e : Entry) (s t : Tree) → IsInOrder s → IsInOrder t → where_path test s ≡ where_path test t → where_path test (put q e (cleared_for q s)) ≡ where_path test (put q e (cleared_for q t))
+    alike_put : (q : Bytes) (e : Entry) (s t : Tree) → IsOrdered s → IsOrdered t → where_path test s ≡ where_path test t → where_path test (put q e (cleared_for q s)) ≡ where_path test (put q e (cleared_for q t))
     alike_put q e s t a b h =
         let clear = λ (r : Bytes). not (is_in_the_way q r) in
-        let same : where_path test (cleared_for q s) ≡ where_path test (cleared_for q t) = where_turned test clear s ∙ ap (where_path clear) h ∙ sym (where_turned test clear t) in
-        where_put test q e (cleared_for q s) (order_where clear s a)
+        let same : where_path test (cleared_for q s) ≡ where_path test (cleared_for q t) = where_comm test clear s ∙ ap (where_path clear) h ∙ sym (where_comm test clear t) in
+        where_put test q e (cleared_for q s) (ordered_where clear s a)
         ∙ (λ i. cond (test q) (put q e (same i)) (same i))
-        ∙ sym (where_put test q e (cleared_for q t) (order_where clear t b))
+        ∙ sym (where_put test q e (cleared_for q t) (ordered_where clear t b))
 
-    alike_all : (ops : List FileOp) (s t : Tree) → list_any ends (up_to_a_copy ops) ≡ true → IsInOrder s → IsInOrder t → where_path test s ≡ where_path test t → free_all ops s ≡ free_all ops t
+    alike_all : (ops : List FileOp) (s t : Tree) → list_any ends (up_to_a_copy ops) ≡ true → IsOrdered s → IsOrdered t → where_path test s ≡ where_path test t → free_all ops s ≡ free_all ops t
     alike_all [] s t some a b h = absurd (true≢false (sym some))
     alike_all (Copy source target ∷ ops) s t some a b h = absurd (true≢false (sym some))
     alike_all (Rename source target ∷ ops) s t some a b h = absurd (true≢false (sym some))
@@ -164,15 +143,15 @@ module _ (test : Bytes → Bool) (ends : FileOp → Bool)
               let e : Entry = record { mode = mode; content = content } in
               let clear = λ (r : Bytes). not (is_in_the_way path r) in
               alike_all ops (put path e (cleared_for path s)) (put path e (cleared_for path t)) later
-              (order_put path e (cleared_for path s) (order_where clear s a)) (order_put path e (cleared_for path t) (order_where clear t b)) (alike_put path e s t a b h)
+              (ordered_put path e (cleared_for path s) (ordered_where clear s a)) (ordered_put path e (cleared_for path t) (ordered_where clear t b)) (alike_put path e s t a b h)
         ]
     alike_all (Delete path ∷ ops) s t some a b h =
         elim (or_cases (ends (Delete path)) (list_any ends (up_to_a_copy ops)) some) [
           | inl it ↦ ap (λ (o : Option Tree). and_on o (free_all ops)) (ended (Delete path) s t it h)
           | inr later ↦
               let kept = λ (r : Bytes). not (is_at_or_below path r) in
-              alike_all ops (without path s) (without path t) later (order_where kept s a) (order_where kept t b)
-              (where_turned test kept s ∙ ap (where_path kept) h ∙ sym (where_turned test kept t))
+              alike_all ops (without path s) (without path t) later (ordered_where kept s a) (ordered_where kept t b)
+              (where_comm test kept s ∙ ap (where_path kept) h ∙ sym (where_comm test kept t))
         ]
 
 -- ---- a put or a deletion of the same path
@@ -197,15 +176,12 @@ delete_ends p (Copy source target) s t it h = absurd (true≢false (sym it))
 delete_ends p (Rename source target) s t it h = absurd (true≢false (sym it))
 delete_ends p DeleteAll s t it h = absurd (true≢false (sym it))
 
-itself : (p : Bytes) → bytes_eq p p ≡ true
-itself p = (bytes_eq-Decides p p).1 refl
-
 -- what a put leaves, but for what was in its way
-put_leaves : (p : Bytes) (e : Entry) (t : Tree) → IsInOrder t → cleared_for p (put p e (cleared_for p t)) ≡ cleared_for p t
+put_leaves : (p : Bytes) (e : Entry) (t : Tree) → IsOrdered t → cleared_for p (put p e (cleared_for p t)) ≡ cleared_for p t
 put_leaves p e t h =
     let clear = λ (r : Bytes). not (is_in_the_way p r) in
-    where_put clear p e (cleared_for p t) (order_where clear t h)
-    ∙ cond-false (clear p) (put p e (where_path clear (cleared_for p t))) (where_path clear (cleared_for p t)) (ap not (or_left (bytes_eq p p) (do_conflict p p) (itself p)))
+    where_put clear p e (cleared_for p t) (ordered_where clear t h)
+    ∙ cond-false (clear p) (put p e (where_path clear (cleared_for p t))) (where_path clear (cleared_for p t)) (ap not (or_left (bytes_eq p p) (do_conflict p p) (same_bytes p)))
     ∙ where_more clear clear (λ q. twice (clear q)) t
   where
     twice : (b : Bool) → b && b ≡ b
@@ -260,10 +236,6 @@ starts_anew (op ∷ ops) h =
     last (Delete path) it none = absurd (true≢false (sym it))
     last (Copy source target) it none = absurd (true≢false (sym it))
     last (Rename source target) it none = absurd (true≢false (sym it))
-
-or_again : (a b c : Bool) → (a || b) || c ≡ a || (b || c)
-or_again true b c = refl
-or_again false b c = refl
 
 -- with or without an operation that is neither a copy nor a rename
 kept_any : (f : FileOp → Bool) (b : Bool) (op : FileOp) (l : List FileOp) → (up_to_a_copy (op ∷ l) ≡ op ∷ up_to_a_copy l) → list_any f (up_to_a_copy l) ≡ true → list_any f (up_to_a_copy (if b then l else op ∷ l)) ≡ true
@@ -328,7 +300,7 @@ delete_left p (Delete path ∷ ops) none h =
 -- ---- one operation dropped
 
 -- before the operations that make it void, it doesn't show
-void_drops : (op : FileOp) (ops : List FileOp) (s t : Tree) → IsInOrder t → IsInOrder s → free op t ≡ Some s → is_void op ops ≡ true → free_all (simpler ops) s ≡ free_all (simpler ops) t
+void_drops : (op : FileOp) (ops : List FileOp) (s t : Tree) → IsOrdered t → IsOrdered s → free op t ≡ Some s → is_void op ops ≡ true → free_all (simpler ops) s ≡ free_all (simpler ops) t
 void_drops op ops s t o q e v = elim (cases_Bool (list_any is_deleteall ops)) [
   | inl anew ↦
       let rest = starts_anew ops anew in
@@ -372,47 +344,43 @@ void_drops op ops s t o q e v = elim (cases_Bool (list_any is_deleteall ops)) [
 
 -- ---- all of them
 
-order_put_all : (es base : Tree) → IsInOrder base → IsInOrder (put_all es base)
-order_put_all [] base h = h
-order_put_all (e ∷ es) base h = order_put e.0 e.1 (put_all es base) (order_put_all es base h)
-
-order_moved : (source target : Bytes) (taken base u : Tree) → IsInOrder base → put_moved_in source target taken base ≡ Some u → IsInOrder u
+order_moved : (source target : Bytes) (taken base u : Tree) → IsOrdered base → put_moved_in source target taken base ≡ Some u → IsOrdered u
 order_moved source target [] base u h e = absurd cc
 order_moved source target (x ∷ taken) base u h e = go (has_long_path (moved source target (x ∷ taken))) e
   where
-    go : (b : Bool) → (if b then None else Some (put_all (moved source target (x ∷ taken)) (cleared_for target base))) ≡ Some u → IsInOrder u
+    go : (b : Bool) → (if b then None else Some (put_all (moved source target (x ∷ taken)) (cleared_for target base))) ≡ Some u → IsOrdered u
     go true e = absurd cc
     go false e =
         let is : put_all (moved source target (x ∷ taken)) (cleared_for target base) ≡ u = cc in
-        subst IsInOrder is (order_put_all (moved source target (x ∷ taken)) (cleared_for target base) (order_where (λ r. not (is_in_the_way target r)) base h))
+        subst IsOrdered is (ordered_put_all (moved source target (x ∷ taken)) (cleared_for target base) (ordered_where (λ r. not (is_in_the_way target r)) base h))
 
-order_free : (op : FileOp) (t u : Tree) → IsInOrder t → free op t ≡ Some u → IsInOrder u
+order_free : (op : FileOp) (t u : Tree) → IsOrdered t → free op t ≡ Some u → IsOrdered u
 order_free (Modify mode content path) t u h e =
     let entry : Entry = record { mode = mode; content = content } in
     let is : put path entry (cleared_for path t) ≡ u = cc in
-    subst IsInOrder is (order_put path entry (cleared_for path t) (order_where (λ r. not (is_in_the_way path r)) t h))
-order_free (Delete path) t u h e = let is : without path t ≡ u = cc in subst IsInOrder is (order_where (λ r. not (is_at_or_below path r)) t h)
+    subst IsOrdered is (ordered_put path entry (cleared_for path t) (ordered_where (λ r. not (is_in_the_way path r)) t h))
+order_free (Delete path) t u h e = let is : without path t ≡ u = cc in subst IsOrdered is (ordered_where (λ r. not (is_at_or_below path r)) t h)
 order_free (Copy source target) t u h e = order_moved source target (subtree source t) t u h e
-order_free (Rename source target) t u h e = order_moved source target (subtree source t) (without source t) u (order_where (λ r. not (is_at_or_below source r)) t h) e
-order_free DeleteAll t u h e = let is : ◌≡◌ {A = Tree} [] u = cc in subst IsInOrder is tt
+order_free (Rename source target) t u h e = order_moved source target (subtree source t) (without source t) u (ordered_where (λ r. not (is_at_or_below source r)) t h) e
+order_free DeleteAll t u h e = let is : ◌≡◌ {A = Tree} [] u = cc in subst IsOrdered is tt
 
 -- what is left leaves the same tree, and is refused for want of room alone
-pub simpler_same : (ops : List FileOp) (t v : Tree) → IsInOrder t → free_all ops t ≡ Some v → free_all (simpler ops) t ≡ Some v
+pub simpler_same : (ops : List FileOp) (t v : Tree) → IsOrdered t → free_all ops t ≡ Some v → free_all (simpler ops) t ≡ Some v
 simpler_same [] t v o a = a
 simpler_same (op ∷ ops) t v o a = first (free op t) refl a (λ s p x. simpler_same ops s v p x)
   where
-    second : ((s : Tree) → IsInOrder s → free_all ops s ≡ Some v → free_all (simpler ops) s ≡ Some v) → (s : Tree) → free op t ≡ Some s → free_all ops s ≡ Some v → (x : Bool) → is_void op ops ≡ x
+    second : ((s : Tree) → IsOrdered s → free_all ops s ≡ Some v → free_all (simpler ops) s ≡ Some v) → (s : Tree) → free op t ≡ Some s → free_all ops s ≡ Some v → (x : Bool) → is_void op ops ≡ x
         → free_all (if x then simpler ops else op ∷ simpler ops) t ≡ Some v
     second again s e a true is = sym (void_drops op ops s t o (order_free op t s o e) e is) ∙ again s (order_free op t s o e) a
     second again s e a false is = ap (λ (r : Option Tree). and_on r (free_all (simpler ops))) e ∙ again s (order_free op t s o e) a
 
-    first : (r : Option Tree) → free op t ≡ r → and_on r (free_all ops) ≡ Some v → ((s : Tree) → IsInOrder s → free_all ops s ≡ Some v → free_all (simpler ops) s ≡ Some v)
+    first : (r : Option Tree) → free op t ≡ r → and_on r (free_all ops) ≡ Some v → ((s : Tree) → IsOrdered s → free_all ops s ≡ Some v → free_all (simpler ops) s ≡ Some v)
         → free_all (simpler (op ∷ ops)) t ≡ Some v
     first None e a again = absurd cc
     first (Some s) e a again = second again s e a (is_void op ops) refl
 
 -- where neither list is refused, both leave the same tree
-pub simpler_tree : (ops : List FileOp) (t u v : Tree) → IsInOrder t → apply_all ops t ≡ Ok v → apply_all (simpler ops) t ≡ Ok u → u ≡ v
+pub simpler_tree : (ops : List FileOp) (t u v : Tree) → IsOrdered t → apply_all ops t ≡ Ok v → apply_all (simpler ops) t ≡ Ok u → u ≡ v
 simpler_tree ops t u v o a b =
     let is : ◌≡◌ {A = Option Tree} (Some u) (Some v) = sym (apply_all_free (simpler ops) t u b) ∙ simpler_same ops t v o (apply_all_free ops t v a) in
     cc
@@ -470,10 +438,10 @@ first_paths (op ∷ ops) n t v k why f h = first (free op t) refl f (λ x b c. f
 
 -- ---- trees are in order
 
-pub order_all : (ops : List FileOp) (t u : Tree) → IsInOrder t → apply_all ops t ≡ Ok u → IsInOrder u
-order_all [] t u h e = let is : t ≡ u = cc in subst IsInOrder is h
+pub order_all : (ops : List FileOp) (t u : Tree) → IsOrdered t → apply_all ops t ≡ Ok u → IsOrdered u
+order_all [] t u h e = let is : t ≡ u = cc in subst IsOrdered is h
 order_all (op ∷ ops) t u h e = go (apply op t) refl e (λ s x y. order_all ops s u x y)
   where
-    go : (r : Result Tree Refusal) → apply op t ≡ r → (r >>= apply_all ops) ≡ Ok u → ((s : Tree) → IsInOrder s → apply_all ops s ≡ Ok u → IsInOrder u) → IsInOrder u
+    go : (r : Result Tree Refusal) → apply op t ≡ r → (r >>= apply_all ops) ≡ Ok u → ((s : Tree) → IsOrdered s → apply_all ops s ≡ Ok u → IsOrdered u) → IsOrdered u
     go (Ok s) is e f = f s (order_free op t s h (apply_free op t s is)) e
     go (Err why) is e f = absurd cc

@@ -10,8 +10,8 @@ use Rattle.plain_model.specs.declared.event.PlainEvent.{PlainEvent}
 use Rattle.plain_model.specs.declared.event.PlainEvent.TheVariants.{Blob, Commit, Tag, Reset, Pass}
 use Rattle.plain_model.specs.Lookups.{is_listed}
 use Rattle.plain_model.specs.Paths.{Bytes}
+use Rattle.edit_laws.specs.Checking.{tree_check}
 use Rattle.edit_laws.specs.Sweeping.{swept}
-use Rattle.manifest_cache.specs.Checking.{tree_check}
 
 -- ---- one operation
 

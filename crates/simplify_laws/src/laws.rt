@@ -17,16 +17,9 @@ ghost use Rattle.plain_model.specs.Trees.{IsTree, Tree, apply_all};
 ghost use Rattle.edit_laws.specs.Editing.{IsEdit, with_number};
 ghost use Rattle.edit_laws.specs.Passing.{IsWithinLimits};
 ghost use Rattle.edit_laws.specs.Sweeping.{is_named};
-ghost use Rattle.simplify_laws.specs.Remaining.{
-  AddsNothing,
-  CanBeCarriedOut,
-  IsNoBlob,
-  IsOneOf,
-  KeepsTrees,
-};
+ghost use Rattle.simplify_laws.specs.Remaining.{CanBeCarriedOut, IsOneOf};
+ghost use Rattle.edit_laws.specs.Keeping.{IsNoBlob, KeepsTrees, AddsNothing};
 ghost use Rattle.simplify_laws.specs.Simplify.{is_void, simpler, simplified, simplify_of};
-
-use manifest_cache::the_check_finds_what_has_no_tree;
 
 /// Where all operations and those that are left can be carried out, both make the same tree.
 pub fn what_is_dropped_does_not_show()
@@ -43,17 +36,13 @@ pub fn it_goes_by_either_list()
 pub fn simplifying_keeps_trees()
     ensures { (set : List AnyId) (events new : List PlainEvent) → IsSound events →
         simplify_of set events ≡ Ok new → KeepsTrees events new }
-{
-    the_check_finds_what_has_no_tree();
-}
+{}
 
 /// A sound history stays sound.
 pub fn simplifying_keeps_soundness()
     ensures { (set : List AnyId) (events new : List PlainEvent) → IsSound events →
         simplify_of set events ≡ Ok new → IsSound new }
-{
-    the_check_finds_what_has_no_tree();
-}
+{}
 
 /// A history within the limits stays so.
 pub fn simplifying_keeps_the_limits()
@@ -103,22 +92,16 @@ pub fn it_is_done_where_operations_can_be()
         simplify_of set events ≡ Ok (simplified set events) }
     ensures only { (set : List AnyId) (events new : List PlainEvent) → IsSound events →
         simplify_of set events ≡ Ok new → AllByRecursion (CanBeCarriedOut set events) (nodes events) }
-{
-    the_check_finds_what_has_no_tree();
-}
+{}
 
 /// What was simplified has nothing more that is void; and nothing changes where no commit is selected.
 pub fn simplifying_again_changes_nothing()
     ensures again { (set : List AnyId) (events new : List PlainEvent) →
         simplify_of set events ≡ Ok new → simplify_of set new ≡ Ok new }
     ensures none { (events : List PlainEvent) → IsSound events → simplify_of [] events ≡ Ok events }
-{
-    the_check_finds_what_has_no_tree();
-}
+{}
 
 /// A simplify is an edit that gives no number: of a lawful history it makes a lawful one.
 pub fn a_simplify_is_an_edit()
     ensures { IsEdit (λ set next events. with_number next (simplify_of set events)) }
-{
-    the_check_finds_what_has_no_tree();
-}
+{}

@@ -29,10 +29,6 @@ weight f (e ∷ events) = weigh f (event_marks e) + weight f events
 abbrev pub one : ℕ → ℕ → ℕ
 one m mark = cond (mark == m) 1 0
 
-pub weigh-append : (f : ℕ → ℕ) (a b : List ℕ) → weigh f (a ++ b) ≡ weigh f a + weigh f b
-weigh-append f [] b = omega arith
-weigh-append f (x ∷ a) b = let more = weigh-append f a b in omega arith
-
 pub weight-append : (f : ℕ → ℕ) (a b : List PlainEvent) → weight f (a ++ b) ≡ weight f a + weight f b
 weight-append f [] b = omega arith
 weight-append f (x ∷ a) b = let more = weight-append f a b in omega arith

@@ -11,7 +11,7 @@ use Rattle.plain_model.specs.declared.operation.FileOp.{FileOp}
 use Rattle.plain_model.specs.declared.event.PlainEvent.{PlainEvent}
 use Rattle.plain_model.specs.declared.event.PlainEvent.TheVariants.{Blob, Commit, Tag, Reset, Pass}
 use Rattle.plain_model.specs.Histories.{Node, begun, folded, node_at, past, tree}
-use Rattle.plain_model.specs.Lookups.{id_of, op_blobs, same_id}
+use Rattle.plain_model.specs.Lookups.{op_blobs, same_id}
 use Rattle.plain_model.specs.Soundness.{IsCommitOf, IsFormedEvent, IsFormedOp, IsSound, are_distinct, has_id}
 use Rattle.plain_model.specs.Streams.{is_marked}
 use Rattle.plain_model.specs.Trees.{Tree}
@@ -22,16 +22,18 @@ use Rattle.plain_model.proofs.Numbers.{eqb_turned}
 use Rattle.history_laws.proofs.LineLaws.{folded_more}
 use Rattle.history_laws.proofs.Ids.{has_id-append, has_id-cons, is_marked-append, same_id-true}
 use Rattle.history_laws.proofs.Lists.{all_imply, all_join}
-use Rattle.edit_laws.proofs.Lists.{OfNodes, all_flat, all_front, all_rear, all_true, events_of_nodes, has_own_id, none_passing, own_id, some_passing, tally_append, true_all}
+use Rattle.edit_laws.proofs.Lists.{OfNodes, all_flat, all_front, all_rear, all_true, events_of_nodes, has_own_id, none_passing, own_id, own_sum, some_passing, tally_append, true_all}
 use Rattle.edit_laws.proofs.Sound.{from_parts, in_parts}
 use Rattle.edit_laws.proofs.Trees.{trees_solve}
 use Rattle.commit_laws.specs.Selected.{node_of}
-use Rattle.commit_laws.proofs.Given.{IsGiven, IsHere, There, all_drop, all_given, all_take, joined_blobs, parted_blobs, here_parents, parents_here, rank}
+use Rattle.commit_laws.proofs.Given.{IsGiven, IsHere, all_drop, all_given, all_take, here_parents, parents_here, rank}
 use Rattle.plain_model.specs.Marks.{IsMark}
 use Rattle.plain_model.specs.Snapshots.{shown_tree}
 use Rattle.edit_laws.specs.Blobs.{HasBytesOf}
+use Rattle.edit_laws.proofs.Fine.{There, joined_blobs, parted_blobs}
 use Rattle.edit_laws.proofs.Settles.{sound_settles}
 use Rattle.edit_laws.proofs.Shown.{has_own_bytes, shown_alike}
+use Rattle.edit_laws.proofs.Tallies.{tally_sum}
 use Rattle.split_laws.specs.Split.{onto, split_event, split_list}
 
 -- ---- parts of lists
@@ -50,10 +52,6 @@ tally_into f g h each (e ∷ es) =
     let rest = tally_into f g h each es in
     let parts = tally_append f (h e) (flat_map h es) in
     omega arith
-
-tally_two : (f g : PlainEvent → ℕ) (es : List PlainEvent) → tally (λ e. f e + g e) es ≡ tally f es + tally g es
-tally_two f g [] = refl
-tally_two f g (e ∷ es) = let rest = tally_two f g es in omega arith
 
 -- one sum where a test passes, and else nothing
 abbrev only_if : Bool → (PlainEvent → ℕ) → PlainEvent → ℕ
@@ -155,9 +153,6 @@ module _ (c copy mark kept : ℕ) where
 
   abbrev copied_mark : ℕ → PlainEvent → ℕ
   copied_mark m e = only_if (mark == m) (of_id (any.Commit c)) e
-
-  own_sum : (id : AnyId) (x e : PlainEvent) → id_of x ≡ id_of e → of_id id x ≡ of_id id e
-  own_sum id x e same = ap one_if (own_id x id ∙ ap (same_id id) same ∙ sym (own_id e id))
 
   one_id : (id : AnyId) (e : PlainEvent) → tally (of_id id) (halves e) ≤ of_id id e + copied_id id e
   one_id id (Commit i m branch author committer encoding comment parents ops aliases) = go (i == c) refl
@@ -381,7 +376,7 @@ module _ (c copy mark kept : ℕ) where
       ids = λ id.
           let o = (in_parts events h).once in
           let most = tally_into (of_id id) (λ e. of_id id e + copied_id id e) halves (one_id id) events in
-          let two = tally_two (of_id id) (copied_id id) events in
+          let two = tally_sum (of_id id) (copied_id id) events in
           let if_copy = tally_if (same_id id (any.Commit copy)) (of_id (any.Commit c)) events in
           let all = at_most_once (same_id id (any.Commit copy)) (tally (of_id id) events) (tally (of_id (any.Commit c)) events) (o.ids id) (o.ids (any.Commit c))
           (λ is. none_passing (λ l. has_id l id) (λ xs ys. has_id-append xs ys id) refl events (ap (has_id events) (same_id-true id (any.Commit copy) is) ∙ fresh)) in
@@ -389,7 +384,7 @@ module _ (c copy mark kept : ℕ) where
       marks = λ n.
           let o = (in_parts events h).once in
           let most = tally_into (of_mark n) (λ e. of_mark n e + copied_mark n e) halves (one_mark n) events in
-          let two = tally_two (of_mark n) (copied_mark n) events in
+          let two = tally_sum (of_mark n) (copied_mark n) events in
           let if_copy = tally_if (mark == n) (of_id (any.Commit c)) events in
           let all = at_most_once (mark == n) (tally (of_mark n) events) (tally (of_id (any.Commit c)) events) (o.marks n) (o.ids (any.Commit c))
           (λ is. none_passing (λ l. is_marked l n) (λ xs ys. is_marked-append xs ys n) refl events (ap (is_marked events) (sym (eqb-true mark n is)) ∙ new_mark)) in
@@ -491,7 +486,7 @@ module _ (c copy mark kept : ℕ) where
               let some = some_passing (λ l. has_id l (any.Commit d)) (λ xs ys. has_id-append xs ys (any.Commit d)) refl new k in
               let none = none_passing (λ l. has_id l (any.Commit d)) (λ xs ys. has_id-append xs ys (any.Commit d)) refl events absent in
               let most = tally_into (of_id (any.Commit d)) (λ e. of_id (any.Commit d) e + copied_id (any.Commit d) e) halves (one_id (any.Commit d)) events in
-              let two = tally_two (of_id (any.Commit d)) (copied_id (any.Commit d)) events in
+              let two = tally_sum (of_id (any.Commit d)) (copied_id (any.Commit d)) events in
               let if_copy = tally_if (d == copy) (of_id (any.Commit c)) events in
               let nothing : cond (d == copy) (tally (of_id (any.Commit c)) events) 0 ≡ 0 = cond-false (d == copy) (tally (of_id (any.Commit c)) events) 0 o in
               absurd (omega arith)

@@ -1,11 +1,9 @@
 -- A line in another order: the list of the plan is what a reorder leaves before it is settled, and settling it ends.
-use Rattle.std.proofs.Common.{◌≡◌, ◌∙◌, ℕ, ◌+◌, ◌≤◌, length, arith, Bool, true, false, cond, inl, inr, List, [], ◌∷◌, ◌++◌, Option, Some, None, Result, Ok, Err, map, refl, sym, ap, subst}
+use Rattle.std.proofs.Common.{◌≡◌, ◌∙◌, ℕ, ◌+◌, ◌≤◌, length, arith, Bool, true, false, cond, List, [], ◌∷◌, ◌++◌, Option, Some, None, Result, Ok, Err, map, refl, sym, ap, subst}
 use Rattle.std.specs.Prelude.{IsSome, nat_lt, option_to_list}
 use Rattle.std.specs.List.{AllByRecursion}
 use Rattle.std.specs.List.Sorted.{IsPermutation}
-use Rattle.std.proofs.lemmas.Bool.{cases_Bool}
 use Rattle.std.proofs.lemmas.Bool.Decides.{nat_tests}
-use Rattle.std.proofs.lemmas.Option.{none-some}
 use Rattle.plain_model.specs.declared.fault.Fault.{Fault}
 use Rattle.plain_model.specs.declared.fault.Fault.TheVariants as fault
 use Rattle.plain_model.specs.declared.fault.Halt.{Halt}
@@ -18,12 +16,11 @@ use Rattle.plain_model.specs.Faults.{Returns}
 use Rattle.plain_model.specs.Histories.{IsLinkedPast, past}
 use Rattle.plain_model.specs.Lookups.{find_event, id_of, same_id}
 use Rattle.plain_model.specs.Soundness.{IsSound, has_id}
-use Rattle.history_laws.proofs.Ids.{same_id-refl, same_id-true}
+use Rattle.history_laws.proofs.Ids.{each_found, find-id}
 use Rattle.history_laws.proofs.Lists.{all_imply}
 use Rattle.event_arena.specs.Changes.{in_order}
-use Rattle.event_arena.specs.Once.{AreDistinct}
-use Rattle.event_arena.proofs.SoundLemmas.{has_id-find, sound-once}
-use Rattle.event_arena.proofs.SpentLemmas.{find-id}
+use Rattle.history_laws.specs.Once.{AreDistinct}
+use Rattle.history_laws.proofs.SoundOnce.{has_id-find, sound-once}
 use Rattle.edit_laws.specs.Parts.{AreComplete, of_id, one_if, tally}
 use Rattle.edit_laws.specs.Settling.{settle}
 use Rattle.edit_laws.proofs.Lists.{own_id}
@@ -31,11 +28,10 @@ use Rattle.edit_laws.proofs.Settled.{settled}
 use Rattle.edit_laws.proofs.Settles.{any_event, settled_in_order, settled_once, settling_ends}
 use Rattle.edit_laws.proofs.Trees.{linked_in_order}
 use Rattle.graph_walk.specs.Outcome.{IsCauseOf}
-use Rattle.manifest_cache.specs.Checking.{tree_check}
 use Rattle.commit_laws.specs.Selected.{chosen, kind_fault, listed, node_of}
 use Rattle.edit_laws.specs.Selecting.{IsSelection}
 use Rattle.commit_laws.proofs.Selections.{chosen_here}
-use Rattle.reorder_laws.specs.Reorder.{filled, is_placed, last_of, line_fault, lined_up, relinked, relinked_all, reorder_of, reorder_these, reordered, unless_refused}
+use Rattle.reorder_laws.specs.Reorder.{filled, is_placed, last_of, line_fault, lined_up, relinked, relinked_all, reorder_of, reorder_these}
 use Rattle.reorder_laws.proofs.Reordered.{left_settles, left_sums}
 use Rattle.split_reorder.specs.Ordered.{ordered}
 use Rattle.split_reorder.proofs.Permuted.{permuted, tally_times}
@@ -50,20 +46,6 @@ distinct_mapped g same (e ∷ es) d = (
   ap (λ id. find_event id (map g es)) (same e) ∙ absent_mapped g same (id_of e) es d.0,
   distinct_mapped g same es d.1,
 )
-
--- each event is found by its id
-own_found : (es : List PlainEvent) → AreDistinct es → AllByRecursion (λ e. find_event (id_of e) es ≡ Some e) es
-own_found [] d = tt
-own_found (e ∷ es) d = (
-  rw same_id-refl refl,
-  all_imply (λ x. find_event (id_of x) es ≡ Some x) (λ x. find_event (id_of x) (e ∷ es) ≡ Some x) later es (own_found es d.1),
-)
-  where
-    later : (x : PlainEvent) → find_event (id_of x) es ≡ Some x → find_event (id_of x) (e ∷ es) ≡ Some x
-    later x h = elim (cases_Bool (same_id (id_of x) (id_of e))) [
-      | inl it ↦ absurd (none-some x (sym d.0 ∙ ap (λ id. find_event id es) (sym (same_id-true (id_of x) (id_of e) it)) ∙ h))
-      | inr other ↦ rw other h
-    ]
 
 tally_mapped : (f : PlainEvent → ℕ) (g : PlainEvent → PlainEvent) → ((e : PlainEvent) → f (g e) ≡ f e) → (es : List PlainEvent) → tally f (map g es) ≡ tally f es
 tally_mapped f g same [] = refl
@@ -142,17 +124,6 @@ module _ (set : List AnyId) (whole : List PlainEvent) where
 
 -- ---- the line
 
-abbrev pub on_made : List PlainEvent → Result (List PlainEvent) (List PlainEvent) → Result (List PlainEvent) Fault
-on_made events r = elim r [ Ok new ↦ unless_refused new | Err never ↦ Ok events ]
-
-abbrev pub on_line : List PlainEvent → Result (List PlainEvent) (List PlainEvent) → Option Fault → Result (List PlainEvent) Fault
-on_line events r o = elim o [ Some why ↦ Err why | None ↦ on_made events r ]
-
--- a line that isn't one
-pub not_linear : (set : List AnyId) (events : List PlainEvent) (v : ℕ) (vs : List ℕ) (w : ℕ) (ws : List ℕ) (why : Fault) → line_fault events v vs ≡ Some why →
-    reorder_these set events (v ∷ vs) (w ∷ ws) ≡ Err why
-not_linear set events v vs w ws why is = ap (on_line events (reordered set events v vs w ws)) is
-
 module _ (set : List AnyId) (events : List PlainEvent) (h : IsSound events) (sel : IsSelection events set) (v : ℕ) (vs : List ℕ) (w : ℕ) (ws : List ℕ) (is_vs : listed set events ≡ v ∷ vs) (is_ws : chosen set ≡ w ∷ ws) (line : line_fault events v vs ≡ None) where
   abbrev given : List (ℕ × List ℕ)
   given = lined_up (node_of events v).parents (w ∷ ws)
@@ -192,7 +163,7 @@ module _ (set : List AnyId) (events : List PlainEvent) (h : IsSound events) (sel
   pub order_puts : in_order (ordered set (w ∷ ws) events) whole ≡ its
   order_puts =
       ap (λ (ids : List AnyId). in_order ids whole) (sym (ordered_linked given (last_of v vs) (last_of w ws) set (w ∷ ws) events))
-      ∙ puts set whole (w ∷ ws) whole (own_found whole whole_once)
+      ∙ puts set whole (w ∷ ws) whole (each_found whole whole_once)
 
   pub its_complete : AreComplete its
   its_complete = (left_settles set events h sel v vs w ws is_vs is_ws line).complete
@@ -209,19 +180,6 @@ module _ (set : List AnyId) (events : List PlainEvent) (h : IsSound events) (sel
   settled_linked new made =
       let can = left_settles set events h sel v vs w ws is_vs is_ws line in
       linked_in_order new (settled_once its new can.once (settled (λ e. Unit {0}) its new (any_event its) made)) (settled_in_order its new made)
-
-  -- then the trees decide
-  pub settled_answer : (new : List PlainEvent) → settle its ≡ Ok new → reorder_these set events (v ∷ vs) (w ∷ ws) ≡ unless_refused new
-  settled_answer new made = ap (on_line events (reordered set events v vs w ws)) line ∙ ap (on_made events) made
-
-abbrev pub checked : List PlainEvent → Result (Unit {0}) Fault → Result (List PlainEvent) Fault
-checked new r = elim r [ Ok done ↦ Ok new | Err why ↦ Err why ]
-
--- what the tree check refuses
-pub check_fault : {X : Type 0} (view : X → List PlainEvent) (new : List PlainEvent) (answer : Result (List PlainEvent) Fault) → answer ≡ unless_refused new →
-    (why : Halt) → Returns {X = Unit {0}} {Y = Unit {0}} (λ done. done) (Err why) (tree_check new) → Returns view (Err why) answer
-check_fault view new answer is halt.Memory refused = tt
-check_fault view new answer is (halt.Refused fault) refused = is ∙ ap (checked new) refused
 
 -- ---- the whole
 

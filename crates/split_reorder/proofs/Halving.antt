@@ -12,10 +12,10 @@ use Rattle.plain_model.specs.declared.event.PlainEvent.TheVariants.{Blob, Commit
 use Rattle.plain_model.specs.Lookups.{AreIdsBelow, find_event, id_of, same_id}
 use Rattle.plain_model.proofs.Numbers.{eqb_turned}
 use Rattle.event_arena.specs.Changes.{changed, put_after, with_ops}
-use Rattle.event_arena.specs.Once.{AreDistinct}
-use Rattle.event_arena.proofs.SoundLemmas.{sound-once}
-use Rattle.event_arena.proofs.SpentLemmas.{absent-cons}
+use Rattle.history_laws.specs.Once.{AreDistinct}
+use Rattle.history_laws.proofs.SoundOnce.{sound-once}
 use Rattle.plain_model.specs.Soundness.{IsSound}
+use Rattle.history_laws.proofs.Ids.{absent-cons}
 use Rattle.commit_laws.proofs.Given.{rank}
 use Rattle.split_laws.specs.Split.{onto, split_event, split_list}
 use Rattle.split_reorder.specs.Copies.{put_onto}

@@ -1,6 +1,6 @@
 -- The order in which a reorder puts the events.
 use Rattle.std.proofs.Common.{◌≡◌, ◌∙◌, ℕ, suc, Bool, true, false, cond, List, [], ◌∷◌, ◌++◌, Some, map, drop, length, arith, append_assoc, refl, sym, ap}
-use Rattle.std.specs.Prelude.{option_to_list, slice_get}
+use Rattle.std.specs.Prelude.{slice_get}
 use Rattle.plain_model.specs.declared.id.AnyId.{AnyId}
 use Rattle.plain_model.specs.declared.id.AnyId.TheVariants as any
 use Rattle.plain_model.specs.declared.event.PlainEvent.{PlainEvent}
@@ -8,40 +8,11 @@ use Rattle.plain_model.specs.declared.event.PlainEvent.TheVariants.{Blob, Commit
 use Rattle.plain_model.specs.Histories.{Node}
 use Rattle.plain_model.specs.Lookups.{id_of, is_listed}
 use Rattle.event_arena.proofs.ListLemmas.{drop-item}
-use Rattle.manifest_cache.specs.Walks.{commit_id}
 use Rattle.commit_laws.specs.Selected.{listed}
 use Rattle.reorder_laws.specs.Reorder.{is_placed}
 use Rattle.split_reorder.specs.Ordered.{ordered}
 
 module _ (set : List AnyId) where
-  -- one event: the commit, if it is one of the set
-  pub listed_one : (e : PlainEvent) → listed set (e ∷ []) ≡ cond (is_listed (id_of e) set) (option_to_list (commit_id e)) []
-  listed_one (Commit id mark branch author committer encoding comment parents ops aliases) = go (is_listed (any.Commit id) set)
-    where
-      go : (b : Bool) → map (λ (n : Node). n.id) (cond b (record { id = id; parents = parents; ops = ops } ∷ []) []) ≡ cond b (id ∷ []) []
-      go true = refl
-      go false = refl
-  listed_one (Blob id mark bytes) = none (is_listed (any.Blob id) set)
-    where
-      none : (b : Bool) → ◌≡◌ {A = List ℕ} [] (cond b [] [])
-      none true = refl
-      none false = refl
-  listed_one (Tag id name target tagger comment mark) = none (is_listed (any.Tag id) set)
-    where
-      none : (b : Bool) → ◌≡◌ {A = List ℕ} [] (cond b [] [])
-      none true = refl
-      none false = refl
-  listed_one (Reset id branch target) = none (is_listed (any.Reset id) set)
-    where
-      none : (b : Bool) → ◌≡◌ {A = List ℕ} [] (cond b [] [])
-      none true = refl
-      none false = refl
-  listed_one (Pass id line) = none (is_listed (any.Pass id) set)
-    where
-      none : (b : Bool) → ◌≡◌ {A = List ℕ} [] (cond b [] [])
-      none true = refl
-      none false = refl
-
   -- a place is one of the set's where its event is listed
   pub placed_some : (e : PlainEvent) (c : ℕ) → c ∷ [] ≡ listed set (e ∷ []) → is_placed set e ≡ true
   placed_some (Commit id mark branch author committer encoding comment parents ops aliases) c h = go (is_listed (any.Commit id) set) h
@@ -66,10 +37,6 @@ module _ (set : List AnyId) where
   placed_none (Pass id line) h = refl
 
   -- ---- the order
-
-  pub ordered_end : (ws : List ℕ) → ordered set ws [] ≡ []
-  ordered_end [] = refl
-  ordered_end (w ∷ ws) = refl
 
   -- an event that stays where it is
   pub ordered_other : (ws : List ℕ) (e : PlainEvent) (es : List PlainEvent) → is_placed set e ≡ false → ordered set ws (e ∷ es) ≡ id_of e ∷ ordered set ws es

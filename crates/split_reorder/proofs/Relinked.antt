@@ -10,14 +10,14 @@ use Rattle.plain_model.specs.declared.event.PlainEvent.TheVariants.{Blob, Commit
 use Rattle.plain_model.specs.Histories.{Node}
 use Rattle.plain_model.specs.Lookups.{children_of, find_event, id_of, same_id}
 use Rattle.plain_model.specs.Soundness.{IsSound, are_distinct}
-use Rattle.history_laws.proofs.Ids.{same_id-true}
+use Rattle.history_laws.proofs.Ids.{absent-cons, same_id-true}
 use Rattle.event_arena.specs.declared.field.Field.TheVariants as field
 use Rattle.event_arena.specs.Changes.{changed, with_parents}
-use Rattle.event_arena.specs.Once.{AreDistinct}
+use Rattle.history_laws.specs.Once.{AreDistinct}
+use Rattle.history_laws.proofs.Lists.{map_same}
 use Rattle.event_arena.proofs.ChangeLemmas.{id-with_field}
 use Rattle.event_arena.proofs.DistinctLemmas.{distinct-changed}
-use Rattle.event_arena.proofs.SoundLemmas.{sound-once}
-use Rattle.event_arena.proofs.SpentLemmas.{absent-cons}
+use Rattle.history_laws.proofs.SoundOnce.{sound-once}
 use Rattle.edit_laws.proofs.Lists.{OfNodes}
 use Rattle.commit_laws.specs.Selected.{node_of}
 use Rattle.commit_laws.proofs.Given.{IsGiven, all_given, rank}
@@ -28,10 +28,6 @@ use Rattle.split_reorder.proofs.Halving.{unmoved}
 use Rattle.plan_steps.proofs.Nodes.{found_parts}
 
 -- ---- lists
-
-map_same : (g : PlainEvent → PlainEvent) (es : List PlainEvent) → AllByRecursion (λ e. g e ≡ e) es → map g es ≡ es
-map_same g [] a = refl
-map_same g (e ∷ es) a = λ i. a.0 i ∷ map_same g es a.1 i
 
 map_twice : (f g : PlainEvent → PlainEvent) (es : List PlainEvent) → map f (map g es) ≡ map (λ e. f (g e)) es
 map_twice f g [] = refl

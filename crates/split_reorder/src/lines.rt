@@ -2,7 +2,8 @@
 ghost use Rattle.std.specs.Prelude.{◌≡◌, ◌&&◌};
 ghost use Rattle.commit_laws.specs.Selected.{node_of};
 ghost use Rattle.plain_model.specs.Lookups.{children_of};
-ghost use Rattle.reorder_laws.specs.Reorder.{is_only, last_of, line_fault};
+ghost use Rattle.reorder_laws.specs.Reorder.{last_of, line_fault};
+ghost use Rattle.history_laws.specs.Finding.{is_only};
 
 use event_arena::Events;
 use plain_model::{AnyId, CommitId, Fault};

@@ -31,8 +31,8 @@ use Rattle.edit_laws.proofs.Trees.{linked_in_order}
 use Rattle.plain_model.specs.declared.fault.Halt.{Halt}
 use Rattle.plain_model.specs.declared.fault.Halt.TheVariants as halt
 use Rattle.plain_model.specs.Faults.{Returns}
+use Rattle.edit_laws.specs.Checking.{unless}
 use Rattle.graph_walk.specs.Outcome.{IsCauseOf}
-use Rattle.manifest_cache.specs.Checking.{unless}
 use Rattle.squash_laws.specs.Faults.{checked_after, fault_before, squash_of, trees_checked}
 use Rattle.squash_laws.specs.Removed.{Takings, is_removed, without_set}
 use Rattle.squash_laws.specs.Squash.{anew, hanging, links, moved, ops_after, squashed, takes}
@@ -44,7 +44,7 @@ use Rattle.squash_laws.proofs.Squashed.{squash_ends, squash_settles}
 use Rattle.squash_delete.specs.Judged.{IsLeft, IsLeftOf, ParentsAre, judged, limit_passed}
 use Rattle.squash_delete.specs.Leaving.{event_after, goes, staying, with_takings}
 use Rattle.squash_delete.specs.Sources.{count_ops}
-use Rattle.squash_delete.specs.Targets.{AreMoves, AreTargets, discarded, lost_target, moving, target_for}
+use Rattle.squash_delete.specs.Targets.{AreMoves, lost_target, moving, target_for}
 use Rattle.squash_delete.specs.declared.counting.Left.{Left}
 use Rattle.squash_delete.specs.declared.counting.Left.TheVariants.{All, ManyOperations}
 use Rattle.plan_limits.proofs.Counting.{any_item, more_than}
@@ -67,10 +67,6 @@ abbrev pub done_or : List PlainEvent → Result (Unit {0}) Fault → Result (Lis
 done_or new checks = elim checks [ Ok done ↦ Ok new | Err why ↦ Err why ]
 
 module _ (how : Policy) (set : List AnyId) (events : List PlainEvent) where
-  -- what can't be done is refused before all else
-  pub squash_unable : (why : Fault) → fault_before how.push set events ≡ Some why → squash_of how set events ≡ Err why
-  squash_unable why some = ap (outcome how.push events (squashed set events how)) some
-
   squash_made : (new : List PlainEvent) → fault_before how.push set events ≡ None → squashed set events how ≡ Ok new →
       squash_of how set events ≡ done_or new (checked_after how.push new)
   squash_made new none made =
@@ -165,12 +161,6 @@ check_fault view new answer checks is (halt.Refused fault) checked = is ∙ ap (
 abbrev pub TargetIs : (ℕ → Option ℕ) → PlainEvent → Option ℕ → Type 0
 TargetIs goes_to e x = x ≡ target_for goes_to e
 
-pub targets_all : (goes_to : ℕ → Option ℕ) (events : List PlainEvent) (k : ℕ) (table : List (Option ℕ)) → k ≡ length events →
-    IsTableTo None (TargetIs goes_to) events k table → AreTargets goes_to events table
-targets_all goes_to events k table all t =
-    let whole = table_all None (TargetIs goes_to) events k table all t in
-    record { count = whole.count; target = whole.entry }
-
 -- the entry of a tag or a reset on a removed commit is where it moves
 abbrev pub MoveIs : List AnyId → (ℕ → Option ℕ) → PlainEvent → Option ℕ → Type 0
 MoveIs set goes_to e x = x ≡ option_and_then goes_to (lost_target set e)
@@ -191,37 +181,6 @@ pub moves_none : (set : List AnyId) (events : List PlainEvent) (tags : Lean) →
 moves_none set events tags none = record {
   target = λ j c e at on. absurd (true≢false (sym (any_item (λ x. is_some (lost_target set x)) events j e at (ap is_some on)) ∙ none));
   stays = λ c kept. ap (λ b. cond b (moved set events tags c) (Some c)) kept;
-}
-
--- where they go with their commits
-pub moves_kept : (set : List AnyId) (events : List PlainEvent) → AreMoves set (discarded set) events []
-moves_kept set events = record {
-  target = λ j c e at on. sym (ap (λ b. cond b None (Some c)) (lost_is set c e on).1);
-  stays = λ c kept. ap (λ b. cond b None (Some c)) kept;
-}
-
--- a table of moves is one of those that go to the same
-pub same_moves : (set : List AnyId) (f g : ℕ → Option ℕ) → ((c : ℕ) → f c ≡ g c) → (events : List PlainEvent) (table : List (Option ℕ)) →
-    AreMoves set f events table → AreMoves set g events table
-same_moves set f g same events table t = record {
-  target = λ k c e at on. t.target k c e at on ∙ same c;
-  stays = λ c kept. sym (same c) ∙ t.stays c kept;
-}
-
-targets_alike : (f g : ℕ → Option ℕ) → ((c : ℕ) → f c ≡ g c) → (e : PlainEvent) → target_for f e ≡ target_for g e
-targets_alike f g same (Tag id name target tagger comment mark) = same target
-targets_alike f g same (Reset id branch (Some target)) = same target
-targets_alike f g same (Reset id branch None) = refl
-targets_alike f g same (Blob id mark bytes) = refl
-targets_alike f g same (Commit id mark branch author committer encoding comment parents ops aliases) = refl
-targets_alike f g same (Pass id line) = refl
-
--- a table of targets is one of those that go to the same
-pub same_targets : (f g : ℕ → Option ℕ) → ((c : ℕ) → f c ≡ g c) → (events : List PlainEvent) (table : List (Option ℕ)) →
-    AreTargets f events table → AreTargets g events table
-same_targets f g same events table t = record {
-  count = t.count;
-  target = λ k e is. t.target k e is ∙ targets_alike f g same e;
 }
 
 -- ---- what is left
@@ -343,9 +302,3 @@ judged_fault how set events h none old new ManyOperations why l some =
     passed : (left : List PlainEvent) → length left ≤ MAX_EVENTS → MAX_OPERATIONS < length (ops_along (nodes left)) →
         limit_passed l.0 left ≡ Some (fault.Limit limit.Operations MAX_OPERATIONS)
     passed left short many = rw (not_many MAX_EVENTS (length left) short, more_than MAX_OPERATIONS (length (ops_along (nodes left))) many) refl
-
--- what is left of a removal is left of what it was made of
-pub left_of_args : (how : Policy) (s set : List AnyId) (es events : List PlainEvent) (old new : Change) (left : Left) → s ≡ set → es ≡ events →
-    IsLeftOf s es (takes s es how) old left new → IsLeftOf set events (takes set events how) old left new
-left_of_args how s set es events old new left a b l =
-    subst (λ (x : List AnyId). IsLeftOf x events (takes x events how) old left new) a (subst (λ (y : List PlainEvent). IsLeftOf s y (takes s y how) old left new) b l)

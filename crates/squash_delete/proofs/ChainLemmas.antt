@@ -1,11 +1,11 @@
 -- Chains of removed commits by what is noted of each, and what they carry along.
 use Rattle.std.proofs.Common.{◌≡◌, ◌∙◌, ℕ, zero, suc, ◌+◌, ◌≤◌, Bool, true, false, cond, ◌||◌, ◌&&◌, inl, inr, ◌⊎◌, List, [], ◌∷◌, ◌++◌, Option, Some, None, refl, sym, ap, subst, length, take, reverse, arith, append-nil, append_assoc, true≢false, flat_map, map}
 use Rattle.std.proofs.lemmas.Bool.{and_parts, or_parts}
-use Rattle.std.proofs.lemmas.List.{map-append, reverse-append}
+use Rattle.std.proofs.lemmas.List.{map-append}
 use Rattle.std.proofs.lemmas.Option.{none-some, same_Some}
 use Rattle.std.specs.List.{AllByRecursion, list_all, list_any}
 use Rattle.std.specs.Option.{option_map_or}
-use Rattle.std.specs.Prelude.{◌==◌, IsSome, is_some, option_map, slice_get, unwrap_or}
+use Rattle.std.specs.Prelude.{◌==◌, IsSome, option_map, slice_get, unwrap_or}
 use Rattle.plain_model.proofs.Numbers.{eqb_turned}
 use Rattle.plain_model.specs.declared.id.AnyId.{AnyId}
 use Rattle.plain_model.specs.declared.id.AnyId.TheVariants as any
@@ -16,20 +16,20 @@ use Rattle.plain_model.specs.Lookups.{event_parents, find_event, place_of}
 use Rattle.plain_model.specs.Paths.{Bytes}
 use Rattle.plain_model.specs.Soundness.{IsCommitOf, IsSound}
 use Rattle.ancestry_laws.proofs.Pasts.{linked_past}
-use Rattle.event_arena.specs.Once.{AreDistinct}
+use Rattle.history_laws.specs.Once.{AreDistinct}
 use Rattle.event_arena.proofs.ListLemmas.{take-all}
-use Rattle.event_arena.proofs.SoundLemmas.{has_id-find}
+use Rattle.history_laws.proofs.SoundOnce.{has_id-find}
 use Rattle.graph_walk.proofs.EarlierLemmas.{is_earlier, parents_before}
 use Rattle.graph_walk.proofs.PlaceLemmas.{place_found}
 use Rattle.history_laws.specs.FirstParents.{ops_along}
+use Rattle.history_laws.proofs.LineLaws.{along_more}
 use Rattle.edit_laws.specs.Removal.{chain, expand, expand_all, once_each}
-use Rattle.edit_laws.proofs.Chains.{along_more}
 use Rattle.edit_laws.proofs.Following.{chain_at, chain_none, expand_at, expand_itself}
 use Rattle.manifest_cache.specs.Walks.{event_ops, ops_at}
 use Rattle.squash_laws.specs.Comments.{comment_of, joined, joined_two}
 use Rattle.squash_laws.specs.Removed.{is_removed}
 use Rattle.squash_laws.specs.Squash.{comments_of, is_from_root, is_none, links}
-use Rattle.squash_delete.specs.Chains.{AreBefore, Carry, IsNearest, Notes, comments_to, depth, no_link, ops_to, parents_at}
+use Rattle.squash_delete.specs.Chains.{AreBefore, IsNearest, Notes, comments_to, depth, no_link, ops_to, parents_at}
 use Rattle.squash_delete.specs.Taking.{event_comment}
 use Rattle.squash_delete.proofs.NodeLemmas.{found_node, node_of}
 
@@ -85,14 +85,6 @@ chain_first removed (n ∷ older) p ps qs = ap (cond (n.id == p) (cond (removed 
 pub depth_at : (events : List PlainEvent) (c k : ℕ) → place_of (any.Commit c) events ≡ Some k → depth events c ≡ k + 1
 depth_at events c k there = ap (λ o. unwrap_or (option_map (λ place. place + 1) o) 0) there
 
--- one that has a depth has a place
-pub depth_of : (events : List PlainEvent) (c : ℕ) → is_some (place_of (any.Commit c) events) ≡ false → depth events c ≡ 0
-depth_of events c none = by (place_of (any.Commit c) events) none
-  where
-    by : (o : Option ℕ) → is_some o ≡ false → unwrap_or (option_map (λ place. place + 1) o) 0 ≡ 0
-    by None none = refl
-    by (Some k) none = absurd (true≢false none)
-
 -- an earlier commit is no deeper
 pub depth_before : (events : List PlainEvent) → AreDistinct events → (k p : ℕ) → IsCommitOf (take k events) p → depth events p ≤ k
 depth_before events once k p known =
@@ -114,18 +106,7 @@ pub own_before : (events : List PlainEvent) → IsSound events → (k n : ℕ) (
 own_before events h k n e ps at is own =
     subst (λ m. AreBefore events m ps) (sym is) (subst (AreBefore events k) (sym own) (parents_before [] events k e h.formed at))
 
-pub first_of : (P : ℕ → Type 0) (ps : List ℕ) (p : ℕ) → slice_get ps 0 ≡ Some p → AllByRecursion P ps → P p
-first_of P [] p first all = absurd (none-some p first)
-first_of P (q ∷ ps) p first all = subst P (same_Some q p first) all.0
-
 -- ---- some of all
-
-pub all_item : (f : ℕ → Bool) (ps : List ℕ) (k p : ℕ) → slice_get ps k ≡ Some p → list_all f (take k ps) ≡ true → f p ≡ true → list_all f (take (suc k) ps) ≡ true
-all_item f [] k p at all own = absurd (none-some p at)
-all_item f (q ∷ ps) zero p at all own = ap (λ x. f x && true) (same_Some q p at) ∙ ap (λ b. b && true) own
-all_item f (q ∷ ps) (suc k) p at all own =
-    let parts = and_parts (f q) (list_all f (take k ps)) all in
-    ap (λ b. b && list_all f (take (suc k) ps)) parts.0 ∙ all_item f ps k p at parts.1 own
 
 pub not_all : (f : ℕ → Bool) (ps : List ℕ) (k p : ℕ) → slice_get ps k ≡ Some p → f p ≡ false → list_all f ps ≡ false
 not_all f [] k p at own = absurd (none-some p at)
@@ -301,23 +282,3 @@ module _ (set : List AnyId) (events : List PlainEvent) where
     comments = n.comments;
     there = λ d is. (n.there d is).0;
   }
-
-  pub way_goes_on : (most d : ℕ) (parents walk : List ℕ) (near : Option ℕ) → IsNearest set events most (parents_at events d) near →
-      IsOnTheWay parents (Some d) walk → IsOnTheWay parents near (walk ++ d ∷ [])
-  way_goes_on most d parents walk near n w =
-      let turned : reverse (walk ++ d ∷ []) ≡ d ∷ reverse walk = reverse-append walk (d ∷ []) in
-      record {
-        ops =
-            w.ops ∙ append_assoc (ops_along (links set events (parents_at events d))) (ops_at events d) (flat_map (ops_at events) (reverse walk))
-            ∙ ap (λ os. os ++ (ops_at events d ++ flat_map (ops_at events) (reverse walk))) n.ops
-            ∙ ap (λ ds. ops_to set events near ++ flat_map (ops_at events) ds) (sym turned);
-        comments = λ more.
-            w.comments more
-            ∙ ap joined (append_assoc (comments_of set events (links set events (parents_at events d))) (comment_of events d ∷ []) (map (comment_of events) (reverse walk) ++ more))
-            ∙ n.comments (comment_of events d ∷ (map (comment_of events) (reverse walk) ++ more))
-            ∙ ap (λ ds. joined (comments_to set events near ++ (map (comment_of events) ds ++ more))) (sym turned);
-        there = λ x is. (n.there x is).0;
-      }
-
-  pub way_ends : (parents walk : List ℕ) → IsOnTheWay parents None walk → Carry set events parents (reverse walk)
-  way_ends parents walk w = record { ops = w.ops; comments = w.comments }

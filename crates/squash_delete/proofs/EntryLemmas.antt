@@ -1,13 +1,12 @@
 -- What is noted of some commits, by the places of entries, and of one commit after another.
-use Rattle.std.proofs.Common.{◌≡◌, ◌∙◌, ℕ, zero, suc, ◌-◌, ◌<◌, ◌≤◌, true, false, cond, inl, inr, ◌⊎◌, List, [], ◌∷◌, ◌++◌, Some, refl, sym, ap, subst, length, get_or, arith, eqb-true, ltb, ltb-true, ltb-false}
+use Rattle.std.proofs.Common.{◌≡◌, ◌∙◌, ℕ, zero, suc, ◌<◌, ◌≤◌, true, false, cond, inl, inr, ◌⊎◌, List, [], ◌∷◌, ◌++◌, Some, refl, sym, ap, subst, length, get_or, arith, eqb-true, ltb, ltb-true, ltb-false}
 use Rattle.std.proofs.lemmas.Bool.{cases_Bool, cases_eq, eqb-false}
-use Rattle.std.proofs.lemmas.List.{get_or_append_left, get_or_push, length_push}
-use Rattle.std.proofs.lemmas.List.Sorted.{IsNonDecreasingBy-push}
 use Rattle.std.proofs.lemmas.Bool.Decides.{nat_tests}
 use Rattle.std.specs.List.Sorted.{IsNonDecreasingBy, IsPartitionPoint}
 use Rattle.std.specs.Prelude.{◌==◌, nat_lt, slice_get}
 use Rattle.plain_model.specs.declared.id.AnyId.{AnyId}
 use Rattle.plain_model.specs.declared.event.PlainEvent.{PlainEvent}
+use Rattle.edit_laws.proofs.Limits.{few}
 use Rattle.squash_delete.specs.Chains.{AreEntries, AreLinks, LinkIs, Noted, NotesNext, no_link, noted_at}
 use Rattle.squash_delete.specs.Near.{NoneNear}
 use Rattle.squash_delete.specs.declared.chains.Entry.{Entry}
@@ -64,27 +63,6 @@ module _ (count : ℕ) (xs : List Entry) (are : AreEntries count xs) where
   pub noted_past : (k : ℕ) → count ≤ k → noted_at xs k ≡ no_link
   noted_past k past = noted_none xs k (λ j low is. let below = are.below j no_entry low in absurd (omega arith))
 
-  pub entries_later : (to : ℕ) → count ≤ to → AreEntries to xs
-  entries_later to later = record { rising = are.rising; below = λ i d low. let below = are.below i d low in omega arith }
-
-  pub entries_more : (link : Link) → AreEntries (suc count) (xs ++ record { place = count; link = link } ∷ [])
-  entries_more link = record {
-    rising = IsNonDecreasingBy-push (λ (x : Entry). x.place) xs (record { place = count; link = link }) are.rising (λ d some.
-        let below = are.below (length xs - 1) d (omega arith) in omega arith);
-    below = λ i d low. either i d low (cases_eq i (length xs));
-  }
-    where
-      either : (i : ℕ) (d : Entry) → i < length (xs ++ record { place = count; link = link } ∷ []) → (i ≡ length xs) ⊎ (i ≡ length xs → ⊥) →
-          (get_or (xs ++ record { place = count; link = link } ∷ []) i d).place < suc count
-      either i d low (inl is) =
-          let own = ap (λ (x : Entry). x.place) (get_or_push xs (record { place = count; link = link }) d i (sym is)) in omega arith
-      either i d low (inr other) =
-          let long = length_push xs (record { place = count; link = link }) in
-          let under : i < length xs = omega arith in
-          let own = ap (λ (x : Entry). x.place) (get_or_append_left xs (record { place = count; link = link } ∷ []) d i under) in
-          let below = are.below i d under in
-          omega arith
-
   pub notes_next : (link : Link) →
       NotesNext (record { count = count; entries = xs }) link (record { count = suc count; entries = xs ++ record { place = count; link = link } ∷ [] })
   notes_next link = record {
@@ -97,9 +75,6 @@ module _ (count : ℕ) (xs : List Entry) (are : AreEntries count xs) where
 
 nat_lt-true : (a b : ℕ) → nat_lt a b ≡ true → a < b
 nat_lt-true a b h = grind (arith, nat_tests)
-
-nat_lt-false : (a b : ℕ) → nat_lt a b ≡ false → b ≤ a
-nat_lt-false a b h = grind (arith, nat_tests)
 
 module _ (xs : List Entry) (i place : ℕ) (point : IsPartitionPoint (λ (x : Entry). ltb x.place place ≡ true) (λ (x : Entry). ltb x.place place ≡ false) xs i) where
   earlier : (j : ℕ) → j < length xs → j < i → (get_or xs j no_entry).place < place
@@ -120,7 +95,7 @@ module _ (xs : List Entry) (i place : ℕ) (point : IsPartitionPoint (λ (x : En
   -- none has it, where all are earlier, and where that one has another
   pub noted_past_all : false ≡ nat_lt i (length xs) → no_link ≡ noted_at xs place
   noted_past_all past =
-      let over = nat_lt-false i (length xs) (sym past) in
+      let over = few i (length xs) (sym past) in
       sym (noted_none xs place (λ j low same. let below = earlier j low (omega arith) in absurd (omega arith)))
 
   pub noted_other : IsNonDecreasingBy (λ (x : Entry). x.place) xs → (entry : Entry) → true ≡ nat_lt i (length xs) → entry ≡ get_or xs i entry → (entry.place ≡ place → ⊥) →

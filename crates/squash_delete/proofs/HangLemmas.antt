@@ -1,8 +1,8 @@
 -- The removed commits that hang on others, and how many children commits have, event by event.
-use Rattle.std.proofs.Common.{◌≡◌, ◌∙◌, ℕ, zero, suc, ◌+◌, ◌<◌, ◌≤◌, Bool, true, false, cond, ◌&&◌, inl, inr, List, [], ◌∷◌, ◌++◌, Option, Some, None, refl, sym, ap, length, get_or, take, drop, arith, append-nil, map, filter, true≢false, replicate, length-append}
+use Rattle.std.proofs.Common.{◌≡◌, ◌∙◌, ℕ, zero, suc, ◌+◌, ◌<◌, ◌≤◌, Bool, true, false, cond, ◌&&◌, inl, inr, List, [], ◌∷◌, ◌++◌, Option, Some, None, refl, sym, ap, length, get_or, take, drop, arith, append-nil, map, filter, true≢false, length-append}
 use Rattle.std.proofs.Math.ListN.{set as set_at}
 use Rattle.std.proofs.lemmas.Bool.{cases_eq, cond-true, cond-false, false_from_ne_true}
-use Rattle.std.proofs.lemmas.List.{get_or-set_other, get_or-set_same, length-set, length-replicate, map-append}
+use Rattle.std.proofs.lemmas.List.{get_or-set_other, get_or-set_same, length-set, map-append}
 use Rattle.std.proofs.lemmas.List.Elements.{filter-append}
 use Rattle.std.proofs.lemmas.Option.{none-some, same_Some}
 use Rattle.std.specs.Option.{option_or}
@@ -17,9 +17,9 @@ use Rattle.plain_model.specs.Histories.{Node, nodes}
 use Rattle.plain_model.specs.Lookups.{event_parents, find_event, place_of}
 use Rattle.plain_model.specs.Soundness.{IsSound}
 use Rattle.history_laws.proofs.Commits.{nodes_append}
-use Rattle.event_arena.specs.Once.{AreDistinct}
-use Rattle.event_arena.proofs.ListLemmas.{drop-item, take-item, take-all}
-use Rattle.event_arena.proofs.SoundLemmas.{has_id-find, sound-once}
+use Rattle.history_laws.specs.Once.{AreDistinct}
+use Rattle.event_arena.proofs.ListLemmas.{drop-item, take-item}
+use Rattle.history_laws.proofs.SoundOnce.{has_id-find, sound-once}
 use Rattle.graph_walk.proofs.PlaceLemmas.{place_found}
 use Rattle.manifest_cache.specs.Walks.{commit_id}
 use Rattle.squash_laws.proofs.Takes.{target_stays}
@@ -29,14 +29,11 @@ use Rattle.squash_laws.specs.Squash.{back_of, forward_of, is_it}
 use Rattle.squash_laws.specs.declared.policy.Lean.TheVariants as lean
 use Rattle.squash_laws.specs.declared.policy.Push.TheVariants as push
 use Rattle.squash_delete.specs.Backing.{AreCountedTo, own_fault}
-use Rattle.squash_delete.specs.Hangings.{AreHung, AreHungTo, hung}
+use Rattle.squash_delete.specs.Hangings.{AreHungTo, hung}
 use Rattle.plan_limits.proofs.Counting.{more_than}
 use Rattle.edit_laws.proofs.Limits.{not_many}
 use Rattle.squash_delete.proofs.NodeLemmas.{node_of}
 use Rattle.squash_delete.proofs.WayLemmas.{is_placed, own_commit}
-
-abbrev no_ids : List ℕ
-no_ids = []
 
 same_number : (c : ℕ) → (c == c) ≡ true
 same_number c = grind (arith)
@@ -149,24 +146,6 @@ module _ (set : List AnyId) (events : List PlainEvent) (h : IsSound events) wher
             ∙ sym (new c ∙ ap (λ b. hung set events k c ++ cond b (own ∷ []) []) test ∙ append-nil (hung set events k c))
       ]
 
-  -- at first nothing hangs
-  pub hung_none : (rows : List (List ℕ)) → rows ≡ replicate (length events) [] → AreHungTo set events 0 rows
-  hung_none rows is = record {
-    count = ap length is ∙ length-replicate (length events) (no_ids);
-    entry = λ j e at c own. ap (λ (xs : List (List ℕ)). get_or xs j []) is ∙ nothing (length events) j;
-  }
-    where
-      nothing : (n j : ℕ) → get_or (replicate n no_ids) j [] ≡ []
-      nothing zero j = refl
-      nothing (suc n) zero = refl
-      nothing (suc n) (suc j) = nothing n j
-
-  pub hung_all : (k : ℕ) (rows : List (List ℕ)) → length events ≤ k → AreHungTo set events k rows → AreHung set events rows
-  hung_all k rows whole a = record {
-    count = a.count;
-    entry = λ j e at c own. a.entry j e at c own ∙ ap (λ (es : List PlainEvent). map (λ (n : Node). n.id) (filter (hangs_on c) (nodes es))) (take-all events k whole ∙ sym (take-all events (length events) (omega arith)));
-  }
-
 -- ---- children
 
 module _ (events : List PlainEvent) (h : IsSound events) where
@@ -236,20 +215,6 @@ module _ (events : List PlainEvent) (h : IsSound events) where
             get_or-set_other counts place j (get_or counts place 0 + 1) 0 (λ e. other (sym e)) ∙ a.entry j x here c is
             ∙ sym (new c ∙ ap (λ b. first_children (take k events) c + cond b 1 0) test ∙ (let z : first_children (take k events) c + 0 ≡ first_children (take k events) c = omega arith in z))
       ]
-
-  abbrev pub zeros : ℕ → List ℕ
-  zeros n = replicate n 0
-
-  pub counted_none : (n : ℕ) → n ≡ length events → AreCountedTo events 0 (zeros n)
-  counted_none n is = record {
-    count = length-replicate n 0 ∙ is;
-    entry = λ j e at c own. nothing n j;
-  }
-    where
-      nothing : (n j : ℕ) → get_or (zeros n) j 0 ≡ 0
-      nothing zero j = refl
-      nothing (suc n) zero = refl
-      nothing (suc n) (suc j) = nothing n j
 
   -- there are no more of them than events
   pub few_children : (es : List PlainEvent) (c : ℕ) → first_children es c ≤ length es

@@ -21,11 +21,12 @@ use Rattle.edit_laws.specs.Passing.{limit_fault}
 use Rattle.edit_laws.specs.Settling.{settle}
 use Rattle.edit_laws.specs.Sweeping.{is_left_over, is_named, swept}
 use Rattle.edit_laws.proofs.Lists.{none_passing, some_passing}
-use Rattle.plan_limits.proofs.Counting.{aliases_counted, more_than, ops_counted, own_aliases, own_ops}
+use Rattle.plan_limits.proofs.Counting.{more_than}
 use Rattle.edit_laws.proofs.Limits.{not_many}
 use Rattle.edit_laws.proofs.Settles.{settled_sums}
 use Rattle.edit_laws.proofs.Sound.{in_parts}
-use Rattle.event_arena.proofs.SoundLemmas.{sound-once}
+use Rattle.history_laws.proofs.SoundOnce.{sound-once}
+use Rattle.edit_laws.proofs.Tallies.{aliases_counted, counted, one, ops_counted, own_aliases, own_ops}
 use Rattle.graph_walk.specs.Expansions.{AreFew, own_change, parent_changes}
 use Rattle.squash_laws.specs.Removed.{Takings, is_removed, parents_after, without_set}
 use Rattle.squash_delete.specs.Judged.{IsLeft, ParentsAre, limit_passed}
@@ -101,13 +102,6 @@ module _ (takes : Takings) (par other : List ℕ → List ℕ) where
   aliases_alike (Pass id line) = refl
 
 -- ---- how many events
-
-abbrev pub one : PlainEvent → ℕ
-one e = 1
-
-counted : (es : List PlainEvent) → tally one es ≡ length es
-counted [] = refl
-counted (e ∷ es) = let rest = counted es in omega arith
 
 -- the first limit that numbers pass
 abbrev limit_of : ℕ → ℕ → Bool → ℕ → Option Fault

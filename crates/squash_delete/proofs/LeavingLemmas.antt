@@ -1,6 +1,6 @@
 -- What is left of a history, part by part.
-use Rattle.std.proofs.Common.{◌≡◌, ◌∙◌, ℕ, zero, suc, ◌+◌, Bool, true, false, cond, not, List, [], ◌∷◌, ◌++◌, Option, Some, None, refl, sym, ap, length, drop, map, filter, flat_map, arith, true≢false, IsTrue}
-use Rattle.std.specs.Prelude.{◌||◌, ◌&&◌, ◌==◌, is_some, option_map, option_to_list, slice_get, unwrap_or}
+use Rattle.std.proofs.Common.{◌≡◌, ◌∙◌, ℕ, zero, suc, ◌+◌, Bool, true, false, cond, not, List, [], ◌∷◌, ◌++◌, Option, Some, None, refl, sym, ap, length, drop, map, flat_map, arith, IsTrue}
+use Rattle.std.specs.Prelude.{◌||◌, ◌&&◌, is_some, option_map, option_to_list, slice_get, unwrap_or}
 use Rattle.std.specs.List.{AllByRecursion, list_any}
 use Rattle.std.proofs.lemmas.Bool.{or_parts}
 use Rattle.plain_model.specs.declared.id.AnyId.{AnyId}
@@ -15,18 +15,21 @@ use Rattle.plain_model.specs.Paths.{Bytes}
 use Rattle.plain_model.specs.Soundness.{are_distinct}
 use Rattle.event_arena.specs.Changes.{changed, with_parents}
 use Rattle.event_arena.specs.Graphs.{Change}
-use Rattle.event_arena.proofs.SoundLemmas.{has_id-find}
-use Rattle.event_arena.specs.Once.{AreDistinct}
+use Rattle.history_laws.proofs.SoundOnce.{has_id-find}
+use Rattle.history_laws.specs.Once.{AreDistinct}
+use Rattle.history_laws.proofs.Lists.{item_at}
 use Rattle.event_arena.proofs.ListLemmas.{drop-item}
+use Rattle.event_arena.proofs.StepLemmas.{none_left}
 use Rattle.edit_laws.specs.Removal.{expand, expand_all, once_each}
 use Rattle.edit_laws.proofs.Following.{expand_itself}
+use Rattle.edit_laws.proofs.Repeats.{distinct_once}
 use Rattle.graph_walk.specs.Expansions.{own_change, parent_changes}
-use Rattle.graph_walk.proofs.PlaceLemmas.{has_id_place, item_at}
+use Rattle.graph_walk.proofs.PlaceLemmas.{has_id_place}
 use Rattle.graph_walk.proofs.TurnLemmas.{all_at}
 use Rattle.squash_laws.specs.Removed.{Takings, all_left, is_removed, left_of, parents_after}
 use Rattle.squash_delete.specs.Leaving.{event_after, goes, staying, with_all_parents, with_own_parents, with_takings}
 use Rattle.squash_delete.specs.Passes.{so_far}
-use Rattle.squash_delete.proofs.Passes.{none_left, so_far_all, step_changed, step_gone, step_same}
+use Rattle.squash_delete.proofs.Passes.{so_far_all, step_changed, step_gone, step_same}
 
 -- ---- ids stay
 
@@ -101,26 +104,10 @@ module _ (set : List AnyId) (events : List PlainEvent) (takes : Takings) where
 
 -- ---- parents
 
-distinct_once_each : (xs : List ℕ) → are_distinct xs ≡ true → once_each xs ≡ xs
-distinct_once_each [] h = refl
-distinct_once_each (x ∷ xs) h =
-    let parts = both (list_any (λ m. m == x) xs) (are_distinct xs) h in
-    ap (λ ys. x ∷ filter (λ y. not (y == x)) ys) (distinct_once_each xs parts.1) ∙ ap (λ ys. x ∷ ys) (none_dropped xs parts.0)
-  where
-    both : (a b : Bool) → not a && b ≡ true → (a ≡ false) × (b ≡ true)
-    both false b h = (refl, h)
-    both true b h = absurd (true≢false (sym h))
-
-    none_dropped : (ys : List ℕ) → list_any (λ m. m == x) ys ≡ false → filter (λ y. not (y == x)) ys ≡ ys
-    none_dropped [] h = refl
-    none_dropped (y ∷ ys) h =
-        let parts = or_parts (y == x) (list_any (λ m. m == x) ys) h in
-        rw parts.0 (ap (λ zs. y ∷ zs) (none_dropped ys parts.1))
-
 -- parents of which none is removed stand for themselves
 pub unremoved_parents : (removed : ℕ → Bool) (older : Past) (parents : List ℕ) → are_distinct parents ≡ true → list_any removed parents ≡ false →
     expand_all removed older parents ≡ parents
-unremoved_parents removed older parents once none = ap once_each (each parents none) ∙ distinct_once_each parents once
+unremoved_parents removed older parents once none = ap once_each (each parents none) ∙ distinct_once parents once
   where
     each : (ps : List ℕ) → list_any removed ps ≡ false → flat_map (expand removed older) ps ≡ ps
     each [] h = refl

@@ -19,12 +19,14 @@ use Rattle.plain_model.specs.Paths.{Bytes}
 use Rattle.plain_model.specs.Soundness.{IsSound}
 use Rattle.history_laws.specs.FirstParents.{ops_along}
 use Rattle.event_arena.specs.Changes.{changed, has_target, with_comment, with_ops, with_target}
-use Rattle.event_arena.specs.Once.{AreDistinct}
+use Rattle.history_laws.specs.Once.{AreDistinct}
+use Rattle.history_laws.proofs.Lists.{item_at}
 use Rattle.event_arena.proofs.ListLemmas.{drop-item, take-all}
-use Rattle.event_arena.proofs.SoundLemmas.{sound-once}
+use Rattle.history_laws.proofs.SoundOnce.{sound-once}
+use Rattle.event_arena.proofs.StepLemmas.{none_left}
 use Rattle.edit_laws.specs.Parts.{tally}
 use Rattle.edit_laws.specs.Removal.{expand_all}
-use Rattle.graph_walk.proofs.PlaceLemmas.{item_at, place_found}
+use Rattle.graph_walk.proofs.PlaceLemmas.{place_found}
 use Rattle.manifest_cache.specs.Walks.{commit_id, event_ops, ops_at}
 use Rattle.squash_laws.specs.Comments.{comment_of, joined}
 use Rattle.squash_laws.specs.Removed.{Takings, is_removed}
@@ -42,7 +44,7 @@ use Rattle.plan_limits.proofs.Counting.{tally_item, tally_less}
 use Rattle.squash_delete.proofs.ChainLemmas.{no_links}
 use Rattle.squash_delete.proofs.NearLemmas.{kept_on, lost_is}
 use Rattle.squash_delete.proofs.LeavingLemmas.{after_id, own_parents_id, takings_id}
-use Rattle.squash_delete.proofs.Passes.{none_left, step_changed, step_gone, step_same}
+use Rattle.squash_delete.proofs.Passes.{step_changed, step_gone, step_same}
 
 pub le_is : (a b : ℕ) → a ≡ b → a ≤ b
 le_is a b is = omega arith

@@ -1,5 +1,5 @@
 -- Flags of what is near a set, and what becomes of the events that aren't.
-use Rattle.std.proofs.Common.{◌≡◌, ◌∙◌, ℕ, suc, Bool, true, false, cond, not, ◌||◌, ◌&&◌, inl, inr, List, [], ◌∷◌, ◌++◌, Option, Some, None, refl, sym, ap, subst, get_or, take, true≢false}
+use Rattle.std.proofs.Common.{◌≡◌, ◌∙◌, ℕ, Bool, true, false, cond, not, ◌||◌, ◌&&◌, inl, inr, List, [], ◌∷◌, ◌++◌, Option, Some, None, refl, sym, ap, subst, get_or, true≢false}
 use Rattle.std.proofs.lemmas.Bool.{cases_Bool, false_from_ne_true, or_from, or_left, or_parts, or_right}
 use Rattle.std.proofs.lemmas.List.Concat.{flat_map-cons}
 use Rattle.std.proofs.lemmas.List.Folds.{list_any-append}
@@ -15,8 +15,7 @@ use Rattle.plain_model.specs.Lookups.{event_parents, find_event, id_of, is_liste
 use Rattle.plain_model.specs.Soundness.{IsSound}
 use Rattle.history_laws.proofs.Ids.{same_id-refl, same_id-true}
 use Rattle.event_arena.specs.Pointers.{AreAmong, HasPointers, is_pointer}
-use Rattle.event_arena.proofs.ListLemmas.{take-item}
-use Rattle.event_arena.proofs.SoundLemmas.{sound-once}
+use Rattle.history_laws.proofs.SoundOnce.{sound-once}
 use Rattle.graph_walk.specs.Children.{children_of_all}
 use Rattle.graph_walk.specs.Flags.{FlagsOf, is_flagged_commit}
 use Rattle.graph_walk.proofs.ChildLemmas.{no_child}
@@ -29,9 +28,6 @@ use Rattle.squash_delete.specs.Targets.{lost_target, target_for}
 use Rattle.squash_delete.proofs.NodeLemmas.{found_at, target_there}
 
 -- ---- ids among others
-
-pub all_here : (ids : List AnyId) → AreAmong ids ids
-all_here ids id h = h
 
 pub all_front : (xs ys : List AnyId) → AreAmong xs (xs ++ ys)
 all_front xs ys id h = list_any-append (same_id id) xs ys ∙ or_left (is_listed id xs) (is_listed id ys) h
@@ -104,13 +100,6 @@ module _ (set : List AnyId) (events : List PlainEvent) (sound : IsSound events) 
           by : (o : Option ℕ) → target_for Some e ≡ o → option_map_or (is_removed set) o false ≡ true → ⊥
           by None is t = true≢false (sym t)
           by (Some c) is t = true≢false (sym (on_is k c e pointers ids all on at is t) ∙ (sym (n.flag k e at) ∙ off))
-
--- none among one event more
-pub none_so_far : (test : PlainEvent → Bool) (es : List PlainEvent) (k : ℕ) (e : PlainEvent) → slice_get es k ≡ Some e → list_any test (take k es) ≡ false → test e ≡ false →
-    list_any test (take (suc k) es) ≡ false
-none_so_far test es k e at none own =
-    ap (list_any test) (take-item es k e at) ∙ list_any-append test (take k es) (e ∷ [])
-    ∙ or_from (list_any test (take k es)) (test e || false) none (or_from (test e) false own refl)
 
 -- ---- what isn't near
 

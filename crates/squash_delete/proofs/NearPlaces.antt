@@ -12,9 +12,10 @@ use Rattle.plain_model.specs.declared.id.AnyId.{AnyId}
 use Rattle.plain_model.specs.declared.event.PlainEvent.{PlainEvent}
 use Rattle.plain_model.specs.Lookups.{id_of, is_listed, place_of}
 use Rattle.plain_model.specs.Soundness.{IsSound}
+use Rattle.history_laws.proofs.Lists.{item_at}
 use Rattle.edit_laws.specs.Settling.{is_ready}
 use Rattle.event_arena.specs.Graphs.{Change}
-use Rattle.graph_walk.proofs.PlaceLemmas.{item_at}
+use Rattle.plan_limits.proofs.Counting.{none_item}
 use Rattle.squash_laws.specs.Removed.{Takings}
 use Rattle.squash_delete.specs.Flags.{FlagsAll, FlagsNamed}
 use Rattle.squash_delete.specs.Leaving.{goes, staying, with_takings}
@@ -22,7 +23,7 @@ use Rattle.squash_delete.specs.Near.{AreNear, ArePlacesNear, ArePlacesOf, AreRis
 use Rattle.squash_delete.specs.Passes.{moved_to}
 use Rattle.squash_delete.specs.Targets.{AreMoves, lost_target}
 use Rattle.squash_delete.proofs.MovingLemmas.{apart_moved}
-use Rattle.squash_delete.proofs.NearLemmas.{apart_stays, is_apart, none_so_far}
+use Rattle.squash_delete.proofs.NearLemmas.{apart_stays, is_apart}
 use Rattle.squash_delete.proofs.SweepLemmas.{filter_out, filtered_same, passing_item}
 
 -- ---- places that aren't near
@@ -199,7 +200,7 @@ module _ (set : List AnyId) (events : List PlainEvent) where
   pub lost_over : (a b : ℕ) → a ≤ b → b ≤ length events → NoneNear set events a b → NoneLostTo a → NoneLostTo b
   lost_over a b low within none =
       over_apart NoneLostTo set events a b low within none (λ k e at far so.
-      none_so_far (λ x. is_some (lost_target set x)) events k e at so (ap is_some (is_apart set e far).target))
+      none_item (λ x. is_some (lost_target set x)) events k e at so (ap is_some (is_apart set e far).target))
 
   -- the first near events are after all that they refer to
   abbrev pub AreReadyTo : List PlainEvent → ℕ → Type 0

@@ -1,6 +1,6 @@
 -- Commits of a history by their ids: what is found there is what its trees hang on.
 use Rattle.std.proofs.Common.{◌≡◌, ◌∙◌, ℕ, true, List, [], ◌∷◌, Option, Some, None, refl, sym, ap, subst, true≢false, IsTrue}
-use Rattle.std.specs.Prelude.{IsSome, is_some, option_and_then, slice_get, take}
+use Rattle.std.specs.Prelude.{IsSome, is_some, slice_get, take}
 use Rattle.std.specs.List.{AllByRecursion, list_all}
 use Rattle.std.proofs.lemmas.List.{reverse-reverse}
 use Rattle.std.proofs.lemmas.Option.{none-some, same_Some}
@@ -11,24 +11,24 @@ use Rattle.plain_model.specs.Histories.{Node, node_at, nodes, past}
 use Rattle.plain_model.specs.Lookups.{event_parents, find_event, id_of, place_of}
 use Rattle.plain_model.specs.Soundness.{IsCommitOf, IsSound, has_id}
 use Rattle.ancestry_laws.proofs.Pasts.{all_reverse, linked_past}
-use Rattle.event_arena.specs.Once.{AreDistinct}
-use Rattle.event_arena.proofs.SoundLemmas.{has_id-find, sound-once}
+use Rattle.history_laws.specs.Once.{AreDistinct}
+use Rattle.history_laws.proofs.SoundOnce.{has_id-find, sound-once}
 use Rattle.edit_laws.specs.Settling.{is_ready}
 use Rattle.edit_laws.proofs.Lists.{OfNodes, all_true, nodes_of_events}
 use Rattle.edit_laws.proofs.Settles.{sound_settles}
-use Rattle.manifest_cache.specs.Walks.{event_ops, first_parent, parent_at}
+use Rattle.edit_laws.proofs.Trees.{nodes_found}
+use Rattle.manifest_cache.specs.Walks.{event_ops}
 use Rattle.graph_walk.proofs.EarlierLemmas.{is_earlier, parents_before}
 use Rattle.graph_walk.proofs.ParentLemmas.{found_place}
 use Rattle.graph_walk.proofs.PlaceLemmas.{event_placed, place_found}
 use Rattle.graph_walk.proofs.TurnLemmas.{all_at}
-use Rattle.squash_laws.proofs.Shows.{found}
 use Rattle.squash_delete.specs.Targets.{target_for}
 
 -- the node of a commit
 abbrev pub node_of : ℕ → PlainEvent → Node
 node_of c e = record { id = c; parents = event_parents e; ops = event_ops e }
 
--- the place of an event that is found
+-- the place of an event that is nodes_found
 pub record IsAt (events : List PlainEvent) (c : ℕ) (e : PlainEvent) : Type 0 where
   pub place : ℕ
   pub at : slice_get events place ≡ Some e
@@ -49,11 +49,11 @@ module _ (events : List PlainEvent) (h : IsSound events) where
           let same : x.event ≡ e = same_Some x.event e (sym found_x ∙ ap (λ id. find_event id events) (sym x.own) ∙ is) in
           record { place = k; at = x.at ∙ ap Some same; own = x.own ∙ ap id_of same }
 
-  -- what is found is its node
+  -- what is nodes_found is its node
   pub found_node : (c : ℕ) (e : PlainEvent) → find_event (any.Commit c) events ≡ Some e → node_at (past events) c ≡ Some (node_of c e)
   found_node c e is =
       let a = found_at c e is in
-      let all = subst (AllByRecursion (λ (n : Node). node_at (past events) n.id ≡ Some n)) (reverse-reverse (nodes events)) (all_reverse (λ (n : Node). node_at (past events) n.id ≡ Some n) (past events) (found (past events) (linked_past events h))) in
+      let all = subst (AllByRecursion (λ (n : Node). node_at (past events) n.id ≡ Some n)) (reverse-reverse (nodes events)) (all_reverse (λ (n : Node). node_at (past events) n.id ≡ Some n) (past events) (nodes_found (past events) (linked_past events h))) in
       own e a.own (all_at (OfNodes (λ (n : Node). node_at (past events) n.id ≡ Some n)) events a.place e (nodes_of_events (λ (n : Node). node_at (past events) n.id ≡ Some n) events all) a.at)
     where
       own : (e : PlainEvent) → any.Commit c ≡ id_of e → OfNodes (λ (n : Node). node_at (past events) n.id ≡ Some n) e → node_at (past events) c ≡ Some (node_of c e)
@@ -65,7 +65,7 @@ module _ (events : List PlainEvent) (h : IsSound events) where
       own (Reset id branch target) same p = absurd cc
       own (Pass id line) same p = absurd cc
 
-  -- a commit that is earlier is found
+  -- a commit that is earlier is nodes_found
   pub earlier_there : (k p : ℕ) → IsCommitOf (take k events) p → IsSome (find_event (any.Commit p) events)
   earlier_there k p known =
       let b = is_earlier events k p known in
@@ -78,18 +78,6 @@ module _ (events : List PlainEvent) (h : IsSound events) where
       each : (ps : List ℕ) → AllByRecursion (IsCommitOf (take k events)) ps → AllByRecursion (λ p. IsSome (find_event (any.Commit p) events)) ps
       each [] a = tt
       each (p ∷ ps) a = (earlier_there k p a.0, each ps a.1)
-
-  -- and the first parent of a commit
-  pub parent_there : (c p : ℕ) → parent_at events c ≡ Some p → IsSome (find_event (any.Commit p) events)
-  parent_there c p is = by (find_event (any.Commit c) events) refl is
-    where
-      first : (ps : List ℕ) → AllByRecursion (λ q. IsSome (find_event (any.Commit q) events)) ps → slice_get ps 0 ≡ Some p → IsSome (find_event (any.Commit p) events)
-      first [] a is = absurd (none-some p is)
-      first (q ∷ ps) a is = subst (λ x. IsSome (find_event (any.Commit x) events)) (same_Some q p is) a.0
-
-      by : (o : Option PlainEvent) → find_event (any.Commit c) events ≡ o → option_and_then first_parent o ≡ Some p → IsSome (find_event (any.Commit p) events)
-      by None f is = absurd (none-some p is)
-      by (Some e) f is = let a = found_at c e f in first (event_parents e) (parents_there a.place e a.at) is
 
   -- what a tag or a reset is on is there
   pub target_there : (k t : ℕ) (e : PlainEvent) → slice_get events k ≡ Some e → target_for Some e ≡ Some t → IsSome (find_event (any.Commit t) events)

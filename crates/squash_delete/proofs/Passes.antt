@@ -1,36 +1,20 @@
 -- How the list of a plan goes on, while one event after another gets what becomes of it.
-use Rattle.std.proofs.Common.{◌≡◌, ◌∙◌, ℕ, zero, suc, ◌≤◌, Bool, true, false, inl, inr, List, [], ◌∷◌, ◌++◌, Some, None, refl, sym, ap, subst, length, take, drop, map, filter, arith, append_assoc, append-nil}
+use Rattle.std.proofs.Common.{◌≡◌, ◌∙◌, ℕ, suc, ◌≤◌, Bool, true, false, inl, inr, List, [], ◌∷◌, ◌++◌, Some, None, refl, sym, ap, subst, length, take, drop, map, filter, append_assoc, append-nil}
 use Rattle.std.proofs.lemmas.Bool.{cases_Bool, cond-false, cond-true}
 use Rattle.std.proofs.lemmas.List.{take-append-drop}
 use Rattle.std.specs.Prelude.{slice_get}
 use Rattle.plain_model.specs.declared.id.AnyId.{AnyId}
 use Rattle.plain_model.specs.declared.event.PlainEvent.{PlainEvent}
 use Rattle.plain_model.specs.Lookups.{find_event, id_of, same_id}
-use Rattle.history_laws.proofs.Ids.{same_id-refl}
+use Rattle.history_laws.proofs.Ids.{absent-cons, cons-absent}
 use Rattle.event_arena.specs.Changes.{changed}
-use Rattle.event_arena.specs.Once.{AreDistinct}
+use Rattle.history_laws.specs.Once.{AreDistinct}
 use Rattle.event_arena.proofs.ListLemmas.{drop-item, take-all, take-item}
 use Rattle.event_arena.proofs.OnceLemmas.{distinct-absent}
-use Rattle.event_arena.proofs.SpentLemmas.{absent-cons, cons-absent}
+use Rattle.event_arena.proofs.StepLemmas.{changed_after, map_push, none_left}
 use Rattle.squash_delete.specs.Passes.{so_far}
 
 -- ---- an event between others
-
--- it is found after events that have another id
-pub find_after : (xs ys : List PlainEvent) (e : PlainEvent) → find_event (id_of e) xs ≡ None →
-    find_event (id_of e) (xs ++ e ∷ ys) ≡ Some e
-find_after [] ys e h = rw same_id-refl refl
-find_after (x ∷ xs) ys e h =
-    let rest = absent-cons (id_of e) x xs h in
-    rw rest.0 (find_after xs ys e rest.1)
-
--- and changed there
-pub changed_after : (f : PlainEvent → PlainEvent) (xs ys : List PlainEvent) (e : PlainEvent) → find_event (id_of e) xs ≡ None →
-    changed (id_of e) f (xs ++ e ∷ ys) ≡ xs ++ f e ∷ ys
-changed_after f [] ys e h = rw same_id-refl refl
-changed_after f (x ∷ xs) ys e h =
-    let rest = absent-cons (id_of e) x xs h in
-    rw rest.0 (ap (λ zs. x ∷ zs) (changed_after f xs ys e rest.1))
 
 -- what isn't there isn't there among what was changed or left
 pub absent_mapped : (f : PlainEvent → PlainEvent) → ((e : PlainEvent) → id_of (f e) ≡ id_of e) → (id : AnyId) (es : List PlainEvent) →
@@ -57,21 +41,11 @@ filter_append test (x ∷ xs) ys = elim (cases_Bool (test x)) [
   | inr no_it ↦ rw no_it (filter_append test xs ys)
 ]
 
-map_push : (f : PlainEvent → PlainEvent) (xs : List PlainEvent) (e : PlainEvent) → map f (xs ++ e ∷ []) ≡ map f xs ++ f e ∷ []
-map_push f [] e = refl
-map_push f (x ∷ xs) e = ap (λ zs. f x ∷ zs) (map_push f xs e)
-
 pub filter_kept : (keep : PlainEvent → Bool) (e : PlainEvent) (ys : List PlainEvent) → keep e ≡ true → filter keep (e ∷ ys) ≡ e ∷ filter keep ys
 filter_kept keep e ys stays = cond-true (keep e) (e ∷ filter keep ys) (filter keep ys) stays
 
 pub filter_gone : (keep : PlainEvent → Bool) (e : PlainEvent) (ys : List PlainEvent) → keep e ≡ false → filter keep (e ∷ ys) ≡ filter keep ys
 filter_gone keep e ys gone = cond-false (keep e) (e ∷ filter keep ys) (filter keep ys) gone
-
-pub none_left : (k : ℕ) (xs : List PlainEvent) → length xs ≤ k → drop k xs ≡ []
-none_left zero [] h = refl
-none_left (suc k) [] h = refl
-none_left zero (x ∷ xs) h = absurd (omega arith)
-none_left (suc k) (x ∷ xs) h = none_left k xs (omega arith)
 
 -- ---- of a list of events those that stay, the first of which have become what they become
 
@@ -136,13 +110,6 @@ module _ (keep : PlainEvent → Bool) (p g : PlainEvent → PlainEvent) where
           let before = distinct-absent (take k events) (drop (suc k) events) e (subst AreDistinct parts once) in
           ap (λ id. find_event id (map g front)) (p_id e)
           ∙ absent_mapped g g_id (id_of e) front (absent_filtered keep (id_of e) (take k events) before)
-
-      -- it is found
-      pub step_found : find_event (id_of e) (so_far keep p g k events) ≡ Some (p e)
-      step_found =
-          ap (λ id. find_event id (so_far keep p g k events)) (sym (p_id e))
-          ∙ ap (find_event (id_of (p e))) (at_hand stays)
-          ∙ find_after (map g front) (map p rest) (p e) absent
 
       -- and changed
       pub step_changed : (f : PlainEvent → PlainEvent) → f (p e) ≡ g e → changed (id_of e) f (so_far keep p g k events) ≡ so_far keep p g (suc k) events

@@ -13,9 +13,9 @@ use Rattle.plain_model.specs.Lookups.{event_parents, id_of, op_blobs, place_of, 
 use Rattle.plain_model.specs.Soundness.{IsSound, are_distinct, has_id}
 use Rattle.history_laws.specs.FirstParents.{ops_along}
 use Rattle.history_laws.proofs.Ids.{has_id-append, has_id-cons, same_id-refl, same_id-true}
-use Rattle.event_arena.specs.Once.{AreDistinct}
+use Rattle.history_laws.specs.Once.{AreDistinct}
 use Rattle.event_arena.proofs.OnceLemmas.{distinct-absent}
-use Rattle.event_arena.proofs.SoundLemmas.{has_id-find, sound-once}
+use Rattle.history_laws.proofs.SoundOnce.{has_id-find, sound-once}
 use Rattle.edit_laws.specs.Parts.{AreComplete, AreInOrder}
 use Rattle.edit_laws.specs.Removal.{expand_all}
 use Rattle.edit_laws.specs.Settling.{is_ready}

@@ -1,5 +1,5 @@
 -- Flags of what is named, and the blobs that are left over.
-use Rattle.std.proofs.Common.{◌≡◌, ◌∙◌, ℕ, suc, ◌<◌, ◌≤◌, Bool, true, false, cond, not, ◌||◌, inl, inr, ◌⊎◌, List, [], ◌∷◌, ◌++◌, Some, None, refl, sym, ap, subst, length, get_or, take, arith, append-nil, append_assoc, filter, flat_map, true≢false}
+use Rattle.std.proofs.Common.{◌≡◌, ◌∙◌, ℕ, suc, ◌<◌, Bool, true, false, cond, not, ◌||◌, inl, inr, ◌⊎◌, List, [], ◌∷◌, ◌++◌, Some, None, refl, sym, ap, subst, length, get_or, take, arith, append-nil, append_assoc, filter, flat_map, true≢false}
 use Rattle.std.proofs.Math.Bool.{or-false, or-true}
 use Rattle.std.proofs.Math.ListN.{set}
 use Rattle.std.proofs.lemmas.Bool.{and_from, and_parts, and_right, cases_Bool, cases_eq, false_from_ne_true, or_cases, or_left, or_right}
@@ -13,21 +13,17 @@ use Rattle.plain_model.specs.declared.id.AnyId.TheVariants as any
 use Rattle.plain_model.specs.declared.event.PlainEvent.{PlainEvent}
 use Rattle.plain_model.specs.declared.event.PlainEvent.TheVariants.{Blob, Commit, Tag, Reset, Pass}
 use Rattle.plain_model.specs.Lookups.{find_event, id_of, is_listed, op_blobs, place_of, referents_of, same_id}
-use Rattle.history_laws.proofs.Ids.{same_id-comm, same_id-refl, same_id-true}
+use Rattle.history_laws.proofs.Ids.{absent-cons, one_place, same_id-comm, same_id-refl, same_id-true}
 use Rattle.event_arena.specs.Changes.{without_all}
-use Rattle.event_arena.specs.Once.{AreDistinct}
-use Rattle.event_arena.proofs.ListLemmas.{take-all, take-item}
-use Rattle.event_arena.proofs.SpentLemmas.{absent-cons}
+use Rattle.history_laws.specs.Once.{AreDistinct}
+use Rattle.event_arena.proofs.ListLemmas.{take-item}
 use Rattle.edit_laws.specs.Sweeping.{is_left_over, is_named, swept}
 use Rattle.graph_walk.proofs.FlagLemmas.{no_flag}
-use Rattle.graph_walk.proofs.PlaceLemmas.{one_place, place_found, place_within}
+use Rattle.graph_walk.proofs.PlaceLemmas.{place_found, place_within}
 use Rattle.squash_delete.specs.Flags.{AreCandidates, FlagsAdd, FlagsAll, FlagsIds, FlagsNamed, FlagsSome, KeepNames, event_blobs}
 use Rattle.squash_delete.proofs.Passes.{filter_append}
 
 -- ---- flags that are added
-
-pub adds_none : (events : List PlainEvent) (flags : List Bool) → FlagsAdd events [] flags flags
-adds_none events flags = record { count = refl; more = λ k e at. sym (or-false (get_or flags k false)) }
 
 pub adds_push : (events : List PlainEvent) (ids : List AnyId) (own : AnyId) (p : ℕ) (old mid : List Bool) →
     AreDistinct events → length old ≡ length events → place_of own events ≡ Some p → FlagsAdd events ids old mid →
@@ -76,10 +72,6 @@ names_more events named j d old new at f a = record {
       ∙ sym (ap (list_any (λ x. is_listed (id_of e) (event_blobs x))) (take-item named j d at) ∙ list_any-append (λ x. is_listed (id_of e) (event_blobs x)) (take j named) (d ∷ [])
       ∙ ap (λ b. list_any (λ x. is_listed (id_of e) (event_blobs x)) (take j named) || b) (or-false (is_listed (id_of e) (event_blobs d))));
 }
-
-pub names_all : (events named : List PlainEvent) (j : ℕ) (flags : List Bool) → length named ≤ j →
-    FlagsNamed events (take j named) flags → FlagsNamed events named flags
-names_all events named j flags all f = subst (λ es. FlagsNamed events es flags) (take-all named j all) f
 
 -- ---- what is left over
 
@@ -265,9 +257,6 @@ flags_push events named d flags so own k e at listed =
     ]
 
 -- ---- flags of some of what is named
-
-pub some_first : (events : List PlainEvent) → FlagsSome events (replicate (length events) false)
-some_first events = record { count = length-replicate (length events) false; flag = λ k e at on. absurd (true≢false (sym on ∙ no_flag (length events) k)) }
 
 any_found : (test : PlainEvent → Bool) (id : AnyId) (d : PlainEvent) (es : List PlainEvent) → find_event id es ≡ Some d → test d ≡ true → list_any test es ≡ true
 any_found test id d [] found it = absurd (none-some d found)

@@ -1,13 +1,13 @@
 -- The ways back and forward of commits, event by event.
-use Rattle.std.proofs.Common.{◌≡◌, ◌∙◌, ℕ, zero, suc, ◌<◌, Bool, true, false, cond, not, ◌||◌, inl, inr, List, [], ◌∷◌, ◌++◌, Option, Some, None, refl, sym, ap, subst, length, get_or, take, drop, arith, true≢false}
+use Rattle.std.proofs.Common.{◌≡◌, ◌∙◌, ℕ, suc, ◌<◌, Bool, true, false, cond, not, ◌||◌, inl, inr, List, [], ◌∷◌, ◌++◌, Option, Some, None, refl, sym, ap, subst, length, get_or, take, drop, arith, true≢false}
 use Rattle.std.proofs.Math.ListN.{set}
 use Rattle.std.proofs.Math.Bool.{or-false, or-true}
 use Rattle.std.proofs.lemmas.Bool.{cases_Bool, cases_eq, cond-true, cond-false, false_from_ne_true}
-use Rattle.std.proofs.lemmas.List.{get_or-set_other, get_or-set_same, length-set, length-replicate}
+use Rattle.std.proofs.lemmas.List.{get_or-set_other, get_or-set_same, length-set}
 use Rattle.std.proofs.lemmas.List.Folds.{list_any-append}
 use Rattle.std.proofs.lemmas.Option.{none-some, same_Some}
 use Rattle.std.specs.List.{AllByRecursion, list_any}
-use Rattle.std.specs.Prelude.{◌==◌, replicate, slice_get}
+use Rattle.std.specs.Prelude.{◌==◌, slice_get}
 use Rattle.plain_model.specs.declared.id.AnyId.{AnyId}
 use Rattle.plain_model.specs.declared.id.AnyId.TheVariants as any
 use Rattle.plain_model.specs.declared.operation.FileOp.{FileOp}
@@ -19,7 +19,7 @@ use Rattle.plain_model.specs.Lookups.{event_parents, find_event, id_of, is_liste
 use Rattle.plain_model.specs.Paths.{Bytes}
 use Rattle.plain_model.specs.Soundness.{IsCommitOf, IsSound}
 use Rattle.ancestry_laws.proofs.Pasts.{linked_past}
-use Rattle.event_arena.specs.Once.{AreDistinct}
+use Rattle.history_laws.specs.Once.{AreDistinct}
 use Rattle.event_arena.proofs.ListLemmas.{drop-item}
 use Rattle.edit_laws.specs.Removal.{back, forward}
 use Rattle.edit_laws.proofs.Following.{back_at, back_itself}
@@ -31,7 +31,6 @@ use Rattle.squash_laws.specs.Removed.{is_removed}
 use Rattle.squash_laws.specs.Squash.{back_of}
 use Rattle.squash_delete.specs.Ways.{AreForwardFrom, AreLed}
 use Rattle.squash_delete.proofs.NodeLemmas.{found_node, node_of}
-use Rattle.squash_delete.proofs.Passes.{none_left}
 
 -- ---- commits and their ids
 
@@ -105,9 +104,6 @@ not_so false h = refl
 
 -- ---- commits that are led one way
 
-pub led_none : (events : List PlainEvent) (way : Option ℕ) (old : List (Option ℕ)) → AreLed events [] way old old
-led_none events way old = record { count = refl; entry = λ j e c at is. refl }
-
 pub led_more : (events : List PlainEvent) (commits : List ℕ) (p place : ℕ) (way : Option ℕ) (old table : List (Option ℕ)) → AreDistinct events →
     place_of (any.Commit p) events ≡ Some place → place < length old →
     AreLed events commits way old table → AreLed events (commits ++ p ∷ []) way old (set table place way)
@@ -136,9 +132,6 @@ led_more events commits p place way old table once there low l = record { count 
           get_or-set_other table place j way None (λ e. other (sym e)) ∙ l.entry j e c at is
           ∙ ap (λ b. cond b way (get_or old j None)) (sym (list_any-append (λ q. q == c) commits (p ∷ []) ∙ ap (λ b. list_any (λ q. q == c) commits || (b || false)) test ∙ or-false (list_any (λ q. q == c) commits)))
     ]
-
-abbrev pub no_way : Option ℕ
-no_way = None
 
 module _ (set : List AnyId) (events : List PlainEvent) (h : IsSound events) where
   -- ---- back
@@ -230,15 +223,3 @@ module _ (set : List AnyId) (events : List PlainEvent) (h : IsSound events) wher
       step (Tag id name target tagger comment mark) c at none = ap (λ (es : List PlainEvent). forward (is_removed set) (nodes es) c) (sym (drop-item events k (Tag id name target tagger comment mark) at))
       step (Reset id branch target) c at none = ap (λ (es : List PlainEvent). forward (is_removed set) (nodes es) c) (sym (drop-item events k (Reset id branch target) at))
       step (Pass id line) c at none = ap (λ (es : List PlainEvent). forward (is_removed set) (nodes es) c) (sym (drop-item events k (Pass id line) at))
-
-  -- where there are no later events, there is no way
-  pub led_first : (n : ℕ) → n ≡ length events → AreForwardFrom set events n (replicate n no_way)
-  led_first n is = record {
-    count = length-replicate n no_way ∙ is;
-    entry = λ j e at c its. nothing n j ∙ ap (λ (es : List PlainEvent). forward (is_removed set) (nodes es) c) (sym (none_left n events (omega arith)));
-  }
-    where
-      nothing : (n j : ℕ) → get_or (replicate n no_way) j None ≡ None
-      nothing zero j = refl
-      nothing (suc n) zero = refl
-      nothing (suc n) (suc j) = nothing n j

@@ -34,7 +34,3 @@ pub record AreMoves (set : List AnyId) (goes_to : ℕ → Option ℕ) (events : 
 -- those of removed commits move, the way to which they lean first
 abbrev pub moving : List AnyId → List PlainEvent → Lean → ℕ → Option ℕ
 moving set events tags c = if is_removed set c then moved set events tags c else Some c
-
--- those of removed commits go nowhere
-abbrev pub discarded : List AnyId → ℕ → Option ℕ
-discarded set c = if is_removed set c then None else Some c

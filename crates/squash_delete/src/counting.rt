@@ -1,7 +1,7 @@
 //! Limits of what is left.
 ghost use Rattle.std.specs.Prelude.{◌≡◌, Err};
 ghost use Rattle.plain_model.specs.declared.fault.Fault.TheVariants.{Limit};
-ghost use Rattle.manifest_cache.specs.Checking.{unless};
+ghost use Rattle.edit_laws.specs.Checking.{unless};
 ghost use Rattle.squash_delete.specs.Judged.{judged, limit_passed};
 
 use event_arena::Plan;

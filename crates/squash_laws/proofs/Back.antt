@@ -1,7 +1,6 @@
 -- After a push back a commit on which removed commits hang has the tree of the last of them, and all others keep theirs.
 use Rattle.std.proofs.Common.{◌≡◌, ℕ, ◌+◌, ◌≤◌, Bool, true, false, cond, List, [], ◌∷◌, ◌++◌, length, reverse, filter, refl, sym, ap, subst, ◌∙◌, inl, inr, arith, eqb, eqb-true, eq-eqb, true≢false, append-nil, append_assoc, Option, Some, None, IsTrue}
 use Rattle.std.specs.Prelude.{◌||◌, ◌&&◌, ◌==◌, nat_lt, if◌then◌else◌, IsSome}
-use Rattle.std.specs.Option.{option_or}
 use Rattle.std.specs.List.{AllByRecursion, list_any}
 use Rattle.std.proofs.lemmas.Bool.{or_cases, or_left, or_right, and_from, and_parts, cond-true}
 use Rattle.std.proofs.lemmas.Bool.Decides.{nat_tests}
@@ -25,6 +24,8 @@ use Rattle.ancestry_laws.proofs.Pasts.{all_reverse, any_reverse, known_past, lin
 use Rattle.history_laws.proofs.LineLaws.{folded_more}
 use Rattle.history_laws.proofs.Lists.{all_imply}
 use Rattle.edit_laws.proofs.Chains.{Leads, leads_all}
+use Rattle.edit_laws.proofs.Checked.{none_of_both}
+use Rattle.edit_laws.proofs.Fine.{ready_parents}
 use Rattle.edit_laws.proofs.Lists.{OfNodes, all_flat, events_of_nodes, nodes_of_events}
 use Rattle.edit_laws.proofs.Settles.{sound_settles}
 use Rattle.edit_laws.proofs.Sound.{in_parts}
@@ -36,7 +37,7 @@ use Rattle.squash_laws.specs.declared.policy.Lean.{Lean}
 use Rattle.squash_laws.specs.declared.policy.Push.TheVariants as push
 use Rattle.squash_laws.specs.declared.policy.Policy.{Policy}
 use Rattle.squash_laws.proofs.Hung.{Holds, IsOnlyChild, back_first, back_gone, back_leads, back_other, back_some, has_kid, holds, hung, kids, some_kids}
-use Rattle.squash_laws.proofs.Left.{one_left, one_moved, ready_parents}
+use Rattle.squash_laws.proofs.Left.{one_left, one_moved}
 
 -- ---- lists
 
@@ -67,10 +68,6 @@ kids_reversed p (n ∷ ns) =
 
 -- ---- the check
 
-no_or : (a b : Option Fault) → option_or a b ≡ None → (a ≡ None) × (b ≡ None)
-no_or None b h = (refl, h)
-no_or (Some x) b h = absurd cc
-
 at_most_one : (n : ℕ) → nat_lt 1 n ≡ false → n ≤ 1
 at_most_one n h = grind (arith, nat_tests)
 
@@ -94,7 +91,7 @@ module _ (set : List AnyId) (events : List PlainEvent) where
   only_ones : (es : List PlainEvent) → first_back_fault set events es ≡ None → AllByRecursion (IsOnlyChild (is_removed set) (past events)) (nodes es)
   only_ones [] h = tt
   only_ones (Commit id mark branch author committer encoding comment parents ops aliases ∷ es) h =
-      let parts = no_or (if is_removed set id then back_fault set events mark parents else None) (first_back_fault set events es) h in
+      let parts = none_of_both (if is_removed set id then back_fault set events mark parents else None) (first_back_fault set events es) h in
       (only_one mark (record { id = id; parents = parents; ops = ops }) parts.0, only_ones es parts.1)
   only_ones (Blob id mark bytes ∷ es) h = only_ones es h
   only_ones (Tag id name target tagger comment mark ∷ es) h = only_ones es h

@@ -1,28 +1,22 @@
 -- What a squash that isn't refused leaves.
-use Rattle.std.proofs.Common.{◌≡◌, ℕ, ◌≤◌, not, List, [], ◌∷◌, true, refl, sym, ap, subst, ◌∙◌, arith, true≢false, Option, Some, None, Result, Ok, Err}
-use Rattle.std.specs.Prelude.{◌&&◌, ◌↔◌, IsSome, is_some}
+use Rattle.std.proofs.Common.{◌≡◌, ℕ, not, List, refl, sym, ap, subst, ◌∙◌, Option, Some, None, Result, Ok, Err}
+use Rattle.std.specs.Prelude.{◌&&◌, IsSome}
 use Rattle.std.specs.List.{AllByRecursion}
 use Rattle.plain_model.specs.declared.fault.Fault.{Fault}
 use Rattle.plain_model.specs.declared.id.AnyId.{AnyId}
 use Rattle.plain_model.specs.declared.id.AnyId.TheVariants as any
 use Rattle.plain_model.specs.declared.event.PlainEvent.{PlainEvent}
-use Rattle.plain_model.specs.Histories.{IsLinkedPast, past, tree}
-use Rattle.plain_model.specs.Lookups.{find_event, id_of}
+use Rattle.plain_model.specs.Histories.{tree}
 use Rattle.plain_model.specs.Soundness.{IsCommitOf, IsSound, has_id}
 use Rattle.edit_laws.specs.Passing.{limit_fault}
 use Rattle.edit_laws.specs.Passing.{IsWithinLimits}
-use Rattle.edit_laws.specs.Parts.{of_id, tally}
 use Rattle.edit_laws.proofs.Limits.{limits_hold}
-use Rattle.edit_laws.proofs.Lists.{has_own_id, not_before}
 use Rattle.edit_laws.proofs.Trees.{linked_in_order}
-use Rattle.event_arena.specs.Once.{AreDistinct}
-use Rattle.event_arena.proofs.SoundLemmas.{has_id-find}
-use Rattle.history_laws.proofs.Ids.{has_id-append}
-use Rattle.manifest_cache.specs.Checking.{tree_check}
 use Rattle.edit_laws.proofs.Settles.{any_event, settled_in_order, settled_once, settled_trees}
 use Rattle.edit_laws.proofs.Settled.{settled}
 use Rattle.edit_laws.proofs.Swept.{swept_nodes}
 use Rattle.edit_laws.specs.Equations.{Fits}
+use Rattle.edit_laws.proofs.Checked.{check_finds}
 use Rattle.squash_laws.specs.Faults.{checked_after, fault_before, squash_of, trees_checked}
 use Rattle.squash_laws.specs.Removed.{is_removed, all_left, without_set}
 use Rattle.squash_laws.specs.Squash.{hanging, last_of, squashed, takes}
@@ -32,12 +26,6 @@ use Rattle.squash_laws.specs.declared.policy.Push.TheVariants as push
 use Rattle.squash_laws.specs.declared.policy.Policy.{Policy}
 use Rattle.squash_laws.proofs.Back.{pulled_fits, pulled_there, pulled_tree}
 use Rattle.squash_laws.proofs.Squashed.{forward_keeps, forward_sound, squash_commits, squash_ends, squash_settles, squash_sound, was_there}
-
--- the law that the tree check finds what has no tree
-abbrev pub CheckFinds : Type 0
-CheckFinds =
-    (events : List PlainEvent) → AreDistinct events → IsLinkedPast (past events) →
-    (((c : ℕ) → IsCommitOf events c → IsSome (tree events c)) ↔ (tree_check events ≡ Ok tt))
 
 -- what is true where a squash isn't refused
 pub record IsDone (how : Policy) (set : List AnyId) (events new : List PlainEvent) : Type 0 where
@@ -107,25 +95,10 @@ forward_done_sound set events tags new h d =
     let done = done_parts how set events new h d in
     forward_sound set events h tags new done.is (done_limits how set events new h d).few_parents
 
--- where ids occur once, no event has that of a later one
-distinct_once : (es : List PlainEvent) → ((id : AnyId) → tally (of_id id) es ≤ 1) → AreDistinct es
-distinct_once [] once = tt
-distinct_once (e ∷ es) once = (
-  none (find_event (id_of e) es) refl,
-  distinct_once es (λ id. let all = once id in omega arith),
-)
-  where
-    none : (o : Option PlainEvent) → find_event (id_of e) es ≡ o → find_event (id_of e) es ≡ None
-    none None h = h
-    none (Some x) h =
-        let there : has_id es (id_of e) ≡ true = has_id-find es (id_of e) ∙ ap is_some h in
-        let others = not_before (λ l. has_id l (id_of e)) (λ xs ys. has_id-append xs ys (id_of e)) refl (e ∷ []) es (once (id_of e)) there in
-        absurd (true≢false (sym (has_own_id e) ∙ others))
-
 -- so does a deletion
-pub delete_done_sound : CheckFinds → (set : List AnyId) (events : List PlainEvent) (tags : Lean) (new : List PlainEvent) →
+pub delete_done_sound : (set : List AnyId) (events : List PlainEvent) (tags : Lean) (new : List PlainEvent) →
     IsSound events → squash_of (record { push = push.Discard; tags = tags }) set events ≡ Ok new → IsSound new
-delete_done_sound finds set events tags new h d =
+delete_done_sound set events tags new h d =
     let how : Policy = record { push = push.Discard; tags = tags } in
     let done = done_parts how set events new h d in
     let left = without_set set events (takes set events how) in
@@ -133,7 +106,7 @@ delete_done_sound finds set events tags new h d =
     let once = settled_once left new can.once (settled (λ e. Unit {0}) left new (any_event left) done.is) in
     let linked = linked_in_order new once (settled_in_order left new done.is) in
     squash_sound set events h how new done.is (done_limits how set events new h d).few_parents
-    ((finds new (distinct_once new once.ids) linked).1 done.trees)
+    ((check_finds new linked).1 done.trees)
 
 -- ---- push back
 
@@ -156,13 +129,13 @@ back_done_sound set events tags new h d =
 
 -- ---- any squash
 
-pub done_sound : CheckFinds → (how : Policy) (set : List AnyId) (events new : List PlainEvent) → IsSound events → squash_of how set events ≡ Ok new → IsSound new
-done_sound finds how set events new h d = go how.push refl
+pub done_sound : (how : Policy) (set : List AnyId) (events new : List PlainEvent) → IsSound events → squash_of how set events ≡ Ok new → IsSound new
+done_sound how set events new h d = go how.push refl
   where
     go : (p : Push) → how.push ≡ p → IsSound new
     go push.Forward e = forward_done_sound set events how.tags new h (ap (λ p. squash_of (record { push = p; tags = how.tags }) set events) (sym e) ∙ d)
     go push.Back e = back_done_sound set events how.tags new h (ap (λ p. squash_of (record { push = p; tags = how.tags }) set events) (sym e) ∙ d)
-    go push.Discard e = delete_done_sound finds set events how.tags new h (ap (λ p. squash_of (record { push = p; tags = how.tags }) set events) (sym e) ∙ d)
+    go push.Discard e = delete_done_sound set events how.tags new h (ap (λ p. squash_of (record { push = p; tags = how.tags }) set events) (sym e) ∙ d)
 
 -- the commits that aren't removed are there, and no others
 pub done_commits : (how : Policy) (set : List AnyId) (events new : List PlainEvent) → IsSound events → squash_of how set events ≡ Ok new → (c : ℕ) → has_id new (any.Commit c) ≡ has_id events (any.Commit c) && not (is_removed set c)

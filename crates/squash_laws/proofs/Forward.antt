@@ -20,16 +20,17 @@ use Rattle.edit_laws.specs.Removal.{expand_all}
 use Rattle.edit_laws.specs.Settling.{is_ready}
 use Rattle.edit_laws.proofs.Chains.{Leads, chain_leads, chain_replays, foot, parents_stand}
 use Rattle.ancestry_laws.proofs.Pasts.{all_reverse, known_past, linked_past}
-use Rattle.history_laws.proofs.LineLaws.{folded_more}
+use Rattle.history_laws.proofs.LineLaws.{first_known, folded_more}
+use Rattle.edit_laws.proofs.Fine.{ready_parents}
 use Rattle.edit_laws.proofs.Lists.{OfNodes, all_flat, events_of_nodes, nodes_of_events}
 use Rattle.edit_laws.proofs.Settles.{sound_settles}
 use Rattle.edit_laws.proofs.Sound.{in_parts}
-use Rattle.edit_laws.proofs.Trees.{first_known, trees_fit}
+use Rattle.edit_laws.proofs.Trees.{trees_fit}
 use Rattle.squash_laws.specs.Removed.{Takings, is_removed, left_of, all_left, parents_after}
 use Rattle.squash_laws.specs.Squash.{anew, is_none, links, ops_after, target_after}
 use Rattle.squash_laws.specs.declared.policy.Lean.{Lean}
 use Rattle.squash_laws.specs.declared.policy.Push.TheVariants as push
-use Rattle.squash_laws.proofs.Left.{one_left, one_moved, ready_parents}
+use Rattle.squash_laws.proofs.Left.{one_left, one_moved}
 
 -- the operations of a chain and a commit's own, from the tree of the new first parent
 replayed : (ls : List Node) (ps new : List ℕ) (ops : List FileOp) (tree_of : ℕ → Option Tree) → Leads (foot ls ps) new → (ps ≡ [] → new ≡ []) → IsSome (begun tree_of new) → folded (ops_along ls) (begun tree_of (foot ls ps)) ≡ begun tree_of ps

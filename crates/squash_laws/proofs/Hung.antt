@@ -10,9 +10,9 @@ use Rattle.plain_model.specs.Trees.{Tree}
 use Rattle.history_laws.specs.FirstParents.{ops_along}
 use Rattle.edit_laws.specs.Parts.{one_if}
 use Rattle.edit_laws.specs.Removal.{back}
-use Rattle.edit_laws.proofs.Chains.{Leads, along_more, back_stays, expand_gone, expand_other, expand_stays, first_expanded, leads_all}
-use Rattle.history_laws.proofs.LineLaws.{folded_more}
-use Rattle.edit_laws.proofs.Trees.{first_known, known_before, known_later, not_fresh, tree_here, tree_other}
+use Rattle.edit_laws.proofs.Chains.{Leads, back_stays, expand_gone, expand_other, expand_stays, first_expanded, leads_all}
+use Rattle.history_laws.proofs.LineLaws.{along_more, first_known, folded_more, known_before}
+use Rattle.edit_laws.proofs.Trees.{known_later, not_fresh, tree_here, tree_other}
 use Rattle.squash_laws.specs.Faults.{is_first}
 use Rattle.squash_laws.specs.Squash.{is_it, last_of}
 
@@ -24,6 +24,10 @@ last_more c (m ∷ ns) n = last_more m.id ns n
 abbrev pub kids : ℕ → Past → ℕ
 kids p [] = 0
 kids p (n ∷ older) = one_if (is_first p n.parents) + kids p older
+
+pub folded_none : (o : Option Tree) → folded [] o ≡ o
+folded_none None = refl
+folded_none (Some t) = refl
 
 module _ (removed : ℕ → Bool) where
   -- the removed commits that hang on one, the oldest first
@@ -132,10 +136,6 @@ module _ (removed : ℕ → Bool) where
     pub lasts : (q b : ℕ) → knows a q ≡ true → back removed a (q ∷ []) ≡ Some b → (last_of b (hung a b) ≡ q) ⊎ (has_kid a q ≡ true)
     pub known : (c : ℕ) → knows a c ≡ true → knows a (last_of c (hung a c)) ≡ true
 
-  nothing_more : (o : Option Tree) → folded [] o ≡ o
-  nothing_more None = refl
-  nothing_more (Some t) = refl
-
   module _ (n : Node) (older : Past) (s : IsLinkedPast (n ∷ older)) (h : Holds older) where
     further : (q : ℕ) → knows older q ≡ true → tree_in (n ∷ older) q ≡ tree_in older q
     further q k = tree_other n older q (not_fresh n older q s.0 k)
@@ -176,7 +176,7 @@ module _ (removed : ℕ → Bool) where
             let is = eqb-true n.id c same in
             let none : hung (n ∷ older) c ≡ [] = subst (λ x. hung (n ∷ older) x ≡ []) is (alone stays) in
             ap (λ (l : List Node). folded (ops_along l) (tree_in (n ∷ older) c)) none
-            ∙ nothing_more (tree_in (n ∷ older) c)
+            ∙ folded_none (tree_in (n ∷ older) c)
             ∙ sym (ap (λ (l : List Node). tree_in (n ∷ older) (last_of c l)) none)
         | inr other ↦ same_replays c r (known_before n older c other k) (stays_on stays c)
       ];

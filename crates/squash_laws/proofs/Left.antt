@@ -11,17 +11,19 @@ use Rattle.plain_model.specs.declared.operation.FileOp.TheVariants.{Modify, Dele
 use Rattle.plain_model.specs.declared.event.PlainEvent.{PlainEvent}
 use Rattle.plain_model.specs.declared.event.PlainEvent.TheVariants.{Blob, Commit, Tag, Reset, Pass}
 use Rattle.plain_model.specs.Histories.{nodes, past, knows}
-use Rattle.plain_model.specs.Lookups.{id_of, is_listed, op_blobs, same_id}
-use Rattle.plain_model.specs.Soundness.{IsFormedEvent, IsFormedOp, IsSound, has_id}
-use Rattle.edit_laws.specs.Parts.{AreOnce, CanBeSettled, IsAbove, IsLawful, IsLawfulOp, of_id, of_mark, one_if, tally}
+use Rattle.plain_model.specs.Lookups.{is_listed, op_blobs}
+use Rattle.plain_model.specs.Soundness.{IsFormedEvent, IsSound, has_id}
+use Rattle.edit_laws.specs.Parts.{AreOnce, CanBeSettled, IsAbove, IsLawful, of_id, of_mark, tally}
 use Rattle.edit_laws.specs.Removal.{expand}
 use Rattle.edit_laws.specs.Settling.{is_ready}
 use Rattle.edit_laws.proofs.Chains.{once_each_distinct, parents_stand}
 use Rattle.ancestry_laws.proofs.Pasts.{all_reverse, known_past, linked_past}
 use Rattle.history_laws.proofs.Ids.{has_id-append}
 use Rattle.history_laws.proofs.Lists.{all_imply, all_join}
-use Rattle.edit_laws.proofs.Lists.{OfNodes, all_flat, all_front, all_rear, all_true, events_of_nodes, nodes_of_events, own_id, tally_flat, true_all}
+use Rattle.edit_laws.proofs.Fine.{IsFine, There, fine, fine_formed, fine_lawful, ready_ops, ready_parents}
+use Rattle.edit_laws.proofs.Lists.{OfNodes, all_flat, all_true, events_of_nodes, nodes_of_events, own_sum, tally_flat, true_all}
 use Rattle.edit_laws.proofs.Settles.{sound_settles, swept_settles}
+use Rattle.edit_laws.proofs.Tallies.{moved_no_greater, no_greater}
 use Rattle.squash_laws.specs.Removed.{Takings, is_removed, left_of, all_left, parents_after, without_set}
 
 -- ---- an event that stays or goes
@@ -35,52 +37,6 @@ pub one_moved : (P : PlainEvent → Type 0) (gone : Bool) (f : ℕ → PlainEven
 one_moved P true f o h = tt
 one_moved P false f None h = tt
 one_moved P false f (Some t) h = (h t refl, tt)
-
-sum_left : (f : PlainEvent → ℕ) (gone : Bool) (x e : PlainEvent) → f x ≡ f e → tally f (cond gone [] (x ∷ [])) ≤ f e
-sum_left f true x e h = omega arith
-sum_left f false x e h = omega arith
-
-sum_moved : (f : PlainEvent → ℕ) (gone : Bool) (g : ℕ → PlainEvent) (o : Option ℕ) (e : PlainEvent) → ((t : ℕ) → f (g t) ≡ f e) → tally f (cond gone [] (option_to_list (option_map g o))) ≤ f e
-sum_moved f true g o e h = omega arith
-sum_moved f false g None e h = omega arith
-sum_moved f false g (Some t) e h = let same = h t in omega arith
-
--- ---- operations
-
-abbrev pub There : List PlainEvent → AnyId → Type 0
-There events id = has_id events id ≡ true
-
--- an operation that is lawful and formed, and whose blob is there
-abbrev pub IsFine : List PlainEvent → FileOp → Type 0
-IsFine events op = IsLawfulOp op × IsFormedOp op × AllByRecursion (There events) (op_blobs op)
-
-pub fine : (events : List PlainEvent) (ops : List FileOp) → AllByRecursion IsLawfulOp ops →
-    AllByRecursion IsFormedOp ops → AllByRecursion (There events) (flat_map op_blobs ops) →
-    AllByRecursion (IsFine events) ops
-fine events [] l f h = tt
-fine events (op ∷ ops) l f h = (
-  (l.0, f.0, all_front (There events) (op_blobs op) (flat_map op_blobs ops) h),
-  fine events ops l.1 f.1 (all_rear (There events) (op_blobs op) (flat_map op_blobs ops) h),
-)
-
-fine_lawful : (events : List PlainEvent) (ops : List FileOp) → AllByRecursion (IsFine events) ops → AllByRecursion IsLawfulOp ops
-fine_lawful events ops a = all_imply (IsFine events) IsLawfulOp (λ op h. h.0) ops a
-
-fine_formed : (events : List PlainEvent) (ops : List FileOp) → AllByRecursion (IsFine events) ops →
-    AllByRecursion IsFormedOp ops
-fine_formed events ops a = all_imply (IsFine events) IsFormedOp (λ op h. h.1) ops a
-
--- the operations of a commit that refers to what is there
-pub ready_ops : (events : List PlainEvent) (parents : List ℕ) (ops : List FileOp) → list_all (has_id events) (map any.Commit parents ++ flat_map op_blobs ops) ≡ true → AllByRecursion (There events) (flat_map op_blobs ops)
-ready_ops events parents ops r = all_rear (There events) (map any.Commit parents) (flat_map op_blobs ops) (all_true (has_id events) (map any.Commit parents ++ flat_map op_blobs ops) r)
-
--- and its parents
-pub ready_parents : (events : List PlainEvent) (parents : List ℕ) (ops : List FileOp) → list_all (has_id events) (map any.Commit parents ++ flat_map op_blobs ops) ≡ true → AllByRecursion (λ p. IsTrue (knows (past events) p)) parents
-ready_parents events parents ops r = go parents (all_front (There events) (map any.Commit parents) (flat_map op_blobs ops) (all_true (has_id events) (map any.Commit parents ++ flat_map op_blobs ops) r))
-  where
-    go : (ps : List ℕ) → AllByRecursion (There events) (map any.Commit ps) → AllByRecursion (λ p. IsTrue (knows (past events) p)) ps
-    go [] h = tt
-    go (p ∷ ps) h = (known_past events p ∙ h.0, go ps h.1)
 
 -- ---- what is left
 
@@ -174,30 +130,27 @@ module _ (set : List AnyId) (events : List PlainEvent) (takes : Takings) where
 
   -- ---- ids and marks stand once
 
-  same_left : (id : AnyId) (x e : PlainEvent) → id_of x ≡ id_of e → of_id id x ≡ of_id id e
-  same_left id x e same = ap one_if (own_id x id ∙ ap (same_id id) same ∙ sym (own_id e id))
-
   pub ids_left : (id : AnyId) (e : PlainEvent) → tally (of_id id) (left_of set events takes e) ≤ of_id id e
   ids_left id (Commit i mark branch author committer encoding comment parents ops aliases) =
       let x = Commit i mark branch author committer encoding (takes.comment i parents comment) (parents_after set events takes parents) (takes.ops i parents ops) aliases in
       let e = Commit i mark branch author committer encoding comment parents ops aliases in
-      sum_left (of_id id) (gone i) x e (same_left id x e refl)
+      no_greater (of_id id) (gone i) x e (own_sum id x e refl)
   ids_left id (Blob i mark bytes) = omega arith
   ids_left id (Tag i name target tagger comment mark) =
-      sum_moved (of_id id) (is_listed (any.Tag i) set) (λ t. Tag i name t tagger comment mark) (takes.target target) (Tag i name target tagger comment mark) (λ t. same_left id (Tag i name t tagger comment mark) (Tag i name target tagger comment mark) refl)
-  ids_left id (Reset i branch None) = sum_left (of_id id) (is_listed (any.Reset i) set) (Reset i branch None) (Reset i branch None) refl
+      moved_no_greater (of_id id) (is_listed (any.Tag i) set) (λ t. Tag i name t tagger comment mark) (takes.target target) (Tag i name target tagger comment mark) (λ t. own_sum id (Tag i name t tagger comment mark) (Tag i name target tagger comment mark) refl)
+  ids_left id (Reset i branch None) = no_greater (of_id id) (is_listed (any.Reset i) set) (Reset i branch None) (Reset i branch None) refl
   ids_left id (Reset i branch (Some target)) =
-      sum_moved (of_id id) (is_listed (any.Reset i) set) (λ t. Reset i branch (Some t)) (takes.target target) (Reset i branch (Some target)) (λ t. same_left id (Reset i branch (Some t)) (Reset i branch (Some target)) refl)
-  ids_left id (Pass i line) = sum_left (of_id id) (is_listed (any.Pass i) set) (Pass i line) (Pass i line) refl
+      moved_no_greater (of_id id) (is_listed (any.Reset i) set) (λ t. Reset i branch (Some t)) (takes.target target) (Reset i branch (Some target)) (λ t. own_sum id (Reset i branch (Some t)) (Reset i branch (Some target)) refl)
+  ids_left id (Pass i line) = no_greater (of_id id) (is_listed (any.Pass i) set) (Pass i line) (Pass i line) refl
 
   pub marks_left : (m : ℕ) (e : PlainEvent) → tally (of_mark m) (left_of set events takes e) ≤ of_mark m e
   marks_left m (Commit i mark branch author committer encoding comment parents ops aliases) =
-      sum_left (of_mark m) (gone i) (Commit i mark branch author committer encoding (takes.comment i parents comment) (parents_after set events takes parents) (takes.ops i parents ops) aliases) (Commit i mark branch author committer encoding comment parents ops aliases) refl
+      no_greater (of_mark m) (gone i) (Commit i mark branch author committer encoding (takes.comment i parents comment) (parents_after set events takes parents) (takes.ops i parents ops) aliases) (Commit i mark branch author committer encoding comment parents ops aliases) refl
   marks_left m (Blob i mark bytes) = omega arith
-  marks_left m (Tag i name target tagger comment mark) = sum_moved (of_mark m) (is_listed (any.Tag i) set) (λ t. Tag i name t tagger comment mark) (takes.target target) (Tag i name target tagger comment mark) (λ t. refl)
-  marks_left m (Reset i branch None) = sum_left (of_mark m) (is_listed (any.Reset i) set) (Reset i branch None) (Reset i branch None) refl
-  marks_left m (Reset i branch (Some target)) = sum_moved (of_mark m) (is_listed (any.Reset i) set) (λ t. Reset i branch (Some t)) (takes.target target) (Reset i branch (Some target)) (λ t. refl)
-  marks_left m (Pass i line) = sum_left (of_mark m) (is_listed (any.Pass i) set) (Pass i line) (Pass i line) refl
+  marks_left m (Tag i name target tagger comment mark) = moved_no_greater (of_mark m) (is_listed (any.Tag i) set) (λ t. Tag i name t tagger comment mark) (takes.target target) (Tag i name target tagger comment mark) (λ t. refl)
+  marks_left m (Reset i branch None) = no_greater (of_mark m) (is_listed (any.Reset i) set) (Reset i branch None) (Reset i branch None) refl
+  marks_left m (Reset i branch (Some target)) = moved_no_greater (of_mark m) (is_listed (any.Reset i) set) (λ t. Reset i branch (Some t)) (takes.target target) (Reset i branch (Some target)) (λ t. refl)
+  marks_left m (Pass i line) = no_greater (of_mark m) (is_listed (any.Pass i) set) (Pass i line) (Pass i line) refl
 
   once_left : AreOnce events → AreOnce (all_left set events takes)
   once_left o = record {

@@ -1,14 +1,12 @@
 -- What the trees after a squash show, and what a deletion leaves.
-use Rattle.std.proofs.Common.{◌≡◌, ℕ, Bool, true, false, cond, not, List, [], ◌∷◌, refl, ap, subst, ◌∙◌, eq-eqb, Some, None, Ok}
-use Rattle.std.specs.Prelude.{◌||◌, ◌==◌}
+use Rattle.std.proofs.Common.{◌≡◌, ℕ, not, List, refl, subst, Some, None, Ok}
 use Rattle.std.specs.List.{AllByRecursion}
-use Rattle.std.proofs.lemmas.Bool.{cond-true, cond-false}
 use Rattle.std.proofs.lemmas.List.{reverse-reverse}
 use Rattle.plain_model.specs.declared.id.AnyId.{AnyId}
 use Rattle.plain_model.specs.declared.id.AnyId.TheVariants as any
 use Rattle.plain_model.specs.declared.event.PlainEvent.{PlainEvent}
 use Rattle.plain_model.specs.declared.event.PlainEvent.TheVariants.{Blob, Commit, Tag, Reset, Pass}
-use Rattle.plain_model.specs.Histories.{IsLinkedPast, Node, Past, knows, node_at, nodes, past, tree}
+use Rattle.plain_model.specs.Histories.{Node, node_at, nodes, past, tree}
 use Rattle.plain_model.specs.Lookups.{is_listed}
 use Rattle.plain_model.specs.Snapshots.{shown_tree}
 use Rattle.plain_model.specs.Soundness.{IsCommitOf, IsSound}
@@ -17,19 +15,19 @@ use Rattle.edit_laws.specs.Equations.{Fits}
 use Rattle.edit_laws.specs.Settling.{settle}
 use Rattle.edit_laws.specs.Sweeping.{is_left_over}
 use Rattle.ancestry_laws.proofs.Pasts.{all_reverse, linked_past}
+use Rattle.edit_laws.specs.Keeping.{HasOperationsOf}
 use Rattle.edit_laws.proofs.Lists.{OfNodes, all_filter, all_flat, events_of_nodes, nodes_of_events}
 use Rattle.edit_laws.proofs.Settles.{settled_all, sound_settles}
 use Rattle.edit_laws.proofs.Shown.{has_own_bytes, shown_alike}
 use Rattle.edit_laws.proofs.Sound.{in_parts}
-use Rattle.edit_laws.proofs.Trees.{not_fresh, trees_fit}
-use Rattle.squash_laws.specs.Remaining.{HasOperationsOf}
+use Rattle.edit_laws.proofs.Trees.{nodes_found, trees_fit}
 use Rattle.squash_laws.specs.Faults.{squash_of}
 use Rattle.squash_laws.specs.Removed.{Takings, is_removed, left_of, all_left, parents_after, without_set}
 use Rattle.squash_laws.specs.Squash.{last_hanging, takes}
 use Rattle.squash_laws.specs.declared.policy.Lean.{Lean}
 use Rattle.squash_laws.specs.declared.policy.Push.TheVariants as push
 use Rattle.squash_laws.specs.declared.policy.Policy.{Policy}
-use Rattle.squash_laws.proofs.Done.{CheckFinds, back_done_sound, back_trees, done_parts, done_sound, done_trees, forward_done_sound}
+use Rattle.squash_laws.proofs.Done.{back_done_sound, back_trees, done_parts, done_sound, done_trees, forward_done_sound}
 use Rattle.squash_laws.proofs.Left.{one_left, one_moved}
 
 -- ---- blobs
@@ -66,26 +64,6 @@ back_shown set events tags new h d c there = shown_new set events (record { push
 
 -- ---- a deletion
 
--- each commit of a history is found as it is
-pub found : (a : Past) → IsLinkedPast a → AllByRecursion (λ (n : Node). node_at a n.id ≡ Some n) a
-found [] s = tt
-found (n ∷ older) s = (
-  cond-true (n.id == n.id) (Some n) (node_at older n.id) (eq-eqb n.id n.id refl),
-  go older (found older s.2),
-)
-  where
-    known : (ms : Past) (m : Node) (c : ℕ) → node_at ms c ≡ Some m → knows ms c ≡ true
-    known [] m c h = absurd cc
-    known (k ∷ ms) m c h = pick (k.id == c) refl h (λ x. known ms m c x)
-      where
-        pick : (b : Bool) → (k.id == c) ≡ b → cond b (Some k) (node_at ms c) ≡ Some m → (node_at ms c ≡ Some m → knows ms c ≡ true) → knows (k ∷ ms) c ≡ true
-        pick true x y f = ap (λ t. t || knows ms c) x
-        pick false x y f = ap (λ t. t || knows ms c) x ∙ f y
-
-    go : (ms : Past) → AllByRecursion (λ (m : Node). node_at older m.id ≡ Some m) ms → AllByRecursion (λ (m : Node). node_at (n ∷ older) m.id ≡ Some m) ms
-    go [] k = tt
-    go (m ∷ ms) k = (cond-false (n.id == m.id) (Some n) (node_at older m.id) (not_fresh n older m.id s.0 (known older m m.id k.0)) ∙ k.0, go ms k.1)
-
 module _ (set : List AnyId) (events : List PlainEvent) (tags : Lean) where
   abbrev how : Policy
   how = record { push = push.Discard; tags = tags }
@@ -104,7 +82,7 @@ module _ (set : List AnyId) (events : List PlainEvent) (tags : Lean) where
   pub deleted_ops : (new : List PlainEvent) → IsSound events → squash_of how set events ≡ Ok new → AllByRecursion (HasOperationsOf events) (nodes new)
   deleted_ops new h d =
       let left = all_left set events (takes set events how) in
-      let its = subst (AllByRecursion (λ (n : Node). node_at (past events) n.id ≡ Some n)) (reverse-reverse (nodes events)) (all_reverse (λ (n : Node). node_at (past events) n.id ≡ Some n) (past events) (found (past events) (linked_past events h))) in
+      let its = subst (AllByRecursion (λ (n : Node). node_at (past events) n.id ≡ Some n)) (reverse-reverse (nodes events)) (all_reverse (λ (n : Node). node_at (past events) n.id ≡ Some n) (past events) (nodes_found (past events) (linked_past events h))) in
       events_of_nodes (HasOperationsOf events) new
       (settled_all (OfNodes (HasOperationsOf events)) (without_set set events (takes set events how)) new
       (all_filter (OfNodes (HasOperationsOf events)) (λ e. not (is_left_over events left e)) left
@@ -112,5 +90,5 @@ module _ (set : List AnyId) (events : List PlainEvent) (tags : Lean) where
       (nodes_of_events (λ (n : Node). node_at (past events) n.id ≡ Some n) events its)))
       (done_parts how set events new h d).is)
 
-  pub deleted_fits : CheckFinds → (new : List PlainEvent) → IsSound events → squash_of how set events ≡ Ok new → AllByRecursion (Fits (tree new)) (nodes new)
-  deleted_fits finds new h d = let parts = in_parts new (done_sound finds how set events new h d) in trees_fit new parts.once parts.in_order
+  pub deleted_fits : (new : List PlainEvent) → IsSound events → squash_of how set events ≡ Ok new → AllByRecursion (Fits (tree new)) (nodes new)
+  deleted_fits new h d = let parts = in_parts new (done_sound how set events new h d) in trees_fit new parts.once parts.in_order

@@ -1,18 +1,17 @@
 -- What a squash leaves is sound, and after a push forward each commit that stays has the tree that it had.
-use Rattle.std.proofs.Common.{◌≡◌, ℕ, Bool, true, false, not, List, [], ◌∷◌, refl, sym, subst, ◌∙◌, Ok, IsTrue}
+use Rattle.std.proofs.Common.{◌≡◌, ℕ, Bool, true, false, not, List, refl, sym, subst, ◌∙◌, Ok}
 use Rattle.std.specs.Prelude.{◌&&◌, IsSome}
 use Rattle.std.specs.List.{AllByRecursion}
 use Rattle.plain_model.specs.declared.id.AnyId.{AnyId}
 use Rattle.plain_model.specs.declared.id.AnyId.TheVariants as any
 use Rattle.plain_model.specs.declared.event.PlainEvent.{PlainEvent}
-use Rattle.plain_model.specs.declared.event.PlainEvent.TheVariants.{Blob, Commit, Tag, Reset, Pass}
-use Rattle.plain_model.specs.Histories.{Node, nodes, tree}
-use Rattle.plain_model.specs.Soundness.{IsCommitOf, IsFormedEvent, IsSound, has_id}
+use Rattle.plain_model.specs.declared.event.PlainEvent.TheVariants.{Commit}
+use Rattle.plain_model.specs.Histories.{tree}
+use Rattle.plain_model.specs.Soundness.{IsCommitOf, IsSound, has_id}
 use Rattle.edit_laws.specs.Equations.{Fits}
-use Rattle.edit_laws.specs.Parts.{CanBeSettled, HasFewParents, IsLawful}
-use Rattle.edit_laws.specs.Settling.{is_ready}
-use Rattle.edit_laws.proofs.Lists.{OfNodes, events_of_nodes}
-use Rattle.edit_laws.proofs.Settles.{settled_ids, settled_sound, settled_trees, settling_ends, sound_settles}
+use Rattle.edit_laws.specs.Parts.{CanBeSettled, HasFewParents}
+use Rattle.edit_laws.proofs.Fine.{IsFine}
+use Rattle.edit_laws.proofs.Settles.{fine_nodes, settled_ids, settled_sound, settled_trees, settling_ends}
 use Rattle.edit_laws.proofs.Swept.{swept_commit, swept_nodes}
 use Rattle.squash_laws.specs.Removed.{is_removed, all_left, without_set}
 use Rattle.squash_laws.specs.Squash.{comment_after, squashed, takes}
@@ -20,23 +19,8 @@ use Rattle.squash_laws.specs.declared.policy.Lean.{Lean}
 use Rattle.squash_laws.specs.declared.policy.Push.TheVariants as push
 use Rattle.squash_laws.specs.declared.policy.Policy.{Policy}
 use Rattle.squash_laws.proofs.Forward.{left_fits}
-use Rattle.squash_laws.proofs.Left.{IsFine, commits_left, fine, ready_ops, without_settles}
+use Rattle.squash_laws.proofs.Left.{commits_left, without_settles}
 use Rattle.squash_laws.proofs.Takes.{taken_ops, target_stays}
-
--- the operations of a sound history are lawful, and their blobs are there
-pub fine_nodes : (events : List PlainEvent) → IsSound events → AllByRecursion (λ (n : Node). AllByRecursion (IsFine events) n.ops) (nodes events)
-fine_nodes events h = let s = sound_settles events h in events_of_nodes (λ (n : Node). AllByRecursion (IsFine events) n.ops) events (each events s.lawful s.spelled s.complete)
-  where
-    each : (es : List PlainEvent) → AllByRecursion IsLawful es → AllByRecursion IsFormedEvent es →
-        AllByRecursion (λ e. IsTrue (is_ready events e)) es →
-        AllByRecursion (OfNodes (λ (n : Node). AllByRecursion (IsFine events) n.ops)) es
-    each [] l f r = tt
-    each (Commit id mark branch author committer encoding comment parents ops aliases ∷ es) l f r =
-        ((fine events ops l.0.5 f.0.1 (ready_ops events parents ops r.0), tt), each es l.1 f.1 r.1)
-    each (Blob id mark bytes ∷ es) l f r = (tt, each es l.1 f.1 r.1)
-    each (Tag id name target tagger comment mark ∷ es) l f r = (tt, each es l.1 f.1 r.1)
-    each (Reset id branch target ∷ es) l f r = (tt, each es l.1 f.1 r.1)
-    each (Pass id line ∷ es) l f r = (tt, each es l.1 f.1 r.1)
 
 module _ (set : List AnyId) (events : List PlainEvent) (h : IsSound events) where
   pub squash_settles : (how : Policy) → CanBeSettled (without_set set events (takes set events how))

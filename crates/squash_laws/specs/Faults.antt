@@ -7,8 +7,8 @@ use Rattle.plain_model.specs.declared.fault.Fault.TheVariants as fault
 use Rattle.plain_model.specs.declared.event.PlainEvent.{PlainEvent}
 use Rattle.plain_model.specs.declared.event.PlainEvent.TheVariants.{Blob, Commit, Tag, Reset, Pass}
 use Rattle.plain_model.specs.Histories.{nodes}
+use Rattle.edit_laws.specs.Checking.{tree_check}
 use Rattle.edit_laws.specs.Passing.{limit_fault}
-use Rattle.manifest_cache.specs.Checking.{tree_check}
 use Rattle.squash_laws.specs.Removed.{is_removed}
 use Rattle.squash_laws.specs.Squash.{squashed}
 use Rattle.squash_laws.specs.declared.policy.Lean.TheVariants as lean

@@ -1,15 +1,14 @@
 //! Laws of a squash, first of what is left, then of trees. Each function's contract is one, and its body is empty, or
 //! calls the law that the tree check finds what has no tree.
-ghost use Rattle.std.specs.Prelude.{◌≡◌, ◌≤◌, ◌&&◌, ℕ, List, Ok, IsOk, IsTrue, length, not};
+ghost use Rattle.std.specs.Prelude.{◌≡◌, ◌&&◌, ℕ, List, Ok, IsOk, not};
 ghost use Rattle.std.specs.List.{AllByRecursion};
 ghost use Rattle.plain_model.specs.declared.event.PlainEvent.{PlainEvent};
 ghost use Rattle.plain_model.specs.declared.id.AnyId.{AnyId};
 ghost use Rattle.plain_model.specs.declared.id.AnyId.TheVariants as any;
 ghost use Rattle.plain_model.specs.Histories.{nodes, tree};
-ghost use Rattle.plain_model.specs.Lookups.{AreIdsBelow, alias_count};
+ghost use Rattle.plain_model.specs.Lookups.{AreIdsBelow};
 ghost use Rattle.plain_model.specs.Snapshots.{shown_tree};
 ghost use Rattle.plain_model.specs.Soundness.{IsCommitOf, IsSound, has_id};
-ghost use Rattle.plain_model.specs.Streams.{is_marked};
 ghost use Rattle.edit_laws.specs.Equations.{Fits};
 ghost use Rattle.edit_laws.specs.Editing.{IsEdit, with_number};
 ghost use Rattle.edit_laws.specs.Passing.{IsWithinLimits};
@@ -17,11 +16,10 @@ ghost use Rattle.squash_laws.specs.declared.policy.Lean.{Lean};
 ghost use Rattle.squash_laws.specs.declared.policy.Policy.{Policy};
 ghost use Rattle.squash_laws.specs.declared.policy.Push.TheVariants as push;
 ghost use Rattle.squash_laws.specs.Faults.{squash_of};
-ghost use Rattle.squash_laws.specs.Remaining.{HasOperationsOf, IsOneOf};
+ghost use Rattle.squash_laws.specs.Remaining.{IsBareOneOf};
+ghost use Rattle.edit_laws.specs.Keeping.{AddsNothing, HasOperationsOf};
 ghost use Rattle.squash_laws.specs.Removed.{is_removed};
 ghost use Rattle.squash_laws.specs.Squash.{last_hanging, squashed};
-
-use manifest_cache::the_check_finds_what_has_no_tree;
 
 /// Settling what a squash leaves comes to its end, so no parents run in a circle.
 pub fn a_squash_comes_to_its_end()
@@ -40,22 +38,12 @@ pub fn a_squash_removes_its_commits()
 pub fn a_squash_keeps_soundness()
     ensures { (how : Policy) (set : List AnyId) (events new : List PlainEvent) → IsSound events →
         squash_of how set events ≡ Ok new → IsSound new }
-{
-    the_check_finds_what_has_no_tree();
-}
+{}
 
 /// No event, id or mark is added, nor an alias, and ids stay below whatever bound they were.
 pub fn nothing_is_added()
-    ensures events { (how : Policy) (set : List AnyId) (events new : List PlainEvent) →
-        IsSound events → squash_of how set events ≡ Ok new → length new ≤ length events }
-    ensures ids { (how : Policy) (set : List AnyId) (events new : List PlainEvent) →
-        IsSound events → squash_of how set events ≡ Ok new → (id : AnyId) →
-        IsTrue (has_id new id) → IsTrue (has_id events id) }
-    ensures marks { (how : Policy) (set : List AnyId) (events new : List PlainEvent) →
-        IsSound events → squash_of how set events ≡ Ok new → (mark : ℕ) →
-        IsTrue (is_marked new mark) → IsTrue (is_marked events mark) }
-    ensures aliases { (how : Policy) (set : List AnyId) (events new : List PlainEvent) →
-        IsSound events → squash_of how set events ≡ Ok new → alias_count new ≤ alias_count events }
+    ensures added { (how : Policy) (set : List AnyId) (events new : List PlainEvent) →
+        IsSound events → squash_of how set events ≡ Ok new → AddsNothing events new }
     ensures below { (how : Policy) (set : List AnyId) (events new : List PlainEvent) (next : ℕ) →
         IsSound events → squash_of how set events ≡ Ok new →
         AreIdsBelow next events → AreIdsBelow next new }
@@ -65,7 +53,7 @@ pub fn nothing_is_added()
 /// a tag or a reset: marks and aliases, branches and names, people, encodings and blobs are the same.
 pub fn what_stays_is_as_it_was()
     ensures { (how : Policy) (set : List AnyId) (events new : List PlainEvent) → IsSound events →
-        squash_of how set events ≡ Ok new → AllByRecursion (IsOneOf events) new }
+        squash_of how set events ≡ Ok new → AllByRecursion (IsBareOneOf events) new }
 {}
 
 /// What isn't refused is within the limits.
@@ -108,14 +96,10 @@ pub fn a_deletion_replays_what_remains()
         (new : List PlainEvent) → IsSound events →
         squash_of (record { push = push.Discard; tags = tags }) set events ≡ Ok new →
         AllByRecursion (Fits (tree new)) (nodes new) }
-{
-    the_check_finds_what_has_no_tree();
-}
+{}
 
 /// A squash is an edit that gives no number: of a lawful history it makes a lawful one.
 pub fn a_squash_is_an_edit()
     ensures { (how : Policy) → IsEdit (λ set next events.
         with_number next (squash_of how set events)) }
-{
-    the_check_finds_what_has_no_tree();
-}
+{}

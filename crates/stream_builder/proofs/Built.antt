@@ -7,7 +7,7 @@ use Rattle.plain_model.specs.Histories.{nodes}
 use Rattle.stream_grammar.specs.Known.{with_event}
 use Rattle.stream_builder.proofs.Counting.{ops_more}
 use Rattle.stream_builder.proofs.Kept.{one_beside, emptied}
-use Rattle.stream_grammar.specs.Limits.{ops_in as count_in, ops_in_event, open_ops}
+use Rattle.stream_grammar.specs.Limits.{open_ops}
 use Rattle.stream_builder.specs.declared.known.OpenTree.{OpenTree}
 use Rattle.stream_builder.specs.declared.known.OpenTree.TheVariants.{NotFolded}
 use Rattle.stream_builder.specs.declared.known.Trees.{Trees}
@@ -19,6 +19,7 @@ use Rattle.plain_model.specs.declared.fault.Fault.{Fault}
 use Rattle.plain_model.specs.declared.fault.Fault.TheVariants.{MarksSpent}
 use Rattle.plain_model.specs.declared.person.Signed.{Signed}
 use Rattle.plain_model.specs.Paths.{Bytes}
+use Rattle.history_laws.specs.Counts.{ops_in as count_in, ops_in_event}
 use Rattle.stream_drafts.specs.declared.finish.FinishFault.{FinishFault}
 use Rattle.stream_grammar.specs.Known.{Known, closed, history_of}
 use Rattle.stream_grammar.specs.Limits.{last_mark, unless_spent}
@@ -49,9 +50,6 @@ module _ (events : List PlainEvent) (current other : Open) (trees : Trees) (ops 
       let own = open_count current in
       let is : length (ops_in other) ≡ length (ops_in current) = (λ i. length (ops_in (same i))) in
       omega (arith, all, own, is)
-
-  pub no_less : count ≤ ops
-  no_less = let all = counted in omega (arith, all, count_is)
 
   module _ (new : List PlainEvent) (kept : Trees) (n : ℕ) (more : count_in new ≡ count_in events + n) (within : n ≤ length (ops_in other)) where
     pub sum_fits : ops - count + n ≤ MAX_OPERATIONS

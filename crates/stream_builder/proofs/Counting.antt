@@ -3,7 +3,7 @@ use Rattle.std.proofs.Common.{◌≡◌, ℕ, ◌+◌, List, [], ◌∷◌, ◌+
 use Rattle.plain_model.specs.declared.event.PlainEvent.{PlainEvent}
 use Rattle.plain_model.specs.declared.operation.FileOp.{FileOp}
 use Rattle.plain_model.specs.Histories.{Node}
-use Rattle.stream_grammar.specs.Limits.{ops_in, ops_in_event}
+use Rattle.history_laws.specs.Counts.{ops_in, ops_in_event}
 
 pub ops_more : (es all : List PlainEvent) (e : PlainEvent) → all ≡ es ++ e ∷ [] → ops_in all ≡ ops_in es + ops_in_event e
 ops_more es all e is = ap ops_in is ∙ go es

@@ -184,11 +184,6 @@ pub begins_with : (xs : List ℕ) (x : ℕ) → 1 ≤ length xs → x ≡ get_or
 begins_with [] x h is = absurd (omega (arith, h))
 begins_with (y ∷ ys) x h is = ap (λ z. z ∷ ys) is
 
--- no operations change nothing
-pub no_ops : (t : Option Tree) → folded [] t ≡ t
-no_ops None = refl
-no_ops (Some t) = refl
-
 -- one commit more at the old end of a line
 pub along_more : (events : List PlainEvent) (line : List ℕ) (c : ℕ) (t : Option Tree) → along events (line ++ c ∷ []) t ≡ along events line (folded (ops_at events c) t)
 along_more events [] c t = refl

@@ -15,15 +15,6 @@ use Rattle.stream_builder.specs.Keeping.{AreEarlier, IsEarlier}
 use Rattle.stream_builder.specs.Agreement.{HasAtMost, IsOpened, TreesAgree, open_tree}
 use Rattle.stream_builder.proofs.TreesAfter.{tree_beside, tree_after}
 
--- what a commit begins with has no more paths than any tree
-pub begun_within : (most : ℕ) (events : List PlainEvent) → ((c : ℕ) → HasAtMost most (tree events c)) → (parents : List ℕ) → HasAtMost most (open_tree events parents [])
-begun_within most events all [] = omega arith
-begun_within most events all (p ∷ ps) = same (tree events p) (all p)
-  where
-    same : (o : Option Tree) → HasAtMost most o → HasAtMost most (folded [] o)
-    same None h = tt
-    same (Some t) h = h
-
 next_more : (events : List PlainEvent) (e : PlainEvent) → next_id (with_event events e) ≡ next_id events + 1
 next_more events e = go events
   where

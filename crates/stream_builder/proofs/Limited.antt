@@ -1,5 +1,5 @@
 -- Which limit one more operation passes.
-use Rattle.std.proofs.Common.{◌≡◌, ℕ, ◌+◌, ◌<◌, ◌≤◌, true, false, cond, List, [], ◌∷◌, ◌++◌, length, Option, Some, Result, Ok, Err, refl, sym, ap, subst, ◌∙◌, arith, nat_lt}
+use Rattle.std.proofs.Common.{◌≡◌, ℕ, ◌+◌, ◌<◌, ◌≤◌, false, cond, List, [], ◌∷◌, ◌++◌, length, Option, Some, Result, Ok, Err, refl, sym, ap, subst, ◌∙◌, arith, nat_lt}
 use Rattle.std.proofs.lemmas.Bool.Decides.{nat_tests}
 use Rattle.plain_model.specs.declared.event.PlainEvent.{PlainEvent}
 use Rattle.plain_model.specs.declared.fault.Which.{Which}
@@ -8,10 +8,11 @@ use Rattle.plain_model.specs.declared.fault.Why.{Why}
 use Rattle.plain_model.specs.declared.limit.TheConstants.{MAX_EVENTS, MAX_OPERATIONS}
 use Rattle.plain_model.specs.declared.operation.FileOp.{FileOp}
 use Rattle.plain_model.specs.Histories.{begun, tree}
+use Rattle.history_laws.specs.Counts.{ops_in as count_in}
 use Rattle.line_automaton.specs.Limits.{Cause}
 use Rattle.stream_grammar.specs.Known.{Known, OpenCommit as KnownCommit, Open as KnownOpen}
 use Rattle.stream_grammar.specs.Known.Open.{Nothing as NoEvent, ABlob, ACommit, ATag, AReset, AnAlias}
-use Rattle.stream_grammar.specs.Limits.{limit_if, limit_on, op_limit, op_count, within_limit, ops_in as count_in}
+use Rattle.stream_grammar.specs.Limits.{limit_if, limit_on, op_limit, op_count, within_limit}
 use Rattle.stream_builder.specs.declared.fault.LineFault.{LineFault}
 use Rattle.stream_builder.specs.declared.fault.LineFault.TheVariants as line
 use Rattle.stream_builder.specs.Judging.{Judges}
@@ -31,9 +32,6 @@ length_last (x ∷ ops) op = let more = length_last ops op in omega (arith, more
 -- a limit that isn't passed
 fits : (most count : ℕ) (which : Which) (other : Option Which) → count ≤ most → limit_if most count which other ≡ other
 fits most count which other le = let no : nat_lt most count ≡ false = grind (arith, nat_tests) in ap (λ b. cond b (Some which) other) no
-
-passes : (most count : ℕ) (which : Which) (other : Option Which) → most < count → limit_if most count which other ≡ Some which
-passes most count which other lt = let yes : nat_lt most count ≡ true = grind (arith, nat_tests) in ap (λ b. cond b (Some which) other) yes
 
 module _ (events : List PlainEvent) (aliases : List (ℕ × ℕ)) (c : OpenCommit) (op : FileOp) (more ops : ℕ) (counted : ops ≡ op_count (known_of events [] (Commit c)))
     (few : length events + 1 + more ≤ MAX_EVENTS) (less : ops < MAX_OPERATIONS) where

@@ -26,9 +26,6 @@ one_more : (events : List PlainEvent) (parents : List ℕ) (ops : List FileOp) (
 one_more events parents ops op = folded_more ops (op ∷ []) (begun (tree events) parents)
 
 module _ (t : Trees) (events : List PlainEvent) (parents : List ℕ) (ops : List FileOp) (op : FileOp) (m : TreesAgree t events parents ops) where
-  expected : Option Tree
-  expected = open_tree events parents ops
-
   -- ---- to the tree that was folded
 
   module _ (found new : Option Tree) (paths most : ℕ) (is : t.opened ≡ Folded found) (applied : Applies op found (Ok paths) new) (most_is : most ≡ max t.most paths) where

@@ -1,7 +1,7 @@
 //! A commit or a reset is over.
 ghost use Rattle.std.specs.Prelude.{◌≡◌, [], length, unwrap_or, IfOk, OnErr, OnOk, ◌+◌, ◌≤◌};
 ghost use Rattle.stream_grammar.specs.Known.{closed, closed_commit};
-ghost use Rattle.stream_grammar.specs.Limits.{ops_in as count_in};
+ghost use Rattle.history_laws.specs.Counts.{ops_in as count_in};
 ghost use Rattle.stream_builder.specs.Building.{commit_of, known_of, ops_in, parents_in};
 ghost use Rattle.stream_builder.specs.Agreement.{HasAtMost, IsOpened, TreesAgree, open_tree};
 

@@ -14,6 +14,7 @@ use Rattle.plain_model.specs.Histories.{begun, folded, tree}
 use Rattle.plain_model.specs.Paths.{Bytes}
 use Rattle.plain_model.specs.Trees.{Tree, Refusal, apply}
 use Rattle.plain_model.specs.Trees.Refusal.{MissingSource, PathBytes as LongPath, Paths as ManyPaths}
+use Rattle.history_laws.specs.Counts.{ops_in}
 use Rattle.line_automaton.specs.Limits.{Cause, limited}
 use Rattle.line_automaton.specs.Limits.Cause.{Defect, Exceeds}
 use Rattle.line_automaton.specs.Machine.{Automaton, Outcome, outcome, all}
@@ -37,18 +38,6 @@ open_count (AnAlias mark) = 0
 
 abbrev pub event_count : Known → ℕ
 event_count k = length k.events + open_count k.current
-
-abbrev pub ops_in_event : PlainEvent → ℕ
-ops_in_event (plain.Commit id mark branch author committer encoding comment parents ops aliases) = length ops
-ops_in_event (plain.Blob id mark bytes) = 0
-ops_in_event (plain.Tag id name target tagger comment mark) = 0
-ops_in_event (plain.Reset id branch target) = 0
-ops_in_event (plain.Pass id line) = 0
-
--- the operations of a list of events
-abbrev pub ops_in : List PlainEvent → ℕ
-ops_in [] = 0
-ops_in (e ∷ events) = ops_in_event e + ops_in events
 
 abbrev pub open_ops : Open → ℕ
 open_ops (ACommit c) = length c.ops

@@ -23,7 +23,7 @@ use Rattle.stream_builder.specs.Judging.{Judges}
 use Rattle.stream_reader.specs.declared.place.Place.{Place}
 use Rattle.stream_reader.specs.declared.place.Place.TheVariants as place
 use Rattle.stream_reader.specs.Reading.{HasStopped, IsAt, IsIn, StreamMachine, after_compared, after_line, goes, in_line, is_between_lines, state}
-use Rattle.stream_reader.proofs.Steps.{comment_step, block_refused, made, next_is_line}
+use Rattle.stream_reader.proofs.Steps.{block_refused, made, next_is_line}
 
 -- ---- by what follows a line of data
 
@@ -65,12 +65,6 @@ abbrev by_step : ℕ → Bytes → Result (State × Next) (Cause Why Which) → 
 by_step n line r = moved stream_within n (n + 1) (answered stream_within n line r)
 
 module _ (standing : Standing) (known : Known) (n come : ℕ) (line : Bytes) (spelled : List Bytes) where
-  pub commented : (begun : Bytes) → is_comment line ≡ true → begun ≡ [] → IsIn standing known (n + 1) come (place.Line begun) (after_line n (state standing spelled known) line)
-  commented begun e none = (
-    spelled,
-    ap (by_step n line) (comment_step standing known line spelled e) ∙ ap (λ (b : Bytes). At (n + 1) (InLine b) (state standing spelled known)) (sym none),
-  )
-
   module _ (w : Word) (plain : is_comment line ≡ false) (is : w ≡ word_of line) where
     module _ (t : Standing) (stands : after_word standing w ≡ Ok t) where
       -- a line of data goes by what follows it

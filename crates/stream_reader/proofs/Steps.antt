@@ -35,21 +35,11 @@ module _ (s : Standing) (k : Known) (line : Bytes) (spelled : List Bytes) where
   within_limits : Result (State × Next) Why → Result (State × Next) (Cause Why Which)
   within_limits r = limited_step stream exceeded line r
 
-  pub comment_step : is_comment line ≡ true → step_within s k line spelled ≡ Ok (state s spelled k, More)
-  unfolding within_limits
-  comment_step e =
-      ap within_limits (ap (λ t. cond {A = Result (State × Next) Why} t (Ok (state s spelled k, More)) (word_step true (state s spelled k) line (word_of line))) e)
-      ∙ ap (λ t. within stream exceeded (state s spelled k, More) (cond {A = Option Which} t None (limit_at (word_of line) k))) e
-
   module _ (w : Word) (plain : is_comment line ≡ false) (is : w ≡ word_of line) where
     is_word_step : line_step true (state s spelled k) line ≡ word_step true (state s spelled k) line w
     is_word_step =
         ap (λ t. cond {A = Result (State × Next) Why} t (Ok (state s spelled k, More)) (word_step true (state s spelled k) line (word_of line))) plain
         ∙ ap (word_step true (state s spelled k) line) (sym is)
-
-    pub form_refused : (why : Why) → after_word s w ≡ Err why → step_within s k line spelled ≡ Err (Defect why)
-    unfolding within_limits
-    form_refused why e = ap within_limits (is_word_step ∙ ap (with_standing w line (state s spelled k)) e)
 
     module _ (t : Standing) (stands : after_word s w ≡ Ok t) where
       pub block_refused : (why : Why) → next_of w line ≡ Err why → step_within s k line spelled ≡ Err (Defect why)

@@ -2,7 +2,6 @@ mod Entries
 mod Pieces
 mod Halting
 mod Ids
-mod Judged
 mod PathWords
 mod Changing
 mod Denying

@@ -8,10 +8,9 @@ use Rattle.plain_model.specs.Paths.{Bytes}
 use Rattle.plain_model.specs.declared.fault.Fault.{Fault}
 use Rattle.plain_model.specs.declared.fault.Halt.{Halt}
 use Rattle.byte_patterns.specs.Judging.{Judged, Judges, ◌>>>◌, plainly}
+use Rattle.byte_patterns.proofs.Judged.{one_by_one, stopped, went_on}
 use Rattle.expunge_laws.specs.Matching.{Matches}
-use Rattle.path_expunge.proofs.Judged.{stopped}
 use Rattle.history_machine.specs.PathWords.{before_slash, between_slashes, matches_by, matches_of}
-use Rattle.surgeon_session.proofs.Judged.{nothing_done, one_by_one, went_on}
 
 -- ---- slashes
 
@@ -51,9 +50,6 @@ AreJudged before now r judged = Judges {X = List Matches} (λ matchers. matchers
 -- what words match, after what others match
 abbrev pub after_others : List Matches → List Bytes → Judged (List Matches)
 after_others so_far words = matches_of words >>> λ others. plainly (Ok (so_far ++ others))
-
-pub none_before : (words : List Bytes) → after_others [] words ≡ matches_of words
-none_before words = nothing_done (matches_of words)
 
 one_more : (so_far : List Matches) (word : Bytes) (words : List Bytes)
     → after_others so_far (word ∷ words) ≡ (matches_by word (between_slashes word) >>> λ one. matches_of words >>> λ others. plainly (Ok (so_far ++ one ∷ others)))

@@ -6,16 +6,15 @@ use Rattle.plain_model.specs.Paths.{Bytes}
 use Rattle.plain_model.specs.declared.event.PlainEvent.{PlainEvent}
 use Rattle.plain_model.specs.declared.fault.Halt.{Halt}
 use Rattle.byte_patterns.specs.Judging.{Judged, Judges, plainly}
+use Rattle.byte_patterns.proofs.Judged.{one_by_one, passed_on, stopped}
 use Rattle.event_sets.specs.Once.{AreLive, IsOnce}
 use Rattle.event_sets.specs.Sets.{Ids}
 use Rattle.selection_eval.specs.Given.{GivesLive, GivesOnce}
 use Rattle.selection_parser.specs.Reading.{selection_at}
 use Rattle.expunge_laws.specs.Matching.{Matches}
-use Rattle.path_expunge.proofs.Judged.{stopped}
 use Rattle.history_machine.specs.PathWords.{matches_of}
 use Rattle.history_machine.specs.Sessions.{Repo, Session, Subject, chosen, find_repo, in_scope, of_events, of_paths, said_paths, selected, stands_for}
 use Rattle.surgeon_session.specs.Entries.{AreLiveIn, Loaded, found_repo, repo_under, selected_in}
-use Rattle.surgeon_session.proofs.Judged.{one_by_one, passed_on}
 
 -- ---- what a selection stands for
 

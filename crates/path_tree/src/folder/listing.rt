@@ -2,7 +2,7 @@
 ghost use Rattle.std.specs.Prelude.{◌≡◌, ◌++◌, IfOk, OnOk};
 ghost use Rattle.plain_model.specs.Paths.{IsPath};
 ghost use Rattle.path_tree.specs.Folders.{prefixed};
-ghost use Rattle.path_tree.specs.Sound.{AllPaths};
+ghost use Rattle.history_laws.specs.SoundTrees.{AllPaths};
 
 use super::{Folder, Node};
 use plain_model::{EntryList, NoMemory, Path, PathFault};

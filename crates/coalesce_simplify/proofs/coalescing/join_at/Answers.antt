@@ -6,11 +6,12 @@ use Rattle.plain_model.specs.declared.operation.FileOp.{FileOp}
 use Rattle.plain_model.specs.Lookups.{id_of, is_listed}
 use Rattle.history_laws.specs.FirstParents.{ops_along}
 use Rattle.event_arena.specs.Changes.{changed, with_ops, with_parents, with_target}
+use Rattle.graph_walk.proofs.TurnLemmas.{on_ok}
 use Rattle.squash_laws.specs.Squash.{links}
 use Rattle.coalesce_laws.specs.Remaining.{parents_of_oldest}
 use Rattle.coalesce_simplify.specs.Joining.{end_of, joined_event}
 use Rattle.coalesce_simplify.proofs.Left.{begin_same, blob_same, commit_joined, one_same, pass_same, reset_moved, tag_moved}
-use Rattle.plan_steps.proofs.Steps.{alike_of, kept_of, on_ok}
+use Rattle.plan_steps.proofs.Steps.{alike_of, kept_of}
 use Rattle.coalesce_simplify.proofs.coalescing.join_at.Goals as goal
 
 pub returns-then-has_at : goal.returns-then-has_at

@@ -2,7 +2,7 @@ use Rattle.std.proofs.Common.{◌≡◌, ◌∙◌, ◌≤◌, Option, ℕ, Some
 use Rattle.std.specs.Prelude.{unwrap_or}
 use Rattle.plain_model.specs.declared.id.AnyId.TheVariants as any
 use Rattle.plain_model.specs.Lookups.{is_listed, place_of}
-use Rattle.event_arena.proofs.PlaceLemmas.{placeless}
+use Rattle.history_laws.proofs.Ids.{placeless}
 use Rattle.graph_walk.proofs.PlaceLemmas.{event_placed}
 use Rattle.squash_laws.specs.Removed.{is_removed}
 use Rattle.squash_delete.proofs.WayLemmas.{commit_own}

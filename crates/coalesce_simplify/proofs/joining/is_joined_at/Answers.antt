@@ -3,7 +3,7 @@ use Rattle.std.proofs.lemmas.Option.{same_Some}
 use Rattle.plain_model.specs.declared.event.PlainEvent.{PlainEvent}
 use Rattle.plain_model.specs.declared.id.AnyId.TheVariants as any
 use Rattle.plain_model.specs.Lookups.{children_of, find_event, id_of}
-use Rattle.event_arena.proofs.SpentLemmas.{find-id}
+use Rattle.history_laws.proofs.Ids.{find-id}
 use Rattle.manifest_cache.specs.Walks.{commit_id}
 use Rattle.squash_delete.proofs.WayLemmas.{commit_own, no_id}
 use Rattle.coalesce_simplify.specs.Joining.{only_of}

@@ -2,8 +2,8 @@ use Rattle.std.proofs.Common.{◌≡◌, ◌∙◌, ◌∷◌, [], ◌<◌, List
 use Rattle.plain_model.specs.declared.id.AnyId.{AnyId}
 use Rattle.plain_model.specs.declared.event.PlainEvent.{PlainEvent}
 use Rattle.plain_model.specs.Lookups.{id_of}
+use Rattle.history_laws.proofs.Lists.{item_at}
 use Rattle.event_arena.proofs.ListLemmas.{take-all}
-use Rattle.graph_walk.proofs.PlaceLemmas.{item_at}
 use Rattle.squash_delete.proofs.SweepLemmas.{passing_item}
 use Rattle.coalesce_simplify.proofs.Joins.{passes}
 use Rattle.coalesce_simplify.proofs.joining.joined_ones.Goals as goal

@@ -2,10 +2,10 @@ use Rattle.std.proofs.Common.{◌≡◌, ◌∙◌, List, Result, Ok, Err, sym, 
 use Rattle.plain_model.specs.declared.event.PlainEvent.{PlainEvent}
 use Rattle.plain_model.specs.declared.fault.Fault.{Fault}
 use Rattle.plain_model.specs.Histories.{IsLinkedPast, past}
+use Rattle.edit_laws.specs.Checking.{tree_check}
 use Rattle.edit_laws.proofs.Trees.{linked_in_order}
 use Rattle.event_arena.specs.Graphs.{Change}
 use Rattle.event_arena.proofs.Plans.{leaves_sound}
-use Rattle.manifest_cache.specs.Checking.{tree_check}
 use Rattle.simplify_laws.specs.Simplify.{simplified}
 use Rattle.simplify_laws.proofs.Simplified.{once, order}
 use Rattle.coalesce_simplify.proofs.simplifying.simplify.Goals as goal

@@ -1,9 +1,11 @@
 use Rattle.std.proofs.Common.{◌≡◌, ◌∙◌, List, refl, sym, ap}
 use Rattle.plain_model.specs.declared.event.PlainEvent.{PlainEvent}
 use Rattle.plain_model.specs.Lookups.{find_event, id_of}
+use Rattle.event_arena.proofs.StepLemmas.{found_holds}
+use Rattle.graph_walk.proofs.TurnLemmas.{on_ok}
 use Rattle.simplify_laws.specs.Simplify.{simplified_event}
 use Rattle.coalesce_simplify.specs.Voiding.{simple_event}
-use Rattle.plan_steps.proofs.Steps.{changed_alike, found_holds, kept_of, on_ok}
+use Rattle.plan_steps.proofs.Steps.{changed_alike, kept_of}
 use Rattle.coalesce_simplify.proofs.Voided.{chosen_simple, other_same}
 use Rattle.coalesce_simplify.proofs.simplifying.simplify_at.Goals as goal
 

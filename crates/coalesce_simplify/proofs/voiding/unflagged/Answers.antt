@@ -1,6 +1,6 @@
 use Rattle.std.proofs.Common.{◌≡◌, ◌∙◌, ◌∷◌, [], ◌++◌, List, false, drop, get_or, suc, add-one, ap, sym}
 use Rattle.plain_model.specs.declared.operation.FileOp.{FileOp}
-use Rattle.graph_walk.proofs.PlaceLemmas.{item_at}
+use Rattle.history_laws.proofs.Lists.{item_at}
 use Rattle.simplify_laws.specs.Simplify.{simpler}
 use Rattle.coalesce_simplify.proofs.Noting.{goes_next, stays_next}
 use Rattle.coalesce_simplify.proofs.voiding.unflagged.Goals as goal

@@ -1,6 +1,6 @@
 use Rattle.std.proofs.Common.{◌∙◌, ◌++◌, ap, add-one, arith}
 use Rattle.plain_model.specs.declared.id.AnyId.TheVariants.{Commit}
-use Rattle.event_arena.specs.Once.{named}
+use Rattle.history_laws.specs.Once.{named}
 use Rattle.event_arena.proofs.ListLemmas.{take-all}
 use Rattle.event_arena.proofs.OnceLemmas.{named-more}
 use Rattle.event_arena.proofs.index.note_aliases.Goals as goal

@@ -1,7 +1,7 @@
 use Rattle.std.proofs.Common.{◌≡◌, ◌+◌, ◌++◌, take}
 use Rattle.std.specs.Prelude.{vec_capacity, vec_len}
 use Rattle.plain_model.specs.declared.id.AnyId.TheVariants.{Commit}
-use Rattle.event_arena.specs.Once.{named}
+use Rattle.history_laws.specs.Once.{named}
 use Rattle.event_arena.proofs.index.note_aliases.Given as goal
 
 abbrev pub invariant-loop-alias : goal.invariant-loop-alias

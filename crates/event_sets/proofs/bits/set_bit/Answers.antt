@@ -1,8 +1,8 @@
 use Rattle.std.proofs.Common.{◌∙◌, ap, sym, true}
 use Rattle.std.proofs.Math.ListN.{set}
+use Rattle.history_laws.proofs.Ids.{placeless}
 use Rattle.event_arena.proofs.ChangeLemmas.{listed-more, listed-skip}
-use Rattle.event_arena.proofs.PlaceLemmas.{placeless}
-use Rattle.event_arena.proofs.SoundLemmas.{sound-once}
+use Rattle.history_laws.proofs.SoundOnce.{sound-once}
 use Rattle.event_sets.proofs.bits.set_bit.Goals as goal
 
 pub returns-in-Some-clause-adds : goal.returns-in-Some-clause-adds

@@ -1,7 +1,7 @@
 use Rattle.std.proofs.Common.{◌∙◌, false, ap, get_or, sym}
 use Rattle.std.proofs.lemmas.Option.{same_Some}
 use Rattle.std.specs.Prelude.{◌||◌, flat_map}
-use Rattle.event_arena.proofs.SoundLemmas.{sound-once}
+use Rattle.history_laws.proofs.SoundOnce.{sound-once}
 use Rattle.event_sets.specs.Around.{linked, puts_one}
 use Rattle.event_sets.specs.Sets.{members}
 use Rattle.event_sets.proofs.BitLemmas.{bit-of}

@@ -1,11 +1,11 @@
 use Rattle.std.proofs.Common.{◌≡◌, ◌∙◌, ◌++◌, take, drop, ◌-◌, ◌+◌, suc, List, Bool, false, cond, [], get_or, length, arith, ap, subst, sym}
 use Rattle.std.proofs.lemmas.List.{length-replicate}
 use Rattle.plain_model.specs.Lookups.{event_parents}
-use Rattle.event_arena.proofs.SoundLemmas.{sound-once}
+use Rattle.history_laws.proofs.Lists.{item_at}
+use Rattle.history_laws.proofs.SoundOnce.{sound-once}
 use Rattle.graph_walk.specs.Flags.{FlagsMore, flagged_ids}
 use Rattle.graph_walk.proofs.FlagLemmas.{if_ok, no_flag, refilled}
 use Rattle.graph_walk.proofs.ClosureLemmas.{AreClosedFrom, closed_all, closed_first, closed_more}
-use Rattle.graph_walk.proofs.PlaceLemmas.{item_at}
 use Rattle.graph_walk.proofs.ancestry.ancestors.Goals as goal
 
 pub loop-done-init : goal.loop-done-init

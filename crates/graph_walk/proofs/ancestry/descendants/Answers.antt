@@ -2,12 +2,12 @@ use Rattle.std.proofs.Common.{◌≡◌, ◌∙◌, ◌≤◌, ◌||◌, List, B
 use Rattle.std.proofs.Math.ListN.{set}
 use Rattle.std.specs.List.{list_any}
 use Rattle.plain_model.specs.Lookups.{event_parents}
-use Rattle.event_arena.proofs.SoundLemmas.{sound-once}
+use Rattle.history_laws.proofs.SoundOnce.{sound-once}
 use Rattle.graph_walk.specs.Flags.{flagged_ids, is_flagged_commit}
 use Rattle.graph_walk.proofs.DescendantLemmas.{AreSettledTo, settled_all, settled_more}
 use Rattle.graph_walk.proofs.FlagLemmas.{if_ok, refilled}
 use Rattle.std.proofs.lemmas.List.{length-set}
-use Rattle.graph_walk.proofs.PlaceLemmas.{item_at}
+use Rattle.history_laws.proofs.Lists.{item_at}
 use Rattle.graph_walk.proofs.ancestry.descendants.Goals as goal
 
 pub loop-place-preserved : goal.loop-place-preserved

@@ -1,5 +1,5 @@
 use Rattle.std.proofs.Common.{◌++◌, ◌∷◌, [], List, Bool, take, add-one, subst, sym}
-use Rattle.event_arena.proofs.SoundLemmas.{sound-once}
+use Rattle.history_laws.proofs.SoundOnce.{sound-once}
 use Rattle.event_arena.proofs.ListLemmas.{take-more}
 use Rattle.graph_walk.specs.Flags.{FlagsMore}
 use Rattle.graph_walk.proofs.FlagLemmas.{flags_push, flags_skip}

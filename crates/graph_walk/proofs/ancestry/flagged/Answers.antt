@@ -1,9 +1,9 @@
 use Rattle.std.proofs.Common.{◌∙◌, ◌++◌, ◌∷◌, [], ◌<◌, Some, take, true, false, length, add-one, append-nil, arith, ap, sym}
 use Rattle.std.proofs.lemmas.Option.{slice_get-get_or}
 use Rattle.plain_model.specs.declared.id.AnyId.{AnyId}
+use Rattle.history_laws.proofs.Lists.{item_at}
 use Rattle.graph_walk.specs.Flags.{flagged_ids}
 use Rattle.graph_walk.proofs.FlagLemmas.{flagged_item}
-use Rattle.graph_walk.proofs.PlaceLemmas.{item_at}
 use Rattle.graph_walk.proofs.ancestry.flagged.Goals as goal
 use Rattle.graph_walk.proofs.ancestry.flagged.Goals.{then-flags-place+in_ok-push, else-flags-place}
 

@@ -2,12 +2,13 @@ use Rattle.std.proofs.Common.{◌≡◌, ◌∙◌, ◌-◌, ◌+◌, ◌≤◌,
 use Rattle.std.specs.Prelude.{is_some}
 use Rattle.std.proofs.lemmas.List.{length-replicate}
 use Rattle.plain_model.specs.declared.id.AnyId.TheVariants as any
-use Rattle.event_arena.proofs.SoundLemmas.{sound-once}
+use Rattle.history_laws.proofs.Ids.{found-place}
+use Rattle.history_laws.proofs.Lists.{item_at}
+use Rattle.history_laws.proofs.SoundOnce.{sound-once}
 use Rattle.graph_walk.proofs.FlagLemmas.{no_flag}
 use Rattle.graph_walk.proofs.BetweenLemmas.{bottom_flag, closed_top}
 use Rattle.graph_walk.proofs.ClosureLemmas.{AreClosedFrom, closed_more}
-use Rattle.event_arena.proofs.PlaceLemmas.{found-place}
-use Rattle.graph_walk.proofs.PlaceLemmas.{item_at, place_within}
+use Rattle.graph_walk.proofs.PlaceLemmas.{place_within}
 use Rattle.graph_walk.proofs.ancestry.reaches.Goals as goal
 
 pub unwrap-bottom-requires : goal.unwrap-bottom-requires

@@ -5,7 +5,7 @@ use Rattle.std.specs.Prelude.{is_some}
 use Rattle.plain_model.specs.Lookups.{event_parents, find_event}
 use Rattle.plain_model.specs.declared.event.PlainEvent.{PlainEvent}
 use Rattle.plain_model.specs.declared.id.AnyId.TheVariants as any
-use Rattle.event_arena.proofs.SoundLemmas.{sound-once}
+use Rattle.history_laws.proofs.SoundOnce.{sound-once}
 use Rattle.graph_walk.specs.Expansions.{new_parents}
 use Rattle.graph_walk.specs.Joined.{kept}
 use Rattle.graph_walk.proofs.ExpansionLemmas.{parents_placed}

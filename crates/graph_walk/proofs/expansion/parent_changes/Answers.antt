@@ -1,13 +1,13 @@
 use Rattle.std.proofs.Common.{◌∙◌, List, Bool, ap, arith, add-one, subst, sym}
 use Rattle.std.proofs.lemmas.Result.{err_from_is_err_and}
 use Rattle.plain_model.specs.declared.id.AnyId.{AnyId}
-use Rattle.event_arena.proofs.SoundLemmas.{sound-once}
+use Rattle.history_laws.proofs.Lists.{item_at}
+use Rattle.history_laws.proofs.SoundOnce.{sound-once}
 use Rattle.graph_walk.specs.Children.{children_of_all}
 use Rattle.graph_walk.specs.Expansions.{IsCauseOfMany, parent_changes}
 use Rattle.graph_walk.specs.Joined.{IsTooMany, PushesChange}
 use Rattle.graph_walk.specs.Flags.{FlagsOf}
 use Rattle.graph_walk.proofs.ParentLemmas.{cause_more, changes_more, children_flagged}
-use Rattle.graph_walk.proofs.PlaceLemmas.{item_at}
 use Rattle.graph_walk.proofs.expansion.parent_changes.Goals as goal
 
 pub returns-in_err-push_change-clause-cause : goal.returns-in_err-push_change-clause-cause

@@ -1,5 +1,5 @@
 use Rattle.std.proofs.Common.{[]}
-use Rattle.listing.specs.Finding.{IsDated}
+use Rattle.history_laws.specs.Finding.{IsDated}
 use Rattle.listing.proofs.Found.{dated, holds_through}
 use Rattle.listing.proofs.finding.event_of.Goals as goal
 

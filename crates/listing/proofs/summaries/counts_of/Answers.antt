@@ -1,5 +1,6 @@
 use Rattle.std.proofs.Common.{ap}
-use Rattle.listing.specs.Summaries.{is_blob, is_commit, is_pass, is_reset, is_tag}
+use Rattle.history_laws.specs.Finding.{is_commit}
+use Rattle.listing.specs.Summaries.{is_blob, is_pass, is_reset, is_tag}
 use Rattle.listing.proofs.KindCounts.{more, same}
 use Rattle.listing.proofs.summaries.counts_of.Goals as goal
 use Rattle.listing.proofs.summaries.counts_of.Goals.{in-Blob, in-Commit, in-Tag, in-Reset, in-Pass}

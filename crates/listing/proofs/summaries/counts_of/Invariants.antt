@@ -1,6 +1,7 @@
 use Rattle.std.proofs.Common.{◌≡◌, take}
 use Rattle.std.specs.List.{count_by}
-use Rattle.listing.specs.Summaries.{is_blob, is_commit, is_pass, is_reset, is_tag}
+use Rattle.history_laws.specs.Finding.{is_commit}
+use Rattle.listing.specs.Summaries.{is_blob, is_pass, is_reset, is_tag}
 use Rattle.listing.proofs.summaries.counts_of.Given as goal
 
 abbrev pub invariant-loop-place : goal.invariant-loop-place

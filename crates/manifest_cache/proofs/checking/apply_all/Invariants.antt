@@ -1,6 +1,6 @@
 use Rattle.std.proofs.Common.{◌≡◌, ◌+◌, Some, drop}
 use Rattle.plain_model.specs.Histories.{folded}
-use Rattle.manifest_cache.specs.Checking.{first_refused}
+use Rattle.edit_laws.specs.Checking.{first_refused}
 use Rattle.manifest_cache.proofs.checking.apply_all.Given as goal
 
 abbrev pub invariant-loop-place : goal.invariant-loop-place

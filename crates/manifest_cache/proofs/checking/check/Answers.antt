@@ -3,7 +3,7 @@ use Rattle.std.specs.Prelude.{is_some}
 use Rattle.lru.specs.LruCache.{LruCache}
 use Rattle.plain_model.specs.declared.id.AnyId.TheVariants as any
 use Rattle.plain_model.specs.Trees.{Tree}
-use Rattle.event_arena.proofs.SoundLemmas.{has_id-find}
+use Rattle.history_laws.proofs.SoundOnce.{has_id-find}
 use Rattle.manifest_cache.specs.Kept.{AgreesWith}
 use Rattle.manifest_cache.proofs.Checked.{all_checked}
 use Rattle.manifest_cache.proofs.Lines.{tree_along, tree_line}

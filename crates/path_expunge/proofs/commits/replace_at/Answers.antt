@@ -8,12 +8,13 @@ use Rattle.plain_model.specs.Histories.{begun, folded, tree}
 use Rattle.plain_model.specs.Soundness.{IsCommitOf}
 use Rattle.plain_model.specs.Trees.{Tree}
 use Rattle.event_arena.specs.Changes.{with_ops}
+use Rattle.graph_walk.proofs.TurnLemmas.{on_ok}
 use Rattle.expunge_laws.specs.Expunged.{replaced_event}
 use Rattle.expunge_laws.specs.Replaced.{replaced_all}
 use Rattle.expunge_laws.specs.Untouched.{may_touch}
 use Rattle.expunge_laws.specs.Matching.{Matches, matched_by}
 use Rattle.path_expunge.proofs.Nodes.{begins_with, begun_tree, has_tree_from, no_commit, parents_known, stays_by_name}
-use Rattle.plan_steps.proofs.Steps.{alike_of, kept_of, on_ok}
+use Rattle.plan_steps.proofs.Steps.{alike_of, kept_of}
 use Rattle.path_expunge.proofs.commits.replace_at.Goals as goal
 
 pub returns-in_default : goal.returns-in_default

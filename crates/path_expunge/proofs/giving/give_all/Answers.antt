@@ -2,9 +2,9 @@ use Rattle.std.proofs.Common.{◌≡◌, ◌∙◌, List, ap, sym, length, take,
 use Rattle.std.specs.Prelude.{slice_get}
 use Rattle.plain_model.specs.declared.event.PlainEvent.{PlainEvent}
 use Rattle.plain_model.specs.Lookups.{id_of}
+use Rattle.history_laws.proofs.Lists.{item_at}
 use Rattle.event_arena.specs.Changes.{changed}
 use Rattle.event_arena.specs.Graphs.{Change}
-use Rattle.graph_walk.proofs.PlaceLemmas.{item_at}
 use Rattle.path_expunge.specs.Fates.{given_way}
 use Rattle.path_expunge.proofs.FateLemmas.{item_given, length_given, none_given, step_given}
 use Rattle.path_expunge.proofs.giving.give_all.Goals as goal

@@ -3,10 +3,10 @@ use Rattle.plain_model.specs.declared.id.AnyId.{AnyId}
 use Rattle.plain_model.specs.declared.event.PlainEvent.{PlainEvent}
 use Rattle.event_arena.specs.Changes.{without_all}
 use Rattle.event_arena.specs.Graphs.{Change}
+use Rattle.graph_walk.proofs.TurnLemmas.{on_ok}
 use Rattle.path_expunge.specs.declared.fates.Fate.{Fate}
 use Rattle.path_expunge.specs.Fates.{all_given_way, fated}
 use Rattle.path_expunge.proofs.FateLemmas.{given_all, left_all}
-use Rattle.plan_steps.proofs.Steps.{on_ok}
 use Rattle.path_expunge.proofs.pushing.give_way.Goals as goal
 
 pub returns : goal.returns

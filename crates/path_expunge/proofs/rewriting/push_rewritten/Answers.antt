@@ -1,10 +1,10 @@
 use Rattle.std.proofs.Common.{◌∙◌, ◌++◌, List, filter, not, ap, append_assoc}
 use Rattle.plain_model.specs.declared.operation.FileOp.{FileOp}
 use Rattle.plain_model.specs.Trees.{Tree, at, subtree}
+use Rattle.graph_walk.proofs.TurnLemmas.{on_ok}
 use Rattle.expunge_laws.specs.Replaced.{deletes_of, has_entry, puts_of, restricted}
 use Rattle.expunge_laws.specs.Matching.{Matches, matched_by}
 use Rattle.path_expunge.specs.Written.{gone_of}
-use Rattle.plan_steps.proofs.Steps.{on_ok}
 use Rattle.path_expunge.proofs.WrittenLemmas.{written}
 use Rattle.path_expunge.proofs.rewriting.push_rewritten.Goals as goal
 

@@ -1,7 +1,7 @@
 use Rattle.std.proofs.Common.{sym, subst}
 use Rattle.plain_model.specs.Paths.{Bytes, IsPath}
 use Rattle.plain_model.specs.Trees.Change.{Put, Remove, CopyTo, MoveTo}
-use Rattle.path_tree.proofs.KeptPaths.{change_paths}
+use Rattle.history_laws.proofs.KeptPaths.{change_paths}
 use Rattle.path_tree.proofs.Looking.{on_ok}
 use Rattle.path_tree.proofs.PathEnds.{no_slash_at_end}
 use Rattle.path_tree.proofs.operations.applied.Goals as goal

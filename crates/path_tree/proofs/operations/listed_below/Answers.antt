@@ -3,7 +3,7 @@ use Rattle.plain_model.specs.Paths.{Bytes}
 use Rattle.plain_model.specs.Trees.{Tree}
 use Rattle.path_tree.specs.Inside.{member_of}
 use Rattle.path_tree.specs.Setting.{Finds}
-use Rattle.path_tree.specs.Sound.{AllPaths}
+use Rattle.history_laws.specs.SoundTrees.{AllPaths}
 use Rattle.path_tree.proofs.Looking.{if_ok}
 use Rattle.path_tree.proofs.Suffixes.{subtree_is, subtree_paths}
 use Rattle.path_tree.proofs.operations.listed_below.Goals as goal

@@ -6,7 +6,7 @@ use Rattle.path_tree.specs.declared.folder.Node.TheVariants.{Subfolder}
 use Rattle.path_tree.specs.Folders.{prefixed}
 use Rattle.path_tree.specs.Inside.{member_of}
 use Rattle.path_tree.specs.Setting.{suffixes}
-use Rattle.path_tree.specs.Sound.{AllPaths}
+use Rattle.history_laws.specs.SoundTrees.{AllPaths}
 use Rattle.path_tree.proofs.Listing.{prefixed-prefixed}
 use Rattle.path_tree.proofs.operations.node_list.Goals as goal
 

@@ -2,9 +2,9 @@ use Rattle.std.proofs.Common.{◌∙◌, List, ap, sym}
 use Rattle.std.specs.Prelude.{is_some}
 use Rattle.plain_model.specs.declared.event.PlainEvent.{PlainEvent}
 use Rattle.plain_model.specs.declared.id.AnyId.TheVariants as any
+use Rattle.history_laws.proofs.Ids.{placeless}
 use Rattle.event_arena.specs.Changes.{with_parents}
-use Rattle.event_arena.proofs.PlaceLemmas.{placeless}
-use Rattle.event_arena.proofs.SoundLemmas.{has_id-find}
+use Rattle.history_laws.proofs.SoundOnce.{has_id-find}
 use Rattle.graph_walk.proofs.PlaceLemmas.{has_id_place}
 use Rattle.plan_steps.proofs.Steps.{changed_nowhere}
 use Rattle.plan_steps.proofs.changing.give_parents.Goals as goal

@@ -4,8 +4,8 @@ use Rattle.std.proofs.lemmas.Bool.{OnTrue_at}
 use Rattle.plain_model.specs.declared.id.AnyId.TheVariants.{Commit}
 use Rattle.plain_model.specs.Lookups.{find_event}
 use Rattle.event_arena.specs.Changes.{with_aliases}
+use Rattle.event_arena.proofs.StepLemmas.{changed_same as changed-same}
 use Rattle.renumbering.specs.Renumbered.{marks_from}
-use Rattle.renumbering.proofs.Steps.{changed-same}
 use Rattle.renumbering.proofs.numbering.give_aliases.Goals as goal
 
 pub returns-then-go_from : goal.returns-then-go_from

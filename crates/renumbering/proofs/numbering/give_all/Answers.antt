@@ -3,7 +3,7 @@ use Rattle.plain_model.specs.Lookups.{event_marks, find_event, id_of}
 use Rattle.plain_model.specs.Soundness.{IsSound}
 use Rattle.event_arena.specs.Changes.{changed}
 use Rattle.event_arena.specs.Graphs.{Change}
-use Rattle.event_arena.proofs.SoundLemmas.{sound-once}
+use Rattle.history_laws.proofs.SoundOnce.{sound-once}
 use Rattle.renumbering.specs.Renumbered.{marked_from}
 use Rattle.renumbering.proofs.Sound.{sound_again}
 use Rattle.renumbering.proofs.Steps.{changed-so-far, found-so-far, next-fits, next-more, next_at, so-far-all}

@@ -2,7 +2,7 @@ use Rattle.std.proofs.Common.{◌≡◌, ◌∙◌, sym, ap, subst}
 use Rattle.std.specs.Prelude.{IfSome}
 use Rattle.plain_model.specs.Lookups.{find_event}
 use Rattle.event_arena.specs.Changes.{with_mark}
-use Rattle.renumbering.proofs.Steps.{changed-same}
+use Rattle.event_arena.proofs.StepLemmas.{changed_same as changed-same}
 use Rattle.renumbering.proofs.numbering.give_mark.Goals as goal
 
 pub returns-then-number-new : goal.returns-then-number-new

@@ -7,8 +7,9 @@ use Rattle.event_arena.specs.declared.field.Field.TheVariants as field
 use Rattle.event_arena.specs.Changes.{changed, has_mark, with_aliases, with_mark}
 use Rattle.event_arena.specs.Graphs.{Change}
 use Rattle.event_arena.proofs.ChangeLemmas.{id-with_field}
+use Rattle.event_arena.proofs.StepLemmas.{found_holds as found-holds}
 use Rattle.renumbering.specs.Renumbered.{marked_from, marks_from}
-use Rattle.renumbering.proofs.Steps.{aliases-set, changed-twice, found-holds, kept}
+use Rattle.renumbering.proofs.Steps.{aliases-set, changed-twice, kept}
 use Rattle.renumbering.proofs.numbering.give_marks.Goals as goal
 
 pub give_mark-requires-in-Commit-clause-there : goal.give_mark-requires-in-Commit-clause-there

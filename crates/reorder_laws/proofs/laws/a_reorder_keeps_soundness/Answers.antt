@@ -2,4 +2,4 @@ use Rattle.reorder_laws.proofs.ReorderDone.{done_sound}
 use Rattle.reorder_laws.proofs.laws.a_reorder_keeps_soundness.Goals as goal
 
 pub returns : goal.returns
-returns c = done_sound c.the_check_finds_what_has_no_tree.ensures
+returns c = done_sound

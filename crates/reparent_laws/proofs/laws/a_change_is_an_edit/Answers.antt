@@ -11,7 +11,7 @@ pub returns : goal.returns
 returns c = record {
   reparent = λ use_order rebase. edit_without (λ set events. reparent_of use_order rebase set events) (λ set events new h selection d. (
     record {
-      sound = done_sound use_order rebase set events new h.sound selection d c.the_check_finds_what_has_no_tree.ensures;
+      sound = done_sound use_order rebase set events new h.sound selection d;
       within = done_limits use_order rebase set events new h.sound selection d;
     },
     λ next below. fewer_below events new next (done_adds_nothing use_order rebase set events new h.sound selection d).ids below,
@@ -26,15 +26,15 @@ returns c = record {
   ));
   add = λ spelled its fits. edit_without (λ set events. add_of spelled set events) (λ set events new h selection d. (
     record {
-      sound = add_sound spelled set events new h.sound its fits d c.the_check_finds_what_has_no_tree.ensures;
+      sound = add_sound spelled set events new h.sound its fits d;
       within = add_limits spelled set events new h.sound its fits d;
     },
     λ next below. fewer_below events new next (add_adds_nothing spelled set events new h.sound its fits d).ids below,
   ));
   remove = λ what. edit_without (λ set events. remove_of what set events) (λ set events new h selection d. (
     record {
-      sound = remove_sound what set events new h.sound d c.the_check_finds_what_has_no_tree.ensures;
-      within = remove_limits what set events new h.sound d c.the_check_finds_what_has_no_tree.ensures h.within;
+      sound = remove_sound what set events new h.sound d;
+      within = remove_limits what set events new h.sound d h.within;
     },
     λ next below. fewer_below events new next (remove_adds_nothing what set events new h.sound d).ids below,
   ));

@@ -5,9 +5,9 @@ use Rattle.reparent_laws.proofs.laws.a_change_keeps_soundness.Goals as goal
 
 pub returns : goal.returns
 returns c = record {
-  reparent = λ use_order rebase set events new h sel d. done_sound use_order rebase set events new h sel d c.the_check_finds_what_has_no_tree.ensures;
+  reparent = λ use_order rebase set events new h sel d. done_sound use_order rebase set events new h sel d;
   merge = merge_sound;
   unmerge = unmerge_sound;
-  add = λ spelled set events new h its fits d. add_sound spelled set events new h its fits d c.the_check_finds_what_has_no_tree.ensures;
-  remove = λ what set events new h d. remove_sound what set events new h d c.the_check_finds_what_has_no_tree.ensures;
+  add = λ spelled set events new h its fits d. add_sound spelled set events new h its fits d;
+  remove = λ what set events new h d. remove_sound what set events new h d;
 }

@@ -9,5 +9,5 @@ returns c = record {
   merge = merge_limits;
   unmerge = unmerge_limits;
   add = add_limits;
-  remove = λ what set events new h within d. remove_limits what set events new h d c.the_check_finds_what_has_no_tree.ensures within;
+  remove = λ what set events new h within d. remove_limits what set events new h d within;
 }

@@ -5,5 +5,5 @@ use Rattle.reparent_laws.proofs.laws.a_rebase_replays_operations.Goals as goal
 pub returns : goal.returns
 returns c = record {
   ops = done_ops;
-  trees = λ use_order set events new h sel d. done_fits use_order true set events new h sel d c.the_check_finds_what_has_no_tree.ensures;
+  trees = λ use_order set events new h sel d. done_fits use_order true set events new h sel d;
 }

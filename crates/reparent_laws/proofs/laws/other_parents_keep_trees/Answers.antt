@@ -4,7 +4,7 @@ use Rattle.reparent_laws.proofs.laws.other_parents_keep_trees.Goals as goal
 
 pub returns : goal.returns
 returns c = record {
-  reparent = done_keeps c.the_check_finds_what_has_no_tree.ensures;
+  reparent = done_keeps;
   merge = merge_keeps;
   unmerge = unmerge_keeps;
 }

@@ -9,7 +9,8 @@ use Rattle.event_arena.specs.Graphs.{Change}
 use Rattle.event_arena.specs.Plans.{leaving}
 use Rattle.commit_laws.specs.Selected.{node_of}
 use Rattle.reparent_laws.specs.Merge.{merges, ops_with_parent, with_parent}
-use Rattle.reparent_rebase.proofs.Answered.{nil_of, no_root}
+use Rattle.squash_delete.proofs.SweepLemmas.{nil_of}
+use Rattle.reparent_rebase.proofs.Answered.{no_root}
 use Rattle.reparent_rebase.proofs.Rewritten.{both_given, parents_given}
 use Rattle.reparent_rebase.proofs.merging.joined.Goals as goal
 use Rattle.reparent_rebase.proofs.merging.joined.Goals.{then-is_empty+in_ok-anew+in_ok-give_ops, else-is_empty}

@@ -1,6 +1,6 @@
 use Rattle.std.proofs.Common.{◌∙◌, sym, ap, Some}
 use Rattle.plain_model.specs.declared.id.AnyId.TheVariants as any
-use Rattle.event_arena.proofs.SpentLemmas.{find-id}
+use Rattle.history_laws.proofs.Ids.{find-id}
 use Rattle.plan_steps.proofs.Nodes.{mark_found, only_commits}
 use Rattle.reparent_rebase.proofs.reparenting.commit_mark.Goals as goal
 

@@ -4,7 +4,7 @@ use Rattle.plain_model.specs.declared.id.AnyId.TheVariants as any
 use Rattle.plain_model.specs.declared.event.PlainEvent.{PlainEvent}
 use Rattle.plain_model.specs.Soundness.{IsCommitOf}
 use Rattle.ancestry_laws.specs.Ancestry.{descends}
-use Rattle.event_arena.proofs.SoundLemmas.{has_id-find}
+use Rattle.history_laws.proofs.SoundOnce.{has_id-find}
 use Rattle.event_arena.specs.Graphs.{Change}
 use Rattle.edit_laws.specs.Settling.{settle}
 use Rattle.edit_laws.proofs.Sound.{in_parts}

@@ -1,6 +1,6 @@
 use Rattle.std.proofs.Common.{◌≡◌, ◌++◌, ◌∷◌, [], ◌∙◌, sym, ap}
 use Rattle.plain_model.specs.Soundness.{are_distinct}
-use Rattle.reparent_rebase.proofs.Descending.{distinct_front}
+use Rattle.reparent_laws.proofs.ReparentDone.{distinct_front}
 use Rattle.reparent_rebase.proofs.reparenting.reparent_last.Goals as goal
 
 pub reparent_commit-requires-clause-once : goal.reparent_commit-requires-clause-once

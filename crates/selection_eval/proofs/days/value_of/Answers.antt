@@ -1,5 +1,5 @@
-use Rattle.std.proofs.Common.{◌<◌, ◌≤◌, ℕ, arith, length}
-use Rattle.selection_eval.proofs.Powers.{few_digits}
+use Rattle.std.proofs.Common.{◌<◌, ◌≤◌, arith, length}
+use Rattle.selection_parser.proofs.Powers.{few_digits}
 use Rattle.selection_eval.proofs.days.value_of.Goals as goal
 
 pub overflow_mul-value : goal.overflow_mul-value

@@ -1,7 +1,7 @@
 use Rattle.byte_patterns.specs.Judging.{pattern_of}
 use Rattle.event_sets.specs.declared.set.EventSet.{EventSet}
 use Rattle.selection_eval.specs.Denoted.{at_found, known}
-use Rattle.selection_eval.proofs.Judged.{stopped}
+use Rattle.byte_patterns.proofs.Judged.{stopped}
 use Rattle.selection_eval.proofs.evaluation.at_pattern.Goals as goal
 
 pub returns-in-Err-clause-judged : goal.returns-in-Err-clause-judged

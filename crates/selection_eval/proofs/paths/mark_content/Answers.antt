@@ -1,9 +1,9 @@
 use Rattle.std.proofs.Common.{◌∙◌, ap, sym, true}
 use Rattle.std.proofs.Math.ListN.{set}
 use Rattle.plain_model.specs.declared.id.AnyId.TheVariants as any
+use Rattle.history_laws.proofs.Ids.{placeless}
 use Rattle.event_arena.proofs.ChangeLemmas.{listed-more, listed-skip}
-use Rattle.event_arena.proofs.PlaceLemmas.{placeless}
-use Rattle.event_arena.proofs.SoundLemmas.{sound-once}
+use Rattle.history_laws.proofs.SoundOnce.{sound-once}
 use Rattle.selection_eval.proofs.paths.mark_content.Goals as goal
 
 pub returns-in-Some-clause-adds : goal.returns-in-Some-clause-adds

@@ -1,10 +1,9 @@
-use Rattle.std.proofs.Common.{List, ℕ}
 use Rattle.byte_patterns.specs.Judging.{pattern_of}
 use Rattle.event_sets.specs.declared.set.EventSet.{EventSet}
 use Rattle.event_sets.specs.Sets.{passing}
 use Rattle.selection_eval.specs.Denoted.{known}
 use Rattle.selection_eval.specs.Fields.{has_found}
-use Rattle.selection_eval.proofs.Judged.{stopped}
+use Rattle.byte_patterns.proofs.Judged.{stopped}
 use Rattle.selection_eval.proofs.searching.search.Goals as goal
 
 pub returns-in-Err-clause-judged : goal.returns-in-Err-clause-judged

@@ -1,6 +1,6 @@
-use Rattle.std.proofs.Common.{◌≡◌, ◌∙◌, ◌+◌, ◌++◌, ◌∷◌, [], add-one, Bool, List, map, suc, take, sym, ap}
+use Rattle.std.proofs.Common.{◌≡◌, ◌∙◌, ◌+◌, ◌++◌, ◌∷◌, [], add-one, Bool, sym, ap}
 use Rattle.plain_model.specs.declared.event.PlainEvent.{PlainEvent}
-use Rattle.selection_eval.proofs.Found.{map-more}
+use Rattle.event_sets.proofs.SetLemmas.{map-more}
 use Rattle.selection_eval.proofs.testing.passing.Goals as goal
 
 pub loop-place-preserved : goal.loop-place-preserved

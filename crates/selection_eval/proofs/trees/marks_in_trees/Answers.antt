@@ -1,6 +1,6 @@
 use Rattle.std.proofs.Common.{◌≡◌, ◌∙◌, [], Bool, List, true, add-one, ap, length, refl, subst, sym, arith}
 use Rattle.std.proofs.lemmas.List.{length-set}
-use Rattle.event_arena.proofs.SoundLemmas.{sound-once}
+use Rattle.history_laws.proofs.SoundOnce.{sound-once}
 use Rattle.event_sets.specs.Bits.{Adds}
 use Rattle.event_sets.specs.Sets.{Ids}
 use Rattle.event_sets.proofs.BitLemmas.{bits-count}

@@ -3,6 +3,6 @@ use Rattle.simplify_laws.proofs.laws.it_is_done_where_operations_can_be.Goals as
 
 pub returns : goal.returns
 returns c = record {
-  done = λ set events h can. is_done set events h c.the_check_finds_what_has_no_tree.ensures can;
-  only = only_done c.the_check_finds_what_has_no_tree.ensures;
+  done = λ set events h can. is_done set events h can;
+  only = only_done;
 }

@@ -3,7 +3,7 @@ use Rattle.plain_model.specs.declared.event.PlainEvent.{PlainEvent}
 use Rattle.plain_model.specs.Lookups.{find_event, id_of}
 use Rattle.event_arena.specs.Changes.{changed}
 use Rattle.event_arena.specs.Graphs.{Change}
-use Rattle.event_arena.proofs.SoundLemmas.{sound-once}
+use Rattle.history_laws.proofs.SoundOnce.{sound-once}
 use Rattle.split_reorder.specs.Copies.{put_onto}
 use Rattle.split_reorder.proofs.Halving.{onto_id}
 use Rattle.plan_steps.proofs.Steps.{step_changed, step_found}

@@ -3,9 +3,10 @@ use Rattle.plain_model.specs.declared.event.PlainEvent.{PlainEvent}
 use Rattle.plain_model.specs.declared.event.PlainEvent.TheVariants.{Blob, Commit, Tag, Reset, Pass}
 use Rattle.plain_model.specs.declared.id.AnyId.TheVariants as any
 use Rattle.event_arena.specs.Changes.{changed, with_parents, with_target}
+use Rattle.graph_walk.proofs.TurnLemmas.{on_ok}
 use Rattle.split_laws.specs.Split.{onto}
 use Rattle.split_reorder.specs.Copies.{put_onto}
-use Rattle.plan_steps.proofs.Steps.{alike_of, kept_of, on_ok}
+use Rattle.plan_steps.proofs.Steps.{alike_of, kept_of}
 use Rattle.split_reorder.proofs.onto.put_onto.Goals as goal
 
 pub returns-in-Commit : goal.returns-in-Commit

@@ -1,6 +1,6 @@
 use Rattle.std.proofs.Common.{◌∙◌, ◌++◌, ◌∷◌, [], ◌<◌, drop, suc, length, add-one, arith, ap}
 use Rattle.plain_model.specs.declared.id.AnyId.{AnyId}
-use Rattle.graph_walk.proofs.PlaceLemmas.{item_at}
+use Rattle.history_laws.proofs.Lists.{item_at}
 use Rattle.split_reorder.specs.Ordered.{ordered}
 use Rattle.split_reorder.proofs.Listed.{next_given, none_given, own_given, placed_none, placed_some}
 use Rattle.split_reorder.proofs.placing.order.Goals as goal

@@ -2,11 +2,11 @@ use Rattle.std.proofs.Common.{◌≡◌, ◌∙◌, ◌∷◌, List, ap}
 use Rattle.plain_model.specs.declared.event.PlainEvent.{PlainEvent}
 use Rattle.plain_model.specs.Lookups.{children_of}
 use Rattle.event_arena.specs.Graphs.{Change}
+use Rattle.graph_walk.proofs.TurnLemmas.{on_ok}
 use Rattle.commit_laws.specs.Selected.{node_of}
 use Rattle.reorder_laws.specs.Reorder.{last_of, lined_up}
 use Rattle.split_reorder.specs.Parents.{moved_parents, with_all}
 use Rattle.split_reorder.proofs.Relinked.{all_relinked}
-use Rattle.plan_steps.proofs.Steps.{on_ok}
 use Rattle.split_reorder.proofs.relinking.relink.Goals as goal
 
 pub returns : goal.returns

@@ -5,11 +5,11 @@ use Rattle.plain_model.specs.Lookups.{id_of}
 use Rattle.plain_model.specs.Soundness.{IsSound, are_distinct}
 use Rattle.event_arena.specs.Changes.{in_order}
 use Rattle.event_arena.specs.Graphs.{Change}
+use Rattle.graph_walk.proofs.TurnLemmas.{on_ok}
 use Rattle.commit_laws.proofs.Selections.{chosen_distinct}
 use Rattle.reorder_laws.specs.Reorder.{relinked_all}
 use Rattle.split_reorder.specs.Ordered.{ordered}
 use Rattle.split_reorder.proofs.Arranged.{order_permutes, order_puts}
-use Rattle.plan_steps.proofs.Steps.{on_ok}
 use Rattle.split_reorder.proofs.reordering.arrange.Goals as goal
 
 pub relink-requires-clause-once : goal.relink-requires-clause-once

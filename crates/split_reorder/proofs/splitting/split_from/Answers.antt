@@ -3,7 +3,7 @@ use Rattle.std.specs.Prelude.{is_some}
 use Rattle.plain_model.specs.declared.id.AnyId.TheVariants as any
 use Rattle.plain_model.specs.declared.operation.FileOp.{FileOp}
 use Rattle.edit_laws.specs.Passing.{limit_fault}
-use Rattle.event_arena.proofs.SoundLemmas.{has_id-find}
+use Rattle.history_laws.proofs.SoundOnce.{has_id-find}
 use Rattle.event_arena.specs.Graphs.{Change}
 use Rattle.split_reorder.proofs.Halving.{never_given}
 use Rattle.plan_steps.proofs.Nodes.{there_with_ops}

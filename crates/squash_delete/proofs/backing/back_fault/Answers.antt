@@ -1,8 +1,8 @@
 use Rattle.std.proofs.Common.{◌∙◌, Some, None, add-one, arith, ap, refl, sym}
+use Rattle.history_laws.proofs.Lists.{item_at}
+use Rattle.event_arena.proofs.StepLemmas.{none_left}
 use Rattle.squash_laws.specs.Faults.{first_back_fault}
-use Rattle.graph_walk.proofs.PlaceLemmas.{item_at}
 use Rattle.squash_delete.proofs.HangLemmas.{fault_here, fault_later}
-use Rattle.squash_delete.proofs.Passes.{none_left}
 use Rattle.squash_delete.proofs.backing.back_fault.Goals as goal
 
 pub returns-in-Some : goal.returns-in-Some

@@ -1,6 +1,7 @@
 use Rattle.std.proofs.Common.{◌∙◌, sym, take}
 use Rattle.plain_model.specs.Soundness.{IsCommitOf}
-use Rattle.squash_delete.proofs.ChainLemmas.{first_of, root_none, root_some}
+use Rattle.plan_steps.proofs.Nodes.{first_of}
+use Rattle.squash_delete.proofs.ChainLemmas.{root_none, root_some}
 use Rattle.squash_delete.proofs.chains.are_from_root.Goals as goal
 
 pub link_of-requires-clause-earlier : goal.link_of-requires-clause-earlier

@@ -5,7 +5,7 @@ use Rattle.plain_model.specs.declared.id.AnyId.TheVariants as any
 use Rattle.plain_model.specs.Lookups.{event_parents, find_event, place_of}
 use Rattle.edit_laws.specs.Removal.{expand_all}
 use Rattle.plain_model.specs.Histories.{past}
-use Rattle.event_arena.proofs.SoundLemmas.{sound-once}
+use Rattle.history_laws.proofs.SoundOnce.{sound-once}
 use Rattle.graph_walk.proofs.PlaceLemmas.{place_found}
 use Rattle.manifest_cache.specs.Walks.{commit_id, event_ops}
 use Rattle.squash_laws.specs.Comments.{comment_of}

@@ -1,5 +1,5 @@
 use Rattle.std.proofs.Common.{subst, sym}
-use Rattle.event_arena.proofs.SoundLemmas.{sound-once}
+use Rattle.history_laws.proofs.SoundOnce.{sound-once}
 use Rattle.squash_delete.specs.Chains.{Notes}
 use Rattle.squash_delete.proofs.NodeLemmas.{earlier_there}
 use Rattle.squash_delete.proofs.WayLemmas.{is_early}

@@ -1,6 +1,6 @@
 use Rattle.std.proofs.Common.{◌∙◌, arith, ap, sym}
 use Rattle.std.specs.Prelude.{slice_get}
-use Rattle.graph_walk.proofs.PlaceLemmas.{item_at}
+use Rattle.history_laws.proofs.Lists.{item_at}
 use Rattle.squash_delete.specs.Chains.{AreLinks}
 use Rattle.squash_delete.proofs.EntryLemmas.{links_more, links_none, links_over}
 use Rattle.squash_delete.proofs.chains.links.Goals as goal

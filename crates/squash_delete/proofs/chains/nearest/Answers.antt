@@ -1,8 +1,9 @@
 use Rattle.std.proofs.Common.{subst, sym, take}
 use Rattle.plain_model.specs.Soundness.{IsCommitOf}
-use Rattle.event_arena.proofs.SoundLemmas.{sound-once}
+use Rattle.history_laws.proofs.SoundOnce.{sound-once}
+use Rattle.plan_steps.proofs.Nodes.{first_of}
 use Rattle.squash_delete.specs.Chains.{IsNearest, depth}
-use Rattle.squash_delete.proofs.ChainLemmas.{depth_before, first_of, nearest_none, nearest_some}
+use Rattle.squash_delete.proofs.ChainLemmas.{depth_before, nearest_none, nearest_some}
 use Rattle.squash_delete.proofs.chains.nearest.Goals as goal
 
 pub returns-in_err-parent : goal.returns-in_err-parent

@@ -4,7 +4,7 @@ use Rattle.std.specs.Option.{option_map_or}
 use Rattle.std.specs.Prelude.{IsSome}
 use Rattle.plain_model.specs.declared.id.AnyId.TheVariants as any
 use Rattle.plain_model.specs.Lookups.{event_parents, find_event, place_of}
-use Rattle.event_arena.proofs.SoundLemmas.{sound-once}
+use Rattle.history_laws.proofs.SoundOnce.{sound-once}
 use Rattle.graph_walk.proofs.PlaceLemmas.{place_found}
 use Rattle.squash_delete.specs.Chains.{IsNearest, depth, parents_at}
 use Rattle.squash_delete.proofs.ChainLemmas.{all_before, depth_at, nearest_nil, own_before}

@@ -1,9 +1,9 @@
 use Rattle.std.proofs.Common.{◌∙◌, List, ap, sym}
 use Rattle.plain_model.specs.declared.event.PlainEvent.{PlainEvent}
 use Rattle.plain_model.specs.Lookups.{id_of}
+use Rattle.history_laws.proofs.Lists.{item_at}
 use Rattle.event_arena.specs.Changes.{changed, with_target}
 use Rattle.event_arena.specs.Graphs.{Change}
-use Rattle.graph_walk.proofs.PlaceLemmas.{item_at}
 use Rattle.graph_walk.proofs.TurnLemmas.{on_ok}
 use Rattle.squash_delete.proofs.MovingLemmas.{apart_moved, gone_moved, lost_moved, nowhere_lost, target_id}
 use Rattle.squash_delete.proofs.NearLemmas.{lost_is}

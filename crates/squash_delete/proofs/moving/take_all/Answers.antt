@@ -1,7 +1,7 @@
 use Rattle.std.proofs.Common.{◌∙◌, List, suc, not, filter, map, add-one, arith, ap, sym, true≢false}
 use Rattle.plain_model.specs.declared.event.PlainEvent.{PlainEvent}
 use Rattle.plain_model.specs.declared.limit.TheConstants.{MAX_OPERATIONS}
-use Rattle.graph_walk.proofs.PlaceLemmas.{item_at}
+use Rattle.history_laws.proofs.Lists.{item_at}
 use Rattle.squash_laws.specs.Squash.{takes}
 use Rattle.squash_delete.specs.Leaving.{goes, with_own_parents, with_takings}
 use Rattle.squash_delete.specs.Sources.{count_ops, push_of}

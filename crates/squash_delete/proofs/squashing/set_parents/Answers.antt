@@ -1,7 +1,7 @@
 use Rattle.std.proofs.Common.{◌≡◌, ◌∙◌, List, ℕ, ap, refl, subst, sym, Option}
 use Rattle.std.specs.Prelude.{MatchOption}
 use Rattle.plain_model.specs.declared.event.PlainEvent.{PlainEvent}
-use Rattle.event_arena.proofs.SoundLemmas.{sound-once}
+use Rattle.history_laws.proofs.SoundOnce.{sound-once}
 use Rattle.graph_walk.specs.Expansions.{AreFew, parent_changes}
 use Rattle.squash_laws.specs.Removed.{parents_after}
 use Rattle.squash_delete.specs.Judged.{AreMany}

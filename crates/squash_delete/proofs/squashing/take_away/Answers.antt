@@ -2,7 +2,7 @@ use Rattle.std.proofs.Common.{◌∙◌, List, ap, subst, sym}
 use Rattle.plain_model.specs.declared.id.AnyId.{AnyId}
 use Rattle.plain_model.specs.declared.event.PlainEvent.{PlainEvent}
 use Rattle.event_arena.specs.Changes.{without_all}
-use Rattle.event_arena.specs.Once.{AreDistinct}
+use Rattle.history_laws.specs.Once.{AreDistinct}
 use Rattle.graph_walk.proofs.TurnLemmas.{on_ok}
 use Rattle.squash_delete.specs.Leaving.{goes}
 use Rattle.squash_delete.specs.Targets.{AreMoves}

@@ -2,7 +2,7 @@ use Rattle.std.proofs.Common.{◌≡◌, ◌∙◌, ◌+◌, List, true, filter,
 use Rattle.plain_model.specs.Lookups.{id_of, is_listed, op_blobs}
 use Rattle.plain_model.specs.declared.event.PlainEvent.{PlainEvent}
 use Rattle.plain_model.specs.declared.operation.FileOp.{FileOp}
-use Rattle.graph_walk.proofs.PlaceLemmas.{item_at}
+use Rattle.history_laws.proofs.Lists.{item_at}
 use Rattle.squash_delete.specs.Flags.{FlagsAll, FlagsIds, event_blobs}
 use Rattle.squash_delete.proofs.NearPlaces.{flagged_over}
 use Rattle.squash_delete.proofs.SweepLemmas.{filter_in, filter_out, flags_none, flags_push}

@@ -1,6 +1,6 @@
 use Rattle.std.proofs.Common.{◌∙◌, ◌∷◌, [], List, add-one, append-nil, arith, sym}
 use Rattle.plain_model.specs.declared.id.AnyId.{AnyId}
-use Rattle.graph_walk.proofs.PlaceLemmas.{item_at}
+use Rattle.history_laws.proofs.Lists.{item_at}
 use Rattle.squash_delete.proofs.SweepLemmas.{over_item}
 use Rattle.squash_delete.proofs.sweeping.left_over.Goals as goal
 use Rattle.squash_delete.proofs.sweeping.left_over.Goals.{in-Some+in_ok-push, in_default}

@@ -2,8 +2,8 @@ use Rattle.std.proofs.Common.{◌≡◌, ◌∙◌, ◌+◌, [], List, Bool, tru
 use Rattle.std.specs.Prelude.{replicate}
 use Rattle.plain_model.specs.Lookups.{id_of, is_listed, op_blobs}
 use Rattle.plain_model.specs.declared.operation.FileOp.{FileOp}
+use Rattle.history_laws.proofs.Lists.{item_at}
 use Rattle.graph_walk.proofs.FlagLemmas.{refilled}
-use Rattle.graph_walk.proofs.PlaceLemmas.{item_at}
 use Rattle.squash_delete.specs.Flags.{FlagsAdd, FlagsNamed, event_blobs}
 use Rattle.squash_delete.proofs.NearPlaces.{named_over}
 use Rattle.squash_delete.proofs.SweepLemmas.{filtered_more, filtered_same, names_first}

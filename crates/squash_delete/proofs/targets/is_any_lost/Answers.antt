@@ -1,9 +1,8 @@
 use Rattle.std.proofs.Common.{◌∙◌, ◌+◌, add-one, arith, ap, refl, sym}
 use Rattle.std.specs.Prelude.{is_some}
-use Rattle.graph_walk.proofs.PlaceLemmas.{item_at}
-use Rattle.plan_limits.proofs.Counting.{any_item}
+use Rattle.history_laws.proofs.Lists.{item_at}
+use Rattle.plan_limits.proofs.Counting.{any_item, none_item as none_so_far}
 use Rattle.squash_delete.specs.Targets.{lost_target}
-use Rattle.squash_delete.proofs.NearLemmas.{none_so_far}
 use Rattle.squash_delete.proofs.NearPlaces.{NoneLostTo, lost_over}
 use Rattle.squash_delete.proofs.targets.is_any_lost.Goals as goal
 

@@ -1,5 +1,5 @@
 use Rattle.std.proofs.Common.{◌∙◌, sym}
-use Rattle.graph_walk.proofs.PlaceLemmas.{item_at}
+use Rattle.history_laws.proofs.Lists.{item_at}
 use Rattle.squash_delete.proofs.NearLemmas.{lost_is}
 use Rattle.squash_delete.proofs.NodeLemmas.{target_there}
 use Rattle.squash_delete.proofs.targets.moved_target.Goals as goal

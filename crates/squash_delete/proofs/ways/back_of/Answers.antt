@@ -1,6 +1,6 @@
 use Rattle.std.proofs.Common.{◌∙◌, length, ap}
 use Rattle.std.specs.Prelude.{option_and_then}
-use Rattle.event_arena.proofs.SoundLemmas.{sound-once}
+use Rattle.history_laws.proofs.SoundOnce.{sound-once}
 use Rattle.squash_laws.specs.Squash.{back_of}
 use Rattle.squash_delete.proofs.NodeLemmas.{earlier_there}
 use Rattle.squash_delete.proofs.WayLemmas.{is_early}

@@ -1,5 +1,5 @@
 use Rattle.std.proofs.Common.{add-one, take, arith}
-use Rattle.event_arena.proofs.SoundLemmas.{sound-once}
+use Rattle.history_laws.proofs.SoundOnce.{sound-once}
 use Rattle.event_arena.proofs.ListLemmas.{take-more}
 use Rattle.squash_delete.proofs.WayLemmas.{led_more}
 use Rattle.squash_delete.proofs.ways.lead.Goals as goal

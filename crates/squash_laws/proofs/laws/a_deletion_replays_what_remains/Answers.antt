@@ -4,5 +4,5 @@ use Rattle.squash_laws.proofs.laws.a_deletion_replays_what_remains.Goals as goal
 pub returns : goal.returns
 returns c = record {
   ops = deleted_ops;
-  trees = λ set events tags. deleted_fits set events tags c.the_check_finds_what_has_no_tree.ensures;
+  trees = λ set events tags. deleted_fits set events tags;
 }

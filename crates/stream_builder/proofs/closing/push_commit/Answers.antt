@@ -1,7 +1,7 @@
 use Rattle.std.proofs.Common.{◌+◌, List, [], length, sym, ap, subst, ◌∙◌}
 use Rattle.plain_model.specs.declared.event.PlainEvent.{PlainEvent}
 use Rattle.plain_model.specs.declared.operation.FileOp.{FileOp}
-use Rattle.stream_grammar.specs.Limits.{ops_in}
+use Rattle.history_laws.specs.Counts.{ops_in}
 use Rattle.stream_builder.specs.Agreement.{HasAtMost, IsOpened, TreesAgree, open_tree}
 use Rattle.stream_builder.proofs.Counting.{ops_more, same_node}
 use Rattle.stream_builder.proofs.closing.push_commit.Goals as goal

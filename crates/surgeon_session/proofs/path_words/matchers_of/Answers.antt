@@ -1,6 +1,6 @@
 use Rattle.std.proofs.Common.{Ok, Err, arith}
+use Rattle.byte_patterns.proofs.Judged.{passed_on}
 use Rattle.history_machine.specs.PathWords.{matches_of}
-use Rattle.surgeon_session.proofs.Judged.{passed_on}
 use Rattle.surgeon_session.proofs.PathWords.{all_judged, next_word, word_judged, word_refused}
 use Rattle.surgeon_session.proofs.path_words.matchers_of.Goals as goal
 

@@ -1,8 +1,8 @@
 use Rattle.std.proofs.Common.{◌∷◌, true, sym, subst}
 use Rattle.plain_model.specs.declared.operation.FileOp.{FileOp}
+use Rattle.graph_walk.proofs.TurnLemmas.{on_ok}
 use Rattle.coalesce_simplify.specs.Voiding.{Known, Knows}
 use Rattle.coalesce_simplify.proofs.Noting.{noted_anew, noted_deletion, noted_put}
-use Rattle.plan_steps.proofs.Steps.{on_ok}
 use Rattle.coalesce_simplify.proofs.voiding.Later.note.Goals as goal
 
 pub returns-in-Modify : goal.returns-in-Modify

@@ -1,7 +1,7 @@
 use Rattle.std.proofs.Common.{◌∙◌, Some, ap, rules}
 use Rattle.std.proofs.lemmas.List.Sorted.{answers_always}
 use Rattle.event_arena.proofs.MarkLemmas.{mark-found, searched}
-use Rattle.event_arena.proofs.SoundLemmas.{sound-once}
+use Rattle.history_laws.proofs.SoundOnce.{sound-once}
 use Rattle.event_arena.proofs.events.Events.by_mark.Goals as goal
 
 pub returns-in-Ok : goal.returns-in-Ok

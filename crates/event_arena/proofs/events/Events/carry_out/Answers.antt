@@ -1,7 +1,7 @@
 use Rattle.std.proofs.Common.{ap, arith}
 use Rattle.event_arena.specs.Graphs.{Graph}
 use Rattle.event_arena.proofs.MeasureLemmas.{parents-need}
-use Rattle.event_arena.proofs.SoundLemmas.{sound-once}
+use Rattle.history_laws.proofs.SoundOnce.{sound-once}
 use Rattle.event_arena.proofs.events.Events.carry_out.Goals as goal
 
 pub fill-requires-clause-once : goal.fill-requires-clause-once

@@ -1,7 +1,7 @@
 use Rattle.std.proofs.Common.{◌∙◌, sym}
 use Rattle.plain_model.specs.declared.id.AnyId.TheVariants.{Commit}
-use Rattle.event_arena.proofs.PlaceLemmas.{placeless}
-use Rattle.event_arena.proofs.SoundLemmas.{children-once, sound-once}
+use Rattle.history_laws.proofs.Ids.{placeless}
+use Rattle.history_laws.proofs.SoundOnce.{children-once, sound-once}
 use Rattle.event_arena.proofs.events.Events.children.Goals as goal
 
 pub returns-in-Some-clause-once : goal.returns-in-Some-clause-once

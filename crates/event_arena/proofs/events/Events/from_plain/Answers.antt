@@ -1,8 +1,9 @@
 use Rattle.std.proofs.Common.{◌∙◌, ap, length, sym, subst, arith}
 use Rattle.plain_model.specs.Soundness.{IsSound}
+use Rattle.history_laws.proofs.Ids.{below-next}
 use Rattle.event_arena.specs.Needs.{need}
-use Rattle.event_arena.proofs.MeasureLemmas.{below-next, parents-need}
-use Rattle.event_arena.proofs.SoundLemmas.{sound-once}
+use Rattle.event_arena.proofs.MeasureLemmas.{parents-need}
+use Rattle.history_laws.proofs.SoundOnce.{sound-once}
 use Rattle.event_arena.proofs.WeightLemmas.{need-weight}
 use Rattle.event_arena.proofs.events.Events.from_plain.Goals as goal
 

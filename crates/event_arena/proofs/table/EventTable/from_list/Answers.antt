@@ -3,7 +3,7 @@ use Rattle.std.proofs.lemmas.List.Sums.{sum_by_push}
 use Rattle.std.specs.Prelude.{IfOk}
 use Rattle.plain_model.specs.declared.event.PlainEvent.{PlainEvent}
 use Rattle.plain_model.specs.Lookups.{id_of}
-use Rattle.event_arena.specs.Once.{AreDistinct}
+use Rattle.history_laws.specs.Once.{AreDistinct}
 use Rattle.event_arena.specs.Rows.{events_of, in_rows}
 use Rattle.event_arena.specs.Weights.{event_weight, weight_of}
 use Rattle.event_arena.proofs.ListLemmas.{append-nil}

@@ -2,9 +2,9 @@ use Rattle.std.proofs.Common.{◌≡◌, ◌∙◌, take, ap, sym, true, add-one
 use Rattle.std.proofs.Math.ListN.{set}
 use Rattle.std.specs.Prelude.{map}
 use Rattle.plain_model.specs.Lookups.{id_of, is_listed}
+use Rattle.history_laws.proofs.Ids.{placeless}
 use Rattle.event_arena.proofs.ChangeLemmas.{listed-more, listed-skip, none-listed}
 use Rattle.event_arena.proofs.ListLemmas.{take-all, take-more}
-use Rattle.event_arena.proofs.PlaceLemmas.{placeless}
 use Rattle.event_arena.proofs.table.EventTable.listed.Goals as goal
 use Rattle.event_arena.proofs.table.EventTable.listed.Goals.{in-Some, in_default}
 

@@ -1,8 +1,9 @@
 use Rattle.std.proofs.Common.{◌∙◌, ap, sym, subst, arith}
 use Rattle.std.proofs.lemmas.Bool.{true≢false}
 use Rattle.plain_model.specs.Lookups.{same_id}
+use Rattle.history_laws.proofs.Ids.{place-within}
 use Rattle.event_arena.specs.Rows.{IsPlaced, noted}
-use Rattle.event_arena.proofs.PlaceLemmas.{place-within, placed-apart, placed-here}
+use Rattle.event_arena.proofs.PlaceLemmas.{placed-apart, placed-here}
 use Rattle.event_arena.proofs.RowLemmas.{names-at, names-get, names-length, rows-seen}
 use Rattle.event_arena.proofs.table.EventTable.place.Goals as goal
 

@@ -3,13 +3,14 @@ use Rattle.std.proofs.Math.ListN.{set}
 use Rattle.std.proofs.lemmas.Result.{MatchResult-from_err}
 use Rattle.std.specs.Prelude.{slice_get}
 use Rattle.plain_model.specs.Lookups.{place_of}
+use Rattle.history_laws.proofs.Ids.{found-place, place-within}
 use Rattle.event_arena.specs.Changes.{changed, with_field}
 use Rattle.event_arena.specs.Rows.{NameAll, in_rows}
 use Rattle.event_arena.specs.Spent.{AddsNone}
 use Rattle.event_arena.specs.Weights.{event_weight, weight_of}
 use Rattle.event_arena.proofs.ChangeLemmas.{id-with_field}
 use Rattle.event_arena.proofs.DistinctLemmas.{distinct-changed}
-use Rattle.event_arena.proofs.PlaceLemmas.{found-place, place-within, placed-changed, put-set}
+use Rattle.event_arena.proofs.PlaceLemmas.{placed-changed, put-set}
 use Rattle.event_arena.proofs.RowLemmas.{names-are, names-length, names-more, names-new, names-set, rows-more, table-of}
 use Rattle.event_arena.proofs.SpentLemmas.{adds-changed}
 use Rattle.event_arena.proofs.WeightLemmas.{bound-less, weight-part, weight-set}

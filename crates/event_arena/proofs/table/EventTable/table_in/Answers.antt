@@ -1,6 +1,7 @@
 use Rattle.std.proofs.Common.{◌≡◌, ◌∙◌, ◌≤◌, ◌++◌, take, ap, sym, subst, add-one, arith}
 use Rattle.std.proofs.lemmas.Slice.Zip.{all_zipped_more}
 use Rattle.std.specs.Prelude.{IfOk, IfSome, option_to_list}
+use Rattle.history_laws.proofs.Ids.{placeless}
 use Rattle.event_arena.specs.Changes.{in_order}
 use Rattle.event_arena.specs.Rows.{NameAll, Names, in_rows}
 use Rattle.event_arena.specs.Weights.{weight_of}
@@ -8,7 +9,7 @@ use Rattle.event_arena.proofs.ChangeLemmas.{order-more}
 use Rattle.event_arena.proofs.DistinctLemmas.{distinct-in_order}
 use Rattle.event_arena.proofs.ListLemmas.{append-nil, take-all}
 use Rattle.event_arena.proofs.OrderLemmas.{weight-in_order}
-use Rattle.event_arena.proofs.PlaceLemmas.{place-found, placeless}
+use Rattle.event_arena.proofs.PlaceLemmas.{place-found}
 use Rattle.event_arena.proofs.RowLemmas.{names-are, names-get, names-length, rows-of, rows-seen}
 use Rattle.event_arena.proofs.WeightLemmas.{bound-less}
 use Rattle.event_arena.proofs.table.EventTable.table_in.Goals as goal

@@ -2,12 +2,13 @@ use Rattle.std.proofs.Common.{◌≡◌, ◌∙◌, ◌∷◌, ◌++◌, ◌+◌
 use Rattle.std.specs.List.{insert}
 use Rattle.std.specs.Prelude.{IfOk, IfSome, List}
 use Rattle.plain_model.specs.declared.event.PlainEvent.{PlainEvent}
+use Rattle.history_laws.proofs.Ids.{found-place, place-at, place-within}
 use Rattle.event_arena.specs.Changes.{put_after}
 use Rattle.event_arena.specs.Rows.{NameAll}
 use Rattle.event_arena.specs.Weights.{event_weight, weight_of}
 use Rattle.event_arena.proofs.DistinctLemmas.{distinct-put_after}
 use Rattle.event_arena.proofs.OrderLemmas.{weight-put_after}
-use Rattle.event_arena.proofs.PlaceLemmas.{found-place, place-at, place-within, put-insert}
+use Rattle.event_arena.proofs.PlaceLemmas.{put-insert}
 use Rattle.event_arena.proofs.RowLemmas.{names-are, names-insert, names-length, names-more, names-new, rows-copied, rows-of}
 use Rattle.event_arena.proofs.WeightLemmas.{bound-less}
 use Rattle.event_arena.proofs.table.EventTable.table_with.Goals as goal

@@ -3,10 +3,9 @@ use Rattle.std.proofs.lemmas.Bool.{or_left}
 use Rattle.std.proofs.lemmas.Option.{same_Some}
 use Rattle.plain_model.specs.declared.id.AnyId.{AnyId}
 use Rattle.plain_model.specs.Lookups.{id_of, is_listed, same_id}
-use Rattle.history_laws.proofs.Ids.{same_id-refl}
+use Rattle.history_laws.proofs.Ids.{place-within, same_id-refl}
 use Rattle.event_arena.specs.Pointers.{HasNotedResets, HasNotedTags}
 use Rattle.event_arena.specs.Rows.{IsPlaced}
-use Rattle.event_arena.proofs.PlaceLemmas.{place-within}
 use Rattle.event_arena.proofs.PointerLemmas.{all-pointers}
 use Rattle.event_arena.proofs.table.EventTable.tags_and_resets.Goals as goal
 use Rattle.event_arena.proofs.table.EventTable.tags_and_resets.Goals.{then-count-gt0+in_ok-push, else-count-gt0}

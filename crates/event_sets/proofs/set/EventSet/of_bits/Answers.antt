@@ -1,5 +1,5 @@
 use Rattle.std.proofs.Common.{◌∙◌, ap}
-use Rattle.event_arena.proofs.SoundLemmas.{sound-once}
+use Rattle.history_laws.proofs.SoundOnce.{sound-once}
 use Rattle.event_sets.specs.Bits.{picks}
 use Rattle.event_sets.proofs.BitLemmas.{picks-live, picks-passing, picks-tied}
 use Rattle.event_sets.proofs.set.EventSet.of_bits.Goals as goal

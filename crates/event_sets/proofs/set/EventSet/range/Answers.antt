@@ -1,6 +1,6 @@
 use Rattle.std.proofs.Common.{◌∙◌, ◌++◌, ◌∷◌, ◌+◌, [], add-one, nat_le, sym, arith}
 use Rattle.std.specs.Prelude.{◌&&◌}
-use Rattle.event_arena.proofs.SoundLemmas.{sound-once}
+use Rattle.history_laws.proofs.SoundOnce.{sound-once}
 use Rattle.event_sets.proofs.SetLemmas.{range-more}
 use Rattle.event_sets.proofs.set.EventSet.range.Goals as goal
 

@@ -1,14 +1,14 @@
 use Rattle.std.proofs.Common.{◌≡◌, ◌∙◌, ◌<◌, ◌∷◌, ◌++◌, [], List, ap, length, arith, add-one, false}
 use Rattle.std.proofs.lemmas.List.{get_or_read}
-use Rattle.event_arena.proofs.SoundLemmas.{sound-once}
+use Rattle.history_laws.proofs.SoundOnce.{sound-once}
 use Rattle.std.specs.Prelude.{slice_get}
 use Rattle.graph_walk.specs.Flags.{FlagsOf}
 use Rattle.graph_walk.specs.Joined.{next_entry}
 use Rattle.plain_model.specs.Lookups.{id_of, is_listed}
 use Rattle.plain_model.specs.declared.id.AnyId.{AnyId}
 use Rattle.std.proofs.Common.{subst}
+use Rattle.history_laws.proofs.Lists.{item_at}
 use Rattle.graph_walk.proofs.ExpandingLemmas.{expanded_all, expanded_more}
-use Rattle.graph_walk.proofs.PlaceLemmas.{item_at}
 use Rattle.graph_walk.proofs.expansion.Expansions.of.Goals as goal
 
 pub loop-place-preserved : goal.loop-place-preserved

@@ -2,9 +2,9 @@ use Rattle.std.proofs.Common.{◌≡◌, ◌∙◌, ◌<◌, ◌∷◌, true, fa
 use Rattle.std.proofs.lemmas.List.{get_or_read}
 use Rattle.plain_model.specs.declared.event.PlainEvent.{PlainEvent}
 use Rattle.plain_model.specs.Lookups.{id_of, is_listed}
+use Rattle.history_laws.proofs.Lists.{item_at}
 use Rattle.edit_laws.specs.Settling.{first_commit_mark}
 use Rattle.graph_walk.proofs.TurnLemmas.{first_found, first_other, first_taken, not_a_commit, taken_at}
-use Rattle.graph_walk.proofs.PlaceLemmas.{item_at}
 use Rattle.graph_walk.proofs.settling.Progress.first_left.Goals as goal
 use Rattle.graph_walk.proofs.settling.Progress.first_left.Goals.{then-not-index+in_default, else-not-index}
 

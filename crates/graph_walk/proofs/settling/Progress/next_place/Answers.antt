@@ -1,5 +1,5 @@
 use Rattle.std.proofs.Common.{◌∙◌, subst, sym}
-use Rattle.event_arena.specs.Once.{AreDistinct}
+use Rattle.history_laws.specs.Once.{AreDistinct}
 use Rattle.graph_walk.proofs.TurnLemmas.{comes_next, none_found, some_found}
 use Rattle.graph_walk.proofs.settling.Progress.next_place.Goals as goal
 

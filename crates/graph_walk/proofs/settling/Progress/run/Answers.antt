@@ -1,7 +1,7 @@
 use Rattle.std.proofs.Common.{◌∙◌, List, length, refl, subst, sym}
 use Rattle.plain_model.specs.declared.id.AnyId.{AnyId}
 use Rattle.event_arena.specs.Changes.{without_all}
-use Rattle.event_arena.specs.Once.{AreDistinct}
+use Rattle.history_laws.specs.Once.{AreDistinct}
 use Rattle.graph_walk.specs.Outcome.{GoesOn}
 use Rattle.graph_walk.specs.UnderWay.{IsTakenNext}
 use Rattle.graph_walk.proofs.OutcomeLemmas.{goes_first}

@@ -1,5 +1,5 @@
 use Rattle.std.proofs.Common.{sym, subst}
-use Rattle.event_arena.specs.Once.{AreDistinct}
+use Rattle.history_laws.specs.Once.{AreDistinct}
 use Rattle.manifest_cache.specs.Listed.{events_of}
 use Rattle.manifest_cache.specs.declared.listed.Listed.{Listed}
 use Rattle.manifest_cache.proofs.Sound.{distinct}

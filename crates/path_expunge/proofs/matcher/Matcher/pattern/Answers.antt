@@ -1,8 +1,8 @@
 use Rattle.std.proofs.Common.{Ok}
 use Rattle.byte_patterns.specs.Judging.{pattern_of, plainly}
+use Rattle.byte_patterns.proofs.Judged.{stopped}
 use Rattle.expunge_laws.specs.Matching.{Matches}
 use Rattle.expunge_laws.specs.Matching.Matches.{found}
-use Rattle.path_expunge.proofs.Judged.{stopped}
 use Rattle.path_expunge.proofs.matcher.Matcher.pattern.Goals as goal
 
 pub returns-in-Err-clause-judged : goal.returns-in-Err-clause-judged

@@ -6,7 +6,7 @@ use Rattle.path_tree.specs.declared.folder.Child.{Child}
 use Rattle.path_tree.specs.declared.folder.Node.{Node}
 use Rattle.path_tree.specs.Folders.{prefixed, flat, member_tree, total, AllFit}
 use Rattle.path_tree.specs.Inside.{rows_of, member_of}
-use Rattle.path_tree.specs.Sound.{AllPaths}
+use Rattle.history_laws.specs.SoundTrees.{AllPaths}
 use Rattle.path_tree.proofs.Listing.{left_is, so_far_is, first_paths, second_paths, file_path, smaller, less_left}
 use Rattle.path_tree.proofs.folder.Folder.+list.Goals as goal
 use Rattle.path_tree.proofs.folder.Folder.+list.Goals.{in-File+in_ok-path_of-in-File+in_ok-push-in-File, in-Subfolder+in_ok-list-in-Subfolder}

@@ -1,7 +1,7 @@
 use Rattle.std.proofs.Common.{◌≡◌, ◌≤◌, ◌++◌, take, drop}
 use Rattle.path_tree.specs.Folders.{prefixed, flat, total, AllFit}
 use Rattle.path_tree.specs.Inside.{rows_of}
-use Rattle.path_tree.specs.Sound.{AllPaths}
+use Rattle.history_laws.specs.SoundTrees.{AllPaths}
 use Rattle.path_tree.proofs.folder.Folder.+list.Given as goal
 
 abbrev pub decreases-list : goal.decreases-list

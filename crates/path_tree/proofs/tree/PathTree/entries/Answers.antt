@@ -1,7 +1,7 @@
 use Rattle.std.proofs.Common.{◌++◌, [], sym, ap, subst, ◌∙◌}
 use Rattle.plain_model.specs.Trees.{Tree}
 use Rattle.path_tree.specs.Folders.{prefixed}
-use Rattle.path_tree.specs.Sound.{AllPaths}
+use Rattle.history_laws.specs.SoundTrees.{AllPaths}
 use Rattle.path_tree.proofs.PathEnds.{prefixed_nothing}
 use Rattle.path_tree.proofs.tree.PathTree.entries.Goals as goal
 

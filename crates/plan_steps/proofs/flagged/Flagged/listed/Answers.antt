@@ -1,6 +1,6 @@
 use Rattle.std.proofs.Common.{◌∙◌, ◌++◌, ◌<◌, List, ℕ, length, take, add-one, append-nil, arith, sym, ap}
+use Rattle.history_laws.proofs.Lists.{item_at}
 use Rattle.commit_laws.specs.Selected.{listed}
-use Rattle.graph_walk.proofs.PlaceLemmas.{item_at}
 use Rattle.plan_steps.proofs.Along.{listed_more}
 use Rattle.plan_steps.proofs.flagged.Flagged.listed.Goals as goal
 use Rattle.plan_steps.proofs.flagged.Flagged.listed.Goals.{in-Some+in_ok-push, in_default}

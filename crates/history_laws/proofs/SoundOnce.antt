@@ -13,11 +13,10 @@ use Rattle.plain_model.specs.declared.event.PlainEvent.TheVariants as plain
 use Rattle.plain_model.specs.Lookups.{children_of, event_marks, event_parents, find_event, id_of, marks_of, own_child, own_marks, same_id}
 use Rattle.plain_model.specs.Soundness.{AreSoundAfter, IsCommitOf, IsSound, IsSoundEvent, are_distinct, has_id}
 use Rattle.plain_model.specs.Streams.{is_among, is_marked}
-use Rattle.history_laws.proofs.Ids.{has_id-cons, has_id-append, event_new, same_id-refl, same_id-true, is_marked-append}
+use Rattle.history_laws.proofs.Ids.{has_id-cons, has_id-append, event_new, same_id-refl, same_id-true, is_marked-append, absent-cons, cons-absent}
 use Rattle.plain_model.proofs.Numbers.{eqb_turned}
 use Rattle.std.proofs.Math.Bool.{or-false, or-true}
-use Rattle.event_arena.specs.Once.{AreDistinct, AreMarkedOnce, AreParentsOnce, OccursOnce}
-use Rattle.event_arena.proofs.SpentLemmas.{absent-cons, cons-absent}
+use Rattle.history_laws.specs.Once.{AreDistinct, AreMarkedOnce, AreParentsOnce, OccursOnce}
 
 self : (n : ℕ) → eqb n n ≡ true
 self n = grind (arith, nat_tests)

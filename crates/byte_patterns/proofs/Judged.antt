@@ -1,14 +1,14 @@
 -- Steps one after another, of which each may build patterns.
-use Rattle.std.proofs.Common.{◌≡◌, ℕ, zero, suc, ◌+◌, ◌≤◌, Bool, true, false, List, [], ◌∷◌, ◌++◌, length, Option, Some, None, Result, Ok, Err, refl, sym, ◌∙◌, subst, ap, arith}
-use Rattle.std.specs.Prelude.{slice_get, min}
+use Rattle.std.proofs.Common.{◌≡◌, ℕ, zero, suc, ◌+◌, ◌≤◌, Bool, true, false, List, [], ◌∷◌, ◌++◌, length, Option, Some, None, Result, Ok, Err, refl, sym, ◌∙◌, subst, ap, arith, append_assoc}
+use Rattle.std.specs.Prelude.{slice_get}
+use Rattle.std.specs.Result.{IsErrAnd}
 use Rattle.plain_model.specs.Counts.{Rose}
-use Rattle.plain_model.specs.Faults.{Returns}
 use Rattle.plain_model.specs.Paths.{Bytes}
 use Rattle.plain_model.specs.declared.fault.Fault.{Fault}
 use Rattle.plain_model.specs.declared.fault.Fault.TheVariants as fault
 use Rattle.plain_model.specs.declared.fault.Halt.{Halt}
 use Rattle.plain_model.specs.declared.fault.Halt.TheVariants as halt
-use Rattle.byte_patterns.specs.Judging.{Counted, Denial, Judged, Judges, Reason, ◌>>>◌, is_sized, its_nesting, its_size, next_of, plainly, under, unless_deep, with_built, without}
+use Rattle.byte_patterns.specs.Judging.{Denial, Judged, Judges, Reason, ◌>>>◌, is_sized, its_nesting, its_size, next_of, under, unless_deep, with_built, without}
 use Rattle.byte_patterns.specs.Searching.{is_too_deep}
 
 -- ---- places among texts
@@ -101,14 +101,25 @@ pub went_on : {A Y B : Type 0} (other : Y → B) (a b c : ℕ) (r : Result Y Hal
     (next : A → Judged B) → j.value ≡ Ok x → a ≤ b → Judges other b c r (next x) → Judges other a c r (j >>> next)
 went_on other a b c r j x next is le h = rw is (later other a b c r j.built (next x) le h)
 
--- a value that something is made of
-pub made : {A B : Type 0} (f : A → B) (j : Judged A) (x : A) (y : B) → j.value ≡ Ok x → y ≡ f x
-    → (j >>> λ v. plainly (Ok (f v))).value ≡ Ok y
-made f j x y is e = rw (is, e) refl
+-- ---- what comes first, and what comes then
 
--- what builds no pattern
-pub plain_judged : {X B : Type 0} (view : X → B) (before : ℕ) (r : Result X Halt) (value : Result B Fault)
-    → Returns view r value → Judges view before before r (plainly value)
-plain_judged view before (Ok x) value h = h
-plain_judged view before (Err halt.Memory) value h = tt
-plain_judged view before (Err (halt.Refused out)) value h = (None, λ sized. absurd cc, h)
+abbrev pub as_judged : {A : Type 0} → List Bytes → Result A Fault → Judged A
+as_judged built value = record { built = built; value = value }
+
+-- what is done with what comes of two steps is done after the second
+pub one_by_one : {A B C : Type 0} (j : Judged A) (f : A → Judged B) (g : B → Judged C) → ((j >>> f) >>> g) ≡ (j >>> λ x. f x >>> g)
+one_by_one {A} {B} {C} j f g = first j.value
+  where
+    second : (next : Judged B) (r : Result B Fault) → next_of (j.built ++ next.built) r g ≡ with_built j.built (next_of next.built r g)
+    second next (Err why) = refl
+    second next (Ok y) = ap (λ (built : List Bytes). as_judged built (g y).value) (append_assoc j.built next.built (g y).built)
+
+    first : (r : Result A Fault) → (next_of j.built r f >>> g) ≡ next_of j.built r (λ x. f x >>> g)
+    first (Ok x) = second (f x) (f x).value
+    first (Err why) = refl
+
+-- a refusal that is passed on
+pub passed_on : {Y B : Type 0} (view : Y → B) (before now : ℕ) (ended : Halt) (r : Result Y Halt) (j : Judged B) → IsErrAnd r (λ e. e ≡ ended)
+    → Judges view before now (Err ended) j → Judges view before now r j
+passed_on view before now ended (Ok y) j is h = absurd is
+passed_on view before now ended (Err e) j is h = subst (λ (x : Halt). Judges view before now (Err x) j) (sym is) h

@@ -115,6 +115,10 @@ module _ (old new : List PlainEvent) where
           ∙ ap (λ x. x || has_id (filter kept es) (any.Blob b)) other
       other_one other false is = ap (λ t. has_id (cond t (e ∷ filter kept es) (filter kept es)) (any.Blob b)) is
 
+  -- a blob goes that was named, and is named no more
+  pub swept_blob : (b : ℕ) → has_id (swept old new) (any.Blob b) ≡ has_id new (any.Blob b) && not (is_named old b && not (is_named (swept old new) b))
+  swept_blob b = blobs_left new b ∙ ap (λ x. has_id new (any.Blob b) && not (is_named old b && not x)) (sym (swept_named b))
+
   -- the blobs that are there after sweeping and settling
   pub blobs_after : (end : List PlainEvent) → settle (swept old new) ≡ Ok end → (b : ℕ) → has_id end (any.Blob b) ≡ has_id new (any.Blob b) && not (is_named old b && not (is_named end b))
   blobs_after end is b =
