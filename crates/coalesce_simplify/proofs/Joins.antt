@@ -16,7 +16,7 @@ use Rattle.history_laws.specs.Once.{AreDistinct}
 use Rattle.history_laws.proofs.SoundOnce.{has_id-find, sound-once}
 use Rattle.manifest_cache.specs.Walks.{commit_id}
 use Rattle.squash_laws.specs.Removed.{is_removed}
-use Rattle.squash_delete.proofs.SweepLemmas.{listed_filter}
+use Rattle.plan_steps.proofs.SweepLemmas.{listed_filter}
 use Rattle.coalesce_laws.specs.Coalesce.{are_near, is_joined_to, joined_ones}
 use Rattle.coalesce_laws.proofs.Deciding.{decided}
 use Rattle.coalesce_laws.proofs.Joined.{joined}

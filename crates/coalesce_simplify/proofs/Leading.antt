@@ -15,8 +15,8 @@ use Rattle.graph_walk.proofs.PlaceLemmas.{place_found, place_within}
 use Rattle.manifest_cache.specs.Walks.{commit_id}
 use Rattle.squash_laws.specs.Removed.{is_removed}
 use Rattle.squash_laws.specs.Squash.{back_of, forward_of}
-use Rattle.squash_delete.proofs.NodeLemmas.{found_at}
-use Rattle.squash_delete.proofs.WayLemmas.{commit_own, first_known, is_early, own_commit}
+use Rattle.plan_steps.proofs.NodeLemmas.{found_at}
+use Rattle.plan_steps.proofs.WayLemmas.{commit_own, first_known, is_early, own_commit}
 use Rattle.coalesce_laws.proofs.Joined.{IsJoined, joined}
 use Rattle.coalesce_simplify.specs.Joining.{AreEndsFrom, AreJoined, end_of, joins}
 

@@ -24,8 +24,8 @@ use Rattle.graph_walk.proofs.TurnLemmas.{all_at}
 use Rattle.manifest_cache.specs.Walks.{commit_id}
 use Rattle.squash_laws.specs.Removed.{Takings, all_left, is_removed, left_of, parents_after}
 use Rattle.squash_laws.specs.Squash.{links}
-use Rattle.squash_delete.specs.Leaving.{event_after, goes}
-use Rattle.squash_delete.proofs.LeavingLemmas.{after_id, left_one}
+use Rattle.plan_steps.specs.Leaving.{event_after, goes}
+use Rattle.plan_steps.proofs.LeavingLemmas.{after_id, left_one}
 use Rattle.coalesce_laws.specs.Remaining.{parents_of_oldest}
 use Rattle.coalesce_laws.proofs.Coalesced.{single_nodes}
 use Rattle.coalesce_laws.proofs.Single.{AreSingle, none_anew, of_oldest}

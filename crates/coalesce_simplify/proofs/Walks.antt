@@ -22,10 +22,10 @@ use Rattle.graph_walk.proofs.PlaceLemmas.{place_found}
 use Rattle.manifest_cache.specs.Walks.{event_ops, ops_at}
 use Rattle.squash_laws.specs.Removed.{is_removed}
 use Rattle.squash_laws.specs.Squash.{links}
-use Rattle.squash_delete.specs.Chains.{depth, parents_at}
-use Rattle.squash_delete.proofs.ChainLemmas.{depth_at, depth_before, links_nil}
-use Rattle.squash_delete.proofs.NodeLemmas.{found_at, found_node, node_of}
-use Rattle.squash_delete.proofs.WayLemmas.{first_known}
+use Rattle.plan_steps.specs.Depths.{depth, parents_at}
+use Rattle.plan_steps.proofs.Depths.{depth_at, depth_before, links_nil}
+use Rattle.plan_steps.proofs.NodeLemmas.{found_at, found_node, node_of}
+use Rattle.plan_steps.proofs.WayLemmas.{first_known}
 use Rattle.coalesce_laws.specs.Remaining.{parents_of_oldest}
 use Rattle.coalesce_simplify.specs.Joining.{commit_node, first_joined}
 

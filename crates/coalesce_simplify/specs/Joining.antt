@@ -12,8 +12,8 @@ use Rattle.manifest_cache.specs.Walks.{commit_id, ops_at}
 use Rattle.squash_laws.specs.Removed.{Takings, is_removed, parents_after}
 use Rattle.squash_laws.specs.Squash.{forward_of}
 use Rattle.squash_laws.specs.declared.policy.Lean.TheVariants as lean
-use Rattle.squash_delete.specs.Chains.{parents_at}
-use Rattle.squash_delete.specs.Leaving.{event_after}
+use Rattle.plan_steps.specs.Depths.{parents_at}
+use Rattle.plan_steps.specs.Leaving.{event_after}
 use Rattle.coalesce_laws.specs.Coalesce.{are_near, joined_ones}
 use Rattle.expunge_laws.specs.PushForward.{forward_takes}
 

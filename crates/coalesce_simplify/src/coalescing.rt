@@ -40,8 +40,7 @@ use crate::joining::joined_ones;
 use coalesce_laws::{a_coalescing_keeps_soundness, nothing_changes_where_none_is_joined};
 use event_arena::{Events, Plan};
 use plain_model::{AnyId, CommitId, FileOp, IdList, NoMemory, OpList, ParentList, PlainEvent};
-use plan_steps::{Flagged, parents_of, put_in_order};
-use squash_delete::sweep;
+use plan_steps::{Flagged, parents_of, put_in_order, sweep};
 use std::alloc::Global;
 
 // Gives a commit of the plan other parents and other operations.

@@ -11,9 +11,8 @@ use crate::voiding::simpler;
 use event_arena::{Events, Plan};
 use manifest_cache::Manifests;
 use plain_model::{AnyId, Halt, NoMemory, PlainEvent};
-use plan_steps::Flagged;
+use plan_steps::{Flagged, sweep};
 use simplify_laws::simplifying_keeps_soundness;
-use squash_delete::sweep;
 use std::alloc::Global;
 
 // Takes the void operations of an event of the plan away, if it is a commit.

@@ -1,6 +1,6 @@
 -- What becomes of an event, by what it is, and what is left when each event has become that.
-use Rattle.std.proofs.Common.{◌≡◌, ◌∙◌, ℕ, zero, suc, ◌<◌, Bool, true, false, cond, not, List, [], ◌∷◌, ◌++◌, Option, Some, None, refl, sym, ap, subst, length, take, drop, map, filter, get_or, arith}
-use Rattle.std.specs.Prelude.{slice_get}
+use Rattle.std.proofs.Common.{◌≡◌, ◌∙◌, ℕ, zero, suc, ◌<◌, Bool, true, false, cond, not, List, [], ◌∷◌, ◌++◌, Option, Some, None, refl, sym, ap, subst, length, take, drop, map, filter, get_or, arith, eqb-true}
+use Rattle.std.specs.Prelude.{◌==◌, ◌||◌, is_some, slice_get, unwrap_or}
 use Rattle.std.specs.List.{AllByRecursion}
 use Rattle.std.proofs.lemmas.List.{take-append-drop}
 use Rattle.std.proofs.lemmas.Option.{none-some, same_Some}
@@ -23,11 +23,14 @@ use Rattle.edit_laws.proofs.Sound.{in_parts}
 use Rattle.expunge_laws.specs.InLine.{IsInLine, ops_in_line, parents_in_line}
 use Rattle.expunge_laws.proofs.Emptied.{listed_each}
 use Rattle.squash_laws.specs.Removed.{all_left, is_removed, parents_after}
-use Rattle.squash_delete.specs.Leaving.{event_after, goes, staying}
-use Rattle.squash_delete.proofs.LeavingLemmas.{after_id, left_staying}
+use Rattle.plan_steps.specs.Leaving.{event_after, goes, staying}
+use Rattle.squash_laws.specs.declared.policy.Lean.TheVariants as lean
+use Rattle.plan_steps.specs.Targets.{lost_target, moving, target_for}
+use Rattle.plan_steps.proofs.NearLemmas.{kept_on, lost_is}
+use Rattle.plan_steps.proofs.LeavingLemmas.{after_id, left_staying}
 use Rattle.path_expunge.specs.declared.fates.Fate.{Fate}
 use Rattle.path_expunge.specs.declared.fates.Fate.TheVariants.{Same, Linked, Anew, Moved}
-use Rattle.path_expunge.specs.Fates.{IsCommitFate, all_given_way, begins_anew, begun_anew, fated, given_way, taken}
+use Rattle.path_expunge.specs.Fates.{IsCommitFate, all_given_way, begins_anew, begun_anew, fated, given_way, taken, target_fate}
 
 -- ---- ids stay
 
@@ -57,6 +60,30 @@ given_id Same e = refl
 given_id (Linked ps) e = parents_id ps e
 given_id (Anew ps) e = anew_id (with_parents ps e) ∙ parents_id ps e
 given_id (Moved t) e = target_id t e
+
+-- ---- where a tag or a reset goes
+
+-- one on a removed commit
+pub goes_on : (set : List AnyId) (goes_to : ℕ → Option ℕ) (e : PlainEvent) (c : ℕ) → lost_target set e ≡ Some c → target_for goes_to e ≡ goes_to c
+goes_on set goes_to e c lost = on e (lost_is set c e lost).0
+  where
+    on : (e : PlainEvent) → target_for Some e ≡ Some c → target_for goes_to e ≡ goes_to c
+    on (Tag id name target tagger comment mark) is = ap goes_to (same_Some target c is)
+    on (Reset id branch (Some target)) is = ap goes_to (same_Some target c is)
+    on (Reset id branch None) is = absurd (none-some c is)
+    on (Blob id mark bytes) is = absurd (none-some c is)
+    on (Commit id mark branch author committer encoding comment parents ops aliases) is = absurd (none-some c is)
+    on (Pass id line) is = absurd (none-some c is)
+
+-- and any other, where those on commits that stay stay
+pub stays_on : (set : List AnyId) (goes_to : ℕ → Option ℕ) → ((c : ℕ) → is_removed set c ≡ false → goes_to c ≡ Some c) → (e : PlainEvent) → lost_target set e ≡ None →
+    target_for goes_to e ≡ target_for Some e
+stays_on set goes_to stays (Tag id name target tagger comment mark) none = stays target (kept_on set target (Tag id name target tagger comment mark) none refl)
+stays_on set goes_to stays (Reset id branch (Some target)) none = stays target (kept_on set target (Reset id branch (Some target)) none refl)
+stays_on set goes_to stays (Reset id branch None) none = refl
+stays_on set goes_to stays (Blob id mark bytes) none = refl
+stays_on set goes_to stays (Commit id mark branch author committer encoding comment parents ops aliases) none = refl
+stays_on set goes_to stays (Pass id line) none = refl
 
 -- ---- one after another
 
@@ -212,3 +239,42 @@ not_moved t (Blob id mark bytes) no_tag no_reset = refl
 not_moved t (Tag id name target tagger comment mark) no_tag no_reset = absurd (no_tag id name target tagger comment mark refl)
 not_moved t (Reset id branch target) no_tag no_reset = absurd (no_reset id branch target refl)
 not_moved t (Pass id line) no_tag no_reset = refl
+
+-- a tag or a reset that isn't one of the set, and what is no commit, is what becomes of it
+module _ (set : List AnyId) (events : List PlainEvent) where
+  abbrev goes_to : ℕ → Option ℕ
+  goes_to = moving set events lean.Forward
+
+  pub target_fated : (e : PlainEvent) → is_listed (id_of e) set ≡ false
+      → ((id mark : ℕ) (branch : Bytes) (author committer : Signed) (encoding : Option Bytes) (comment : Bytes) (parents : List ℕ) (ops : List FileOp) (aliases : List ℕ)
+      → e ≡ Commit id mark branch author committer encoding comment parents ops aliases → ⊥)
+      → given_way (target_fate (target_for Some e) (target_for goes_to e)) e ≡ fated set events e
+  target_fated (Tag id name target tagger comment mark) out apart =
+      step (goes_to target)
+      ∙ ap (λ b. cond (b || not (is_some (goes_to target))) (Tag id name target tagger comment mark) (Tag id name (unwrap_or (goes_to target) target) tagger comment mark)) (sym out)
+    where
+      step : (o : Option ℕ) → given_way (target_fate (Some target) o) (Tag id name target tagger comment mark)
+          ≡ cond (not (is_some o)) (Tag id name target tagger comment mark) (Tag id name (unwrap_or o target) tagger comment mark)
+      step None = refl
+      step (Some d) = both (target == d) refl
+        where
+          both : (b : Bool) → target == d ≡ b → given_way (cond b Same (Moved d)) (Tag id name target tagger comment mark) ≡ Tag id name d tagger comment mark
+          both true is = ap (λ t. Tag id name t tagger comment mark) (eqb-true target d is)
+          both false is = refl
+  target_fated (Reset id branch (Some target)) out apart =
+      step (goes_to target)
+      ∙ ap (λ b. cond (b || not (is_some (goes_to target))) (Reset id branch (Some target)) (Reset id branch (Some (unwrap_or (goes_to target) target)))) (sym out)
+    where
+      step : (o : Option ℕ) → given_way (target_fate (Some target) o) (Reset id branch (Some target))
+          ≡ cond (not (is_some o)) (Reset id branch (Some target)) (Reset id branch (Some (unwrap_or o target)))
+      step None = refl
+      step (Some d) = both (target == d) refl
+        where
+          both : (b : Bool) → target == d ≡ b → given_way (cond b Same (Moved d)) (Reset id branch (Some target)) ≡ Reset id branch (Some d)
+          both true is = ap (λ t. Reset id branch (Some t)) (eqb-true target d is)
+          both false is = refl
+  target_fated (Reset id branch None) out apart = ap (λ b. cond b (Reset id branch None) (Reset id branch None)) (sym out)
+  target_fated (Blob id mark bytes) out apart = refl
+  target_fated (Commit id mark branch author committer encoding comment parents ops aliases) out apart =
+      absurd (apart id mark branch author committer encoding comment parents ops aliases refl)
+  target_fated (Pass id line) out apart = ap (λ b. cond b (Pass id line) (Pass id line)) (sym out)

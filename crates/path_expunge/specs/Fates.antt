@@ -7,7 +7,7 @@ use Rattle.plain_model.specs.declared.event.PlainEvent.TheVariants.{Blob, Commit
 use Rattle.event_arena.specs.Changes.{with_parents, with_target}
 use Rattle.expunge_laws.specs.InLine.{is_cut_off, parents_in_line}
 use Rattle.expunge_laws.specs.PushForward.{forward_takes}
-use Rattle.squash_delete.specs.Leaving.{event_after, goes}
+use Rattle.plan_steps.specs.Leaving.{event_after, goes}
 use Rattle.squash_laws.specs.Removed.{Takings, parents_after}
 use Rattle.squash_laws.specs.Squash.{is_none}
 use Rattle.squash_laws.specs.declared.policy.Lean.TheVariants as lean

@@ -1,4 +1,3 @@
-pub mod Emptying
 pub mod Fates
 pub mod Forms
 pub mod Tests

@@ -18,9 +18,7 @@ use expunge_laws::{
 };
 use manifest_cache::Manifests;
 use plain_model::{AnyId, Halt, NoMemory};
-use plan_limits::limit_passed;
-use plan_steps::put_in_order;
-use squash_delete::sweep;
+use plan_steps::{limit_passed, put_in_order, sweep};
 use std::alloc::Global;
 
 // Whether there is no event in a set.

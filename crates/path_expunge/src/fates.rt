@@ -14,16 +14,14 @@ ghost use Rattle.path_expunge.specs.Fates.{FateIs, IsCommitFate, begins_anew, ta
 ghost use Rattle.plain_model.specs.Histories.{nodes};
 ghost use Rattle.plain_model.specs.Lookups.{find_event};
 ghost use Rattle.plain_model.specs.declared.id.AnyId.TheVariants.{Commit};
-ghost use Rattle.squash_delete.specs.Tables.{IsTable};
-ghost use Rattle.squash_delete.specs.Targets.{AreTargets, moving};
-ghost use Rattle.squash_delete.specs.Ways.{AreBack};
+ghost use Rattle.plan_steps.specs.Tables.{IsTable};
+ghost use Rattle.plan_steps.specs.Targets.{AreMoves, moving, target_for};
+ghost use Rattle.plan_steps.specs.Ways.{AreBack};
 ghost use Rattle.squash_laws.specs.Squash.{back_of};
 ghost use Rattle.squash_laws.specs.declared.policy.Lean.TheVariants as lean;
 
-use crate::removal::Removal;
-use crate::targets::target_of;
-use crate::ways::way_at;
 use plain_model::{CommitId, NoMemory, ParentList, PlainEvent};
+use plan_steps::{Selected, lost_at, target_at, target_of, way_at};
 use std::alloc::Global;
 
 /// What becomes of an event: nothing, other parents, other parents and a beginning without files, or another target.
@@ -36,7 +34,7 @@ pub enum Fate {
 }
 
 // The commit in the place of another one, if there is one.
-fn back_of(removal: &Removal, back: &[Option<CommitId>], commit: CommitId) -> Option<CommitId>
+fn back_of(removal: &Selected, back: &[Option<CommitId>], commit: CommitId) -> Option<CommitId>
     requires back { AreBack removal.now.set removal.now.events back.now }
     requires there { IsSome (find_event (Commit commit) removal.now.events) }
     ensures { result ≡ back_of removal.now.set removal.now.events commit }
@@ -48,7 +46,7 @@ fn back_of(removal: &Removal, back: &[Option<CommitId>], commit: CommitId) -> Op
 // The parents in the place of these, each once.
 fn parents_in_line(
     alloc: Global,
-    removal: &Removal,
+    removal: &Selected,
     back: &[Option<CommitId>],
     parents: &[CommitId],
 ) -> Result<ParentList, NoMemory>
@@ -70,7 +68,7 @@ fn parents_in_line(
 }
 
 // Whether nothing is in the place of the first of these parents.
-fn is_cut_off(removal: &Removal, back: &[Option<CommitId>], parents: &[CommitId]) -> bool
+fn is_cut_off(removal: &Selected, back: &[Option<CommitId>], parents: &[CommitId]) -> bool
     requires back { AreBack removal.now.set removal.now.events back.now }
     requires there { AllByRecursion
         (λ p. IsSome (find_event (Commit p) removal.now.events)) parents.now }
@@ -84,7 +82,7 @@ fn is_cut_off(removal: &Removal, back: &[Option<CommitId>], parents: &[CommitId]
 
 // Whether a commit with these parents, in whose place others come, begins without files.
 fn begins_anew(
-    removal: &Removal,
+    removal: &Selected,
     back: &[Option<CommitId>],
     parents: &[CommitId],
     made: &[CommitId],
@@ -101,7 +99,7 @@ fn begins_anew(
 // What becomes of a commit.
 fn commit_fate(
     alloc: Global,
-    removal: &Removal,
+    removal: &Selected,
     back: &[Option<CommitId>],
     parents: &[CommitId],
 ) -> Result<Fate, NoMemory>
@@ -138,17 +136,31 @@ fn target_fate(old: Option<CommitId>, new: Option<CommitId>) -> Fate
     }
 }
 
+// Where the tag or the reset at a place goes, or stays.
+fn target_in(removal: &Selected, targets: &[Option<CommitId>], place: usize) -> Option<CommitId>
+    requires place { place < length removal.now.events }
+    requires targets { AreMoves removal.now.set
+        (moving removal.now.set removal.now.events lean.Forward) removal.now.events targets.now }
+    ensures { (event : _) → slice_get removal.now.events place ≡ Some event →
+        result ≡ target_for (moving removal.now.set removal.now.events lean.Forward) event }
+{
+    match lost_at(removal, place) {
+        Some(_) => target_at(targets, place),
+        None => target_of(removal.nth(place)),
+    }
+}
+
 // What becomes of the event at a place.
 fn fate_at(
     alloc: Global,
-    removal: &Removal,
+    removal: &Selected,
     back: &[Option<CommitId>],
     targets: &[Option<CommitId>],
     place: usize,
 ) -> Result<Fate, NoMemory>
     requires place { place < length removal.now.events }
     requires back { AreBack removal.now.set removal.now.events back.now }
-    requires targets { AreTargets
+    requires targets { AreMoves removal.now.set
         (moving removal.now.set removal.now.events lean.Forward) removal.now.events targets.now }
     requires line { AllByRecursion
         (IsInLine removal.now.set removal.now.events) (nodes removal.now.events) }
@@ -164,19 +176,19 @@ fn fate_at(
         PlainEvent::Commit { parents, .. } => {
             commit_fate(alloc, removal, back, parents.as_slice())
         }
-        _ => Ok(target_fate(target_of(event), way_at(targets, place))),
+        _ => Ok(target_fate(target_of(event), target_in(removal, targets, place))),
     }
 }
 
 /// What becomes of all events.
 pub fn fates(
     alloc: Global,
-    removal: &Removal,
+    removal: &Selected,
     back: &[Option<CommitId>],
     targets: &[Option<CommitId>],
 ) -> Result<Vec<Fate>, NoMemory>
     requires back { AreBack removal.now.set removal.now.events back.now }
-    requires targets { AreTargets
+    requires targets { AreMoves removal.now.set
         (moving removal.now.set removal.now.events lean.Forward) removal.now.events targets.now }
     requires line { AllByRecursion
         (IsInLine removal.now.set removal.now.events) (nodes removal.now.events) }

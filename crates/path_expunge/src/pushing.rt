@@ -7,19 +7,17 @@ ghost use Rattle.path_expunge.specs.Fates.{FateIs, taken};
 ghost use Rattle.plain_model.specs.Histories.{nodes};
 ghost use Rattle.plain_model.specs.Lookups.{id_of};
 ghost use Rattle.plain_model.specs.Soundness.{IsSound};
-ghost use Rattle.squash_delete.specs.Leaving.{goes};
-ghost use Rattle.squash_delete.specs.Tables.{IsTable};
+ghost use Rattle.plan_steps.specs.Leaving.{goes};
+ghost use Rattle.plan_steps.specs.Tables.{IsTable};
 ghost use Rattle.squash_laws.specs.Removed.{all_left};
 ghost use Rattle.squash_laws.specs.declared.policy.Lean.TheVariants as lean;
 
 use crate::fates::{Fate, fates};
 use crate::giving::give_all;
-use crate::leaving::leaving;
-use crate::removal::Removal;
-use crate::targets::moved_targets;
-use crate::ways::Leads;
 use event_arena::Plan;
 use plain_model::{AnyId, IdList, NoMemory};
+use plan_steps::{Leads, Selected, leaving_ids, moved_targets};
+use squash_laws::Lean;
 use std::alloc::Global;
 
 // Which events go, and what becomes of all.
@@ -38,10 +36,10 @@ fn prepare(alloc: Global, plan: &Plan, set: &[AnyId]) -> Result<Prepared, NoMemo
     ensures fates { IfOk result (λ prepared.
         IsTable Fate.Same (FateIs set.now plan.now.after) plan.now.after prepared.fates.items) }
 {
-    let removal = Removal::new(alloc, plan, set)?;
+    let removal = Selected::after(alloc, plan, set)?;
     let leads = Leads::of(alloc, &removal)?;
-    let targets = moved_targets(alloc, &removal, &leads)?;
-    let ids = leaving(alloc, &removal, &targets)?;
+    let targets = moved_targets(alloc, &removal, &leads, Lean::Forward)?;
+    let ids = leaving_ids(alloc, &removal, &targets)?;
     let fates = fates(alloc, &removal, &leads.back, &targets)?;
     Ok(Prepared { ids, fates })
 }

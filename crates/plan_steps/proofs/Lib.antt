@@ -1,4 +1,15 @@
 pub mod Along
+pub mod Counting
+pub mod Depths
+pub mod LeavingLemmas
+pub mod NearLemmas
+pub mod NearPlaces
+pub mod NodeLemmas
 pub mod Nodes
+pub mod Passes
 pub mod Settling
 pub mod Steps
+pub mod SweepLemmas
+pub mod Tables
+pub mod TargetLemmas
+pub mod WayLemmas

@@ -1,14 +1,16 @@
 -- How the list of a plan goes on, while one event after another becomes what it becomes.
-use Rattle.std.proofs.Common.{◌≡◌, ◌∙◌, ℕ, zero, suc, inl, inr, List, [], ◌∷◌, ◌++◌, Some, None, refl, sym, ap, subst, take, drop, map, append_assoc}
+use Rattle.std.proofs.Common.{◌≡◌, ◌∙◌, ℕ, zero, suc, true, cond, inl, inr, List, [], ◌∷◌, ◌++◌, Some, None, refl, sym, ap, subst, take, drop, map, append_assoc}
 use Rattle.std.proofs.lemmas.Bool.{cases_Bool}
 use Rattle.std.proofs.lemmas.List.{take-append-drop}
 use Rattle.std.proofs.lemmas.Option.{none-some, same_Some}
-use Rattle.std.specs.Prelude.{slice_get, is_some, IfSome}
+use Rattle.std.specs.Prelude.{slice_get, is_some, IfSome, IsSome}
 use Rattle.plain_model.specs.declared.id.AnyId.{AnyId}
+use Rattle.plain_model.specs.declared.operation.FileOp.{FileOp}
 use Rattle.plain_model.specs.declared.event.PlainEvent.{PlainEvent}
+use Rattle.plain_model.specs.declared.event.PlainEvent.TheVariants.{Blob, Commit, Tag, Reset, Pass}
 use Rattle.plain_model.specs.Lookups.{find_event, id_of, same_id}
 use Rattle.history_laws.proofs.Ids.{absent-cons, cons-absent}
-use Rattle.event_arena.specs.Changes.{changed}
+use Rattle.event_arena.specs.Changes.{changed, with_ops}
 use Rattle.event_arena.specs.Graphs.{Change}
 use Rattle.history_laws.specs.Once.{AreDistinct}
 use Rattle.event_arena.proofs.ListLemmas.{drop-item, take-item}
@@ -111,3 +113,33 @@ pub kept_of : (plan : Change) (event e : PlainEvent) (g : PlainEvent → PlainEv
     plan ≡ record plan { after = changed (id_of event) g plan.after }
 kept_of plan event e g is there same =
     kept plan (id_of event) g (found_holds (find_event (id_of event) plan.after) event (λ x. g x ≡ x) there (subst (λ x. g x ≡ x) (sym is) same))
+
+-- ---- two changes of one event
+
+pub changed_twice : (id : AnyId) (f g : PlainEvent → PlainEvent) → ((e : PlainEvent) → id_of (g e) ≡ id_of e) → (es : List PlainEvent) →
+    changed id f (changed id g es) ≡ changed id (λ e. f (g e)) es
+changed_twice id f g same [] = refl
+changed_twice id f g same (e ∷ es) = elim (cases_Bool (same_id id (id_of e))) [
+  | inl it ↦
+      let still : same_id id (id_of (g e)) ≡ true = ap (same_id id) (same e) ∙ it in
+      rw (it, still) refl
+  | inr no_it ↦ rw (no_it, no_it) (ap (λ l. e ∷ l) (changed_twice id f g same es))
+]
+
+-- a changed event is there still
+pub changed_there : (id : AnyId) (g : PlainEvent → PlainEvent) → ((e : PlainEvent) → id_of (g e) ≡ id_of e) → (es : List PlainEvent) →
+    IsSome (find_event id es) → IsSome (find_event id (changed id g es))
+changed_there id g same [] there = there
+changed_there id g same (e ∷ es) there = elim (cases_Bool (same_id id (id_of e))) [
+  | inl it ↦
+      let still : same_id id (id_of (g e)) ≡ true = ap (same_id id) (same e) ∙ it in
+      rw (it, still) refl
+  | inr no_it ↦ rw (no_it, no_it) (changed_there id g same es (sym (ap (λ b. is_some (cond b (Some e) (find_event id es))) no_it) ∙ there))
+]
+
+pub ops_id : (ops : List FileOp) (e : PlainEvent) → id_of (with_ops ops e) ≡ id_of e
+ops_id ops (Commit id mark branch author committer encoding comment parents old aliases) = refl
+ops_id ops (Blob id mark bytes) = refl
+ops_id ops (Tag id name target tagger comment mark) = refl
+ops_id ops (Reset id branch target) = refl
+ops_id ops (Pass id line) = refl

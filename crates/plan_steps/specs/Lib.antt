@@ -1,1 +1,10 @@
 pub mod Chosen
+pub mod Counts
+pub mod Depths
+pub mod Flags
+pub mod Leaving
+pub mod Near
+pub mod Passes
+pub mod Tables
+pub mod Targets
+pub mod Ways

@@ -9,7 +9,7 @@ ghost use Rattle.reparent_laws.specs.Faults.{any_fault, tree_fault, unless_fault
 use event_arena::Plan;
 use manifest_cache::Manifests;
 use plain_model::Halt;
-use plan_limits::limit_passed;
+use plan_steps::limit_passed;
 
 /// The first limit that a plan passes.
 pub fn judge_limits(plan: &Plan) -> Result<(), Halt>

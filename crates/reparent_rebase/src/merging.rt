@@ -14,9 +14,8 @@ ghost use Rattle.reparent_laws.specs.Merge.{
 
 use event_arena::{Events, Plan};
 use plain_model::{AnyId, CommitId, Fault, Halt, NoMemory, ParentList};
-use plan_limits::limit_passed;
 use plan_steps::{
-    anew, give_ops, give_parents, kind_fault, listed, ops_of, parents_of, the_commit,
+    anew, give_ops, give_parents, kind_fault, limit_passed, listed, ops_of, parents_of, the_commit,
 };
 use reparent_laws::a_change_keeps_soundness;
 use std::alloc::Global;

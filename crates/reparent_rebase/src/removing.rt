@@ -17,9 +17,8 @@ use crate::judging::judge_trees;
 use event_arena::{Events, Plan};
 use manifest_cache::Manifests;
 use plain_model::{AnyId, CommitId, Copied, Fault, FileOp, Halt, NoMemory, OpList, Path, Text};
-use plan_steps::{give_ops, ops_of, push_ops, the_commit};
+use plan_steps::{give_ops, ops_of, push_ops, sweep, the_commit};
 use reparent_laws::{Removal, a_change_keeps_soundness};
-use squash_delete::sweep;
 use std::alloc::Global;
 
 // Whether two paths are one.

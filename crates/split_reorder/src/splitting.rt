@@ -14,8 +14,7 @@ use plain_model::{
     AnyId, CommitId, Copied, Fault, Halt, Mark, MarkList, NoMemory, OpList, ParentList, Path,
     PlainEvent, Shared, Text,
 };
-use plan_limits::limit_passed;
-use plan_steps::{ops_of, the_commit};
+use plan_steps::{limit_passed, ops_of, the_commit};
 use split_laws::a_split_keeps_soundness;
 use std::alloc::Global;
 

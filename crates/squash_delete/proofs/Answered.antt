@@ -9,7 +9,7 @@ use Rattle.std.proofs.lemmas.Option.{none-some, same_Some}
 use Rattle.plain_model.specs.Lookups.{is_listed, op_blobs, same_id}
 use Rattle.plain_model.specs.declared.operation.FileOp.{FileOp}
 use Rattle.edit_laws.specs.Removal.{expand_all}
-use Rattle.squash_delete.specs.Flags.{KeepNames, event_blobs}
+use Rattle.plan_steps.specs.Flags.{KeepNames, event_blobs}
 use Rattle.plain_model.specs.declared.id.AnyId.{AnyId}
 use Rattle.plain_model.specs.declared.fault.Fault.{Fault}
 use Rattle.plain_model.specs.declared.fault.Fault.TheVariants as fault
@@ -42,18 +42,18 @@ use Rattle.squash_laws.specs.declared.policy.Push.TheVariants as push
 use Rattle.squash_laws.specs.declared.policy.Policy.{Policy}
 use Rattle.squash_laws.proofs.Squashed.{squash_ends, squash_settles}
 use Rattle.squash_delete.specs.Judged.{IsLeft, IsLeftOf, ParentsAre, judged, limit_passed}
-use Rattle.squash_delete.specs.Leaving.{event_after, goes, staying, with_takings}
+use Rattle.plan_steps.specs.Leaving.{event_after, goes, staying, with_takings}
 use Rattle.squash_delete.specs.Sources.{count_ops}
-use Rattle.squash_delete.specs.Targets.{AreMoves, lost_target, moving, target_for}
+use Rattle.plan_steps.specs.Targets.{AreMoves, lost_target, moving, target_for}
 use Rattle.squash_delete.specs.declared.counting.Left.{Left}
 use Rattle.squash_delete.specs.declared.counting.Left.TheVariants.{All, ManyOperations}
-use Rattle.plan_limits.proofs.Counting.{any_item, more_than}
+use Rattle.plan_steps.proofs.Counting.{any_item, more_than}
 use Rattle.edit_laws.proofs.Limits.{not_many}
 use Rattle.squash_delete.proofs.JudgedLemmas.{judged_alike}
-use Rattle.squash_delete.proofs.LeavingLemmas.{left_staying}
-use Rattle.squash_delete.proofs.NearLemmas.{lost_is}
-use Rattle.squash_delete.specs.Tables.{IsTableTo}
-use Rattle.squash_delete.proofs.Tables.{table_all}
+use Rattle.plan_steps.proofs.LeavingLemmas.{left_staying}
+use Rattle.plan_steps.proofs.NearLemmas.{lost_is}
+use Rattle.plan_steps.specs.Tables.{IsTableTo}
+use Rattle.plan_steps.proofs.Tables.{table_all}
 
 -- ---- the outcome
 
@@ -154,34 +154,6 @@ pub check_fault : {X : Type 0} (view : X → List PlainEvent) (new : List PlainE
     answer ≡ done_or new checks → (why : Halt) → Returns {X = Unit {0}} {Y = Unit {0}} (λ done. done) (Err why) checks → Returns view (Err why) answer
 check_fault view new answer checks is halt.Memory checked = tt
 check_fault view new answer checks is (halt.Refused fault) checked = is ∙ ap (done_or new) checked
-
--- ---- where tags and resets go
-
--- the entry of a tag or a reset is where it goes
-abbrev pub TargetIs : (ℕ → Option ℕ) → PlainEvent → Option ℕ → Type 0
-TargetIs goes_to e x = x ≡ target_for goes_to e
-
--- the entry of a tag or a reset on a removed commit is where it moves
-abbrev pub MoveIs : List AnyId → (ℕ → Option ℕ) → PlainEvent → Option ℕ → Type 0
-MoveIs set goes_to e x = x ≡ option_and_then goes_to (lost_target set e)
-
--- where all have theirs, and the others stay
-pub moves_all : (set : List AnyId) (events : List PlainEvent) (tags : Lean) (k : ℕ) (table : List (Option ℕ)) → k ≡ length events →
-    IsTableTo None (MoveIs set (moved set events tags)) events k table → AreMoves set (moving set events tags) events table
-moves_all set events tags k table all t = record {
-  target = λ j c e at on.
-      (table_all None (MoveIs set (moved set events tags)) events k table all t).entry j e at ∙ ap (option_and_then (moved set events tags)) on
-      ∙ sym (ap (λ b. cond b (moved set events tags c) (Some c)) (lost_is set c e on).1);
-  stays = λ c kept. ap (λ b. cond b (moved set events tags c) (Some c)) kept;
-}
-
--- where none is on a removed commit
-pub moves_none : (set : List AnyId) (events : List PlainEvent) (tags : Lean) → list_any (λ e. is_some (lost_target set e)) events ≡ false →
-    AreMoves set (moving set events tags) events []
-moves_none set events tags none = record {
-  target = λ j c e at on. absurd (true≢false (sym (any_item (λ x. is_some (lost_target set x)) events j e at (ap is_some on)) ∙ none));
-  stays = λ c kept. ap (λ b. cond b (moved set events tags c) (Some c)) kept;
-}
 
 -- ---- what is left
 

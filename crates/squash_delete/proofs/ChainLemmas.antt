@@ -29,9 +29,11 @@ use Rattle.manifest_cache.specs.Walks.{event_ops, ops_at}
 use Rattle.squash_laws.specs.Comments.{comment_of, joined, joined_two}
 use Rattle.squash_laws.specs.Removed.{is_removed}
 use Rattle.squash_laws.specs.Squash.{comments_of, is_from_root, is_none, links}
-use Rattle.squash_delete.specs.Chains.{AreBefore, IsNearest, Notes, comments_to, depth, no_link, ops_to, parents_at}
+use Rattle.squash_delete.specs.Chains.{AreBefore, IsNearest, Notes, comments_to, no_link, ops_to}
 use Rattle.squash_delete.specs.Taking.{event_comment}
-use Rattle.squash_delete.proofs.NodeLemmas.{found_node, node_of}
+use Rattle.plan_steps.specs.Depths.{depth, parents_at}
+use Rattle.plan_steps.proofs.Depths.{depth_at, depth_before, links_nil}
+use Rattle.plan_steps.proofs.NodeLemmas.{found_node, node_of}
 
 -- an empty comment is left out
 pub joined_without : (xs more : List Bytes) → joined (xs ++ [] ∷ more) ≡ joined (xs ++ more)
@@ -73,25 +75,9 @@ over_each removed a ps = is_none_once (flat_map (expand removed a) ps) ∙ each 
 
 -- ---- chains
 
-chain_nil : (removed : ℕ → Bool) (a : Past) → chain removed a [] ≡ []
-chain_nil removed [] = refl
-chain_nil removed (n ∷ older) = refl
-
 chain_first : (removed : ℕ → Bool) (a : Past) (p : ℕ) (ps qs : List ℕ) → chain removed a (p ∷ ps) ≡ chain removed a (p ∷ qs)
 chain_first removed [] p ps qs = refl
 chain_first removed (n ∷ older) p ps qs = ap (cond (n.id == p) (cond (removed p) (chain removed older n.parents ++ n ∷ []) [])) (chain_first removed older p ps qs)
-
--- the place of a commit is one below its depth
-pub depth_at : (events : List PlainEvent) (c k : ℕ) → place_of (any.Commit c) events ≡ Some k → depth events c ≡ k + 1
-depth_at events c k there = ap (λ o. unwrap_or (option_map (λ place. place + 1) o) 0) there
-
--- an earlier commit is no deeper
-pub depth_before : (events : List PlainEvent) → AreDistinct events → (k p : ℕ) → IsCommitOf (take k events) p → depth events p ≤ k
-depth_before events once k p known =
-    let b = is_earlier events k p known in
-    let own = depth_at events p b.place (ap (λ id. place_of id events) b.own ∙ (place_found events b.place b.event b.at once).0) in
-    let low = b.low in
-    omega arith
 
 -- commits that are there are earlier than the end
 pub all_before : (events : List PlainEvent) (n : ℕ) → length events ≤ n → (ps : List ℕ) →
@@ -118,17 +104,14 @@ not_all f (q ∷ ps) (suc k) p at own = by (f q) (not_all f ps k p at own)
     by false rest = refl
 
 module _ (set : List AnyId) (events : List PlainEvent) where
-  pub links_nil : links set events [] ≡ []
-  links_nil = chain_nil (is_removed set) (past events)
-
   links_first : (p : ℕ) (ps : List ℕ) → links set events (p ∷ ps) ≡ links set events (p ∷ [])
   links_first p ps = chain_first (is_removed set) (past events) p ps []
 
   -- no parents, and the first of some
   pub nearest_nil : (most : ℕ) → IsNearest set events most [] None
   nearest_nil most = record {
-    ops = ap ops_along links_nil;
-    comments = λ more. ap (λ (ns : List Node). joined (comments_of set events ns ++ more)) links_nil;
+    ops = ap ops_along (links_nil set events);
+    comments = λ more. ap (λ (ns : List Node). joined (comments_of set events ns ++ more)) (links_nil set events);
     there = λ d is. absurd (none-some d is);
   }
 
@@ -151,7 +134,7 @@ module _ (set : List AnyId) (events : List PlainEvent) where
   nearest_some m most p (q ∷ ps) near first low n = nearest_first m most q ps near low (subst (λ x. IsNearest set events m (x ∷ []) near) (sym (same_Some q p first)) n)
 
   pub root_none : (ps : List ℕ) → slice_get ps 0 ≡ None → is_from_root (links set events ps) ≡ false
-  root_none [] none = ap is_from_root links_nil
+  root_none [] none = ap is_from_root (links_nil set events)
   root_none (p ∷ ps) none = absurd (none-some p (sym none))
 
   pub root_some : (p : ℕ) (ps : List ℕ) → slice_get ps 0 ≡ Some p → is_from_root (links set events (p ∷ [])) ≡ is_from_root (links set events ps)
@@ -160,7 +143,7 @@ module _ (set : List AnyId) (events : List PlainEvent) where
 
   -- no removed commit is before one none of whose parents is removed
   pub no_links : (parents : List ℕ) → list_any (is_removed set) parents ≡ false → links set events parents ≡ []
-  no_links [] apart = links_nil
+  no_links [] apart = links_nil set events
   no_links (p ∷ ps) apart = chain_none (is_removed set) (past events) p ps (or_parts (is_removed set p) (list_any (is_removed set) ps) apart).0
 
   -- ---- what is noted of a commit that stays
@@ -237,7 +220,7 @@ module _ (set : List AnyId) (events : List PlainEvent) where
         head ps (m ∷ ns) some own = ap (λ b. b || is_none m.parents) some
 
         by : (ps : List ℕ) → event_parents e ≡ ps → is_none ps || is_from_root (links set events ps) ≡ is_from_root (links set events ps ++ node_of c e ∷ [])
-        by [] own = sym (ap (λ (ns : List Node). is_from_root (ns ++ node_of c e ∷ [])) links_nil ∙ ap is_none own)
+        by [] own = sym (ap (λ (ns : List Node). is_from_root (ns ++ node_of c e ∷ [])) (links_nil set events) ∙ ap is_none own)
         by (p ∷ ps) own = head (p ∷ ps) (links set events (p ∷ ps)) refl own
 
     pub over_gone : is_none (expand_all (is_removed set) (past events) (event_parents e)) ≡ is_none (expand (is_removed set) (past events) c)

@@ -8,13 +8,13 @@ use Rattle.plain_model.specs.declared.id.AnyId.{AnyId}
 use Rattle.plain_model.specs.declared.event.PlainEvent.{PlainEvent}
 use Rattle.edit_laws.proofs.Limits.{few}
 use Rattle.squash_delete.specs.Chains.{AreEntries, AreLinks, LinkIs, Noted, NotesNext, no_link, noted_at}
-use Rattle.squash_delete.specs.Near.{NoneNear}
+use Rattle.plan_steps.specs.Near.{NoneNear}
 use Rattle.squash_delete.specs.declared.chains.Entry.{Entry}
 use Rattle.squash_delete.specs.declared.chains.Link.{Link}
 use Rattle.squash_delete.proofs.ChainLemmas.{notes_stays}
-use Rattle.squash_delete.proofs.NearLemmas.{is_apart}
-use Rattle.squash_delete.proofs.Tables.{any_default}
-use Rattle.squash_delete.proofs.WayLemmas.{removed_at}
+use Rattle.plan_steps.proofs.NearLemmas.{is_apart}
+use Rattle.plan_steps.proofs.Tables.{any_default}
+use Rattle.plan_steps.proofs.WayLemmas.{removed_at}
 
 -- ---- entries
 

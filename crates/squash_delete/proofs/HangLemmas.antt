@@ -30,10 +30,10 @@ use Rattle.squash_laws.specs.declared.policy.Lean.TheVariants as lean
 use Rattle.squash_laws.specs.declared.policy.Push.TheVariants as push
 use Rattle.squash_delete.specs.Backing.{AreCountedTo, own_fault}
 use Rattle.squash_delete.specs.Hangings.{AreHungTo, hung}
-use Rattle.plan_limits.proofs.Counting.{more_than}
+use Rattle.plan_steps.proofs.Counting.{more_than}
 use Rattle.edit_laws.proofs.Limits.{not_many}
-use Rattle.squash_delete.proofs.NodeLemmas.{node_of}
-use Rattle.squash_delete.proofs.WayLemmas.{is_placed, own_commit}
+use Rattle.plan_steps.proofs.NodeLemmas.{node_of}
+use Rattle.plan_steps.proofs.WayLemmas.{is_placed, own_commit}
 
 same_number : (c : ℕ) → (c == c) ≡ true
 same_number c = grind (arith)

@@ -21,7 +21,7 @@ use Rattle.edit_laws.specs.Passing.{limit_fault}
 use Rattle.edit_laws.specs.Settling.{settle}
 use Rattle.edit_laws.specs.Sweeping.{is_left_over, is_named, swept}
 use Rattle.edit_laws.proofs.Lists.{none_passing, some_passing}
-use Rattle.plan_limits.proofs.Counting.{more_than}
+use Rattle.plan_steps.proofs.Counting.{more_than}
 use Rattle.edit_laws.proofs.Limits.{not_many}
 use Rattle.edit_laws.proofs.Settles.{settled_sums}
 use Rattle.edit_laws.proofs.Sound.{in_parts}
@@ -30,8 +30,8 @@ use Rattle.edit_laws.proofs.Tallies.{aliases_counted, counted, one, ops_counted,
 use Rattle.graph_walk.specs.Expansions.{AreFew, own_change, parent_changes}
 use Rattle.squash_laws.specs.Removed.{Takings, is_removed, parents_after, without_set}
 use Rattle.squash_delete.specs.Judged.{IsLeft, ParentsAre, limit_passed}
-use Rattle.squash_delete.specs.Leaving.{event_after, goes, staying}
-use Rattle.squash_delete.proofs.LeavingLemmas.{left_staying, unremoved_parents}
+use Rattle.plan_steps.specs.Leaving.{event_after, goes, staying}
+use Rattle.plan_steps.proofs.LeavingLemmas.{left_staying, unremoved_parents}
 
 -- ---- other parents change no sum
 

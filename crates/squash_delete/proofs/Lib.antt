@@ -3,14 +3,7 @@ pub mod ChainLemmas
 pub mod EntryLemmas
 pub mod HangLemmas
 pub mod JudgedLemmas
-pub mod LeavingLemmas
+pub mod MovedPlaces
 pub mod MovingLemmas
-pub mod NearLemmas
-pub mod NearPlaces
-pub mod NodeLemmas
-pub mod Passes
 pub mod SettlingLemmas
-pub mod SweepLemmas
-pub mod Tables
 pub mod TakingLemmas
-pub mod WayLemmas

@@ -35,16 +35,16 @@ use Rattle.squash_laws.specs.declared.policy.Lean.{Lean}
 use Rattle.squash_laws.specs.declared.policy.Push.TheVariants as push
 use Rattle.squash_delete.specs.Chains.{Carry}
 use Rattle.squash_delete.specs.Hangings.{hung}
-use Rattle.squash_delete.specs.Leaving.{event_after, goes, with_own_parents, with_takings}
-use Rattle.squash_delete.specs.Passes.{moved_to, taken_to}
+use Rattle.plan_steps.specs.Leaving.{event_after, goes, with_own_parents, with_takings}
+use Rattle.plan_steps.specs.Passes.{moved_to, taken_to}
 use Rattle.squash_delete.specs.Sources.{count_ops}
 use Rattle.squash_delete.specs.Taking.{IsTakenBy, Taking, comment_taken, is_nothing, ops_taken}
-use Rattle.squash_delete.specs.Targets.{lost_target, target_for}
-use Rattle.plan_limits.proofs.Counting.{tally_item, tally_less}
+use Rattle.plan_steps.specs.Targets.{lost_target, target_for}
+use Rattle.plan_steps.proofs.Counting.{tally_item, tally_less}
 use Rattle.squash_delete.proofs.ChainLemmas.{no_links}
-use Rattle.squash_delete.proofs.NearLemmas.{kept_on, lost_is}
-use Rattle.squash_delete.proofs.LeavingLemmas.{after_id, own_parents_id, takings_id}
-use Rattle.squash_delete.proofs.Passes.{step_changed, step_gone, step_same}
+use Rattle.plan_steps.proofs.NearLemmas.{kept_on, lost_is}
+use Rattle.plan_steps.proofs.LeavingLemmas.{after_id, own_parents_id, takings_id}
+use Rattle.plan_steps.proofs.Passes.{step_changed, step_gone, step_same}
 
 pub le_is : (a b : ℕ) → a ≡ b → a ≤ b
 le_is a b is = omega arith

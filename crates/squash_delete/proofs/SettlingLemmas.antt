@@ -27,12 +27,12 @@ use Rattle.squash_laws.specs.Squash.{anew, moved, takes}
 use Rattle.squash_laws.specs.declared.policy.Lean.{Lean}
 use Rattle.squash_laws.specs.declared.policy.Push.{Push}
 use Rattle.squash_laws.specs.declared.policy.Push.TheVariants as push
-use Rattle.squash_delete.specs.Leaving.{event_after, goes}
-use Rattle.squash_delete.specs.Near.{AreReadyNear, is_near}
+use Rattle.plan_steps.specs.Leaving.{event_after, goes}
+use Rattle.plan_steps.specs.Near.{AreReadyNear, is_near}
 use Rattle.squash_delete.proofs.ChainLemmas.{no_links}
-use Rattle.squash_delete.proofs.LeavingLemmas.{after_id, left_one, unremoved_parents}
-use Rattle.squash_delete.proofs.NearLemmas.{IsApart, is_apart, kept_on}
-use Rattle.squash_delete.proofs.Passes.{filter_append}
+use Rattle.plan_steps.proofs.LeavingLemmas.{after_id, left_one, unremoved_parents}
+use Rattle.plan_steps.proofs.NearLemmas.{IsApart, is_apart, kept_on}
+use Rattle.plan_steps.proofs.Passes.{filter_append}
 
 -- ---- an event after others
 

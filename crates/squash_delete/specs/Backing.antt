@@ -7,7 +7,7 @@ use Rattle.plain_model.specs.declared.event.PlainEvent.TheVariants.{Blob, Commit
 use Rattle.manifest_cache.specs.Walks.{commit_id}
 use Rattle.squash_laws.specs.Faults.{back_fault, first_children}
 use Rattle.squash_laws.specs.Removed.{is_removed}
-use Rattle.squash_delete.specs.Tables.{IsTable}
+use Rattle.plan_steps.specs.Tables.{IsTable}
 
 -- why an event can't be: it is a removed commit
 abbrev pub own_fault : List AnyId → List PlainEvent → PlainEvent → Option Fault

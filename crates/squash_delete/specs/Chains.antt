@@ -1,14 +1,11 @@
 -- The removed commits before a commit, by first parents, of which those without operations and comment are passed over.
-use Rattle.std.specs.Prelude.{ℕ, suc, ◌≡◌, ◌<◌, ◌≤◌, ◌==◌, false, List, [], ◌∷◌, ◌++◌, length, map, flat_map, take, Option, Some, None, unwrap_or, slice_get, slice_index_or, if◌then◌else◌}
+use Rattle.std.specs.Prelude.{ℕ, suc, ◌≡◌, ◌<◌, ◌≤◌, ◌==◌, false, List, [], ◌∷◌, ◌++◌, length, map, flat_map, take, Option, Some, None, slice_get, slice_index_or, if◌then◌else◌}
 use Rattle.std.specs.List.{AllByRecursion}
 use Rattle.std.specs.List.Sorted.{IsNonDecreasingBy}
-use Rattle.std.specs.Option.{option_map_or}
 use Rattle.plain_model.specs.declared.id.AnyId.{AnyId}
-use Rattle.plain_model.specs.declared.id.AnyId.TheVariants as any
 use Rattle.plain_model.specs.declared.operation.FileOp.{FileOp}
 use Rattle.plain_model.specs.declared.event.PlainEvent.{PlainEvent}
 use Rattle.plain_model.specs.Histories.{past}
-use Rattle.plain_model.specs.Lookups.{event_parents, find_event, number_of}
 use Rattle.plain_model.specs.Paths.{Bytes}
 use Rattle.plain_model.specs.Soundness.{IsCommitOf}
 use Rattle.history_laws.specs.FirstParents.{ops_along}
@@ -17,16 +14,9 @@ use Rattle.manifest_cache.specs.Walks.{commit_id, ops_at}
 use Rattle.squash_laws.specs.Comments.{comment_of, joined}
 use Rattle.squash_laws.specs.Removed.{is_removed}
 use Rattle.squash_laws.specs.Squash.{comments_of, is_from_root, is_none, links}
+use Rattle.plan_steps.specs.Depths.{depth, parents_at}
 use Rattle.squash_delete.specs.declared.chains.Entry.{Entry}
 use Rattle.squash_delete.specs.declared.chains.Link.{Link}
-
--- the parents of the commit with the id
-abbrev pub parents_at : List PlainEvent → ℕ → List ℕ
-parents_at events c = option_map_or event_parents (find_event (any.Commit c) events) []
-
--- its number in the list, from 1, and 0 for one that isn't there
-abbrev pub depth : List PlainEvent → ℕ → ℕ
-depth events c = unwrap_or (number_of (any.Commit c) events) 0
 
 -- the commits are earlier than so many events
 abbrev pub AreBefore : List PlainEvent → ℕ → List ℕ → Type 0

@@ -13,7 +13,7 @@ use Rattle.history_laws.specs.FirstParents.{ops_along}
 use Rattle.edit_laws.specs.Sweeping.{swept}
 use Rattle.graph_walk.specs.Expansions.{AreFew, parent_changes}
 use Rattle.squash_laws.specs.Removed.{Takings, parents_after}
-use Rattle.squash_delete.specs.Leaving.{event_after, staying}
+use Rattle.plan_steps.specs.Leaving.{event_after, staying}
 use Rattle.squash_delete.specs.declared.counting.Left.{Left}
 use Rattle.squash_delete.specs.declared.counting.Left.TheVariants.{All, ManyOperations}
 

@@ -1,14 +1,6 @@
 pub mod Backing
 pub mod Chains
-pub mod Flags
 pub mod Hangings
 pub mod Judged
-pub mod Leaving
-pub mod Near
-pub mod Passes
-pub mod Removing
 pub mod Sources
-pub mod Tables
 pub mod Taking
-pub mod Targets
-pub mod Ways

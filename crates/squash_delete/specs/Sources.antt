@@ -14,10 +14,10 @@ use Rattle.squash_laws.specs.declared.policy.Push.{Push}
 use Rattle.squash_laws.specs.declared.policy.Push.TheVariants as push
 use Rattle.squash_delete.specs.Chains.{AreLinks}
 use Rattle.squash_delete.specs.Hangings.{AreHung}
-use Rattle.squash_delete.specs.Leaving.{goes, staying, with_own_parents, with_takings}
-use Rattle.squash_delete.specs.Passes.{moved_to, taken_to}
+use Rattle.plan_steps.specs.Leaving.{goes, staying, with_own_parents, with_takings}
+use Rattle.plan_steps.specs.Passes.{moved_to, taken_to}
 use Rattle.squash_delete.specs.Taking.{IsTakenBy, Taking}
-use Rattle.squash_delete.specs.Targets.{AreMoves}
+use Rattle.plan_steps.specs.Targets.{AreMoves}
 use Rattle.squash_delete.specs.declared.moving.Sources.{Sources}
 use Rattle.squash_delete.specs.declared.moving.Sources.TheVariants.{Before, After}
 

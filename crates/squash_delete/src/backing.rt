@@ -3,13 +3,13 @@ ghost use Rattle.std.specs.Prelude.{◌≡◌, ◌<◌, Some, length, slice_get,
 ghost use Rattle.squash_delete.specs.Backing.{AreCountedTo, own_fault};
 ghost use Rattle.squash_laws.specs.Faults.{fault_before, first_back_fault};
 
-use crate::removal::Removal;
 use plain_model::{Fault, NoMemory, PlainEvent};
+use plan_steps::Selected;
 use squash_laws::Push;
 use std::alloc::Global;
 
 // Counts the commit at a place as a child of its first parent.
-fn count_child(removal: &Removal, place: usize, counts: &mut [usize])
+fn count_child(removal: &Selected, place: usize, counts: &mut [usize])
     requires place { place < length removal.now.events }
     requires counts { AreCountedTo removal.now.events place counts.old }
     ensures { AreCountedTo removal.now.events (suc place) counts.new }
@@ -23,7 +23,7 @@ fn count_child(removal: &Removal, place: usize, counts: &mut [usize])
 }
 
 // For the place of each commit how many have it as their first parent.
-fn count_children(alloc: Global, removal: &Removal) -> Result<Vec<usize>, NoMemory>
+fn count_children(alloc: Global, removal: &Selected) -> Result<Vec<usize>, NoMemory>
     ensures { IfOk result
         (λ counts. AreCountedTo removal.now.events (length removal.now.events) counts.items) }
 {
@@ -35,7 +35,7 @@ fn count_children(alloc: Global, removal: &Removal) -> Result<Vec<usize>, NoMemo
 }
 
 // Why the commit at a place can't be pushed back, if it is removed.
-fn fault_at(removal: &Removal, counts: &[usize], place: usize) -> Option<Fault>
+fn fault_at(removal: &Selected, counts: &[usize], place: usize) -> Option<Fault>
     requires place { place < length removal.now.events }
     requires counts { AreCountedTo removal.now.events (length removal.now.events) counts.now }
     ensures { (event : _) → slice_get removal.now.events place ≡ Some event →
@@ -58,7 +58,7 @@ fn fault_at(removal: &Removal, counts: &[usize], place: usize) -> Option<Fault>
 }
 
 // Why the first removed commit that can't be pushed back can't be.
-fn back_fault(alloc: Global, removal: &Removal) -> Result<Option<Fault>, NoMemory>
+fn back_fault(alloc: Global, removal: &Selected) -> Result<Option<Fault>, NoMemory>
     ensures { IfOk result
         (λ fault. fault ≡ first_back_fault removal.now.set removal.now.events removal.now.events) }
 {
@@ -72,7 +72,7 @@ fn back_fault(alloc: Global, removal: &Removal) -> Result<Option<Fault>, NoMemor
 }
 
 /// Why the history as it is refuses to be squashed so, if it does.
-pub fn fault_before(alloc: Global, removal: &Removal, push: Push) -> Result<Option<Fault>, NoMemory>
+pub fn fault_before(alloc: Global, removal: &Selected, push: Push) -> Result<Option<Fault>, NoMemory>
     ensures { IfOk result (λ fault. fault ≡ fault_before push removal.now.set removal.now.events) }
 {
     match push {

@@ -20,25 +20,13 @@ ghost use Rattle.std.specs.Prelude.{
 ghost use Rattle.edit_laws.specs.Removal.{expand_all};
 ghost use Rattle.plain_model.specs.Histories.{past};
 ghost use Rattle.plain_model.specs.Soundness.{IsCommitOf};
-ghost use Rattle.squash_delete.specs.Chains.{
-  AreBefore,
-  AreLinks,
-  Carry,
-  IsNearest,
-  LinkIs,
-  Notes,
-  NotesNext,
-  depth,
-  no_link,
-  noted_at,
-  parents_at,
-};
+ghost use Rattle.plan_steps.specs.Depths.{depth, parents_at};
+ghost use Rattle.squash_delete.specs.Chains.{AreBefore, AreLinks, Carry, IsNearest, LinkIs, Notes, NotesNext, no_link, noted_at, };
 ghost use Rattle.squash_laws.specs.Removed.{is_removed};
 ghost use Rattle.squash_laws.specs.Squash.{is_from_root, is_none, links};
 
-use crate::removal::Removal;
 use plain_model::{AnyId, CommitId, FileOp, NoMemory, PlainEvent};
-use plan_steps::event_parents;
+use plan_steps::{Selected, event_parents};
 use std::alloc::Global;
 use std::marker::Model;
 
@@ -135,7 +123,7 @@ impl LinkTable {
 }
 
 // What is noted of an earlier commit.
-fn link_of(removal: &Removal, table: &LinkTable, commit: CommitId) -> Link
+fn link_of(removal: &Selected, table: &LinkTable, commit: CommitId) -> Link
     requires table { AreLinks removal.now.set removal.now.events table.now }
     requires earlier { IsCommitOf (take (table.now.count) removal.now.events) commit }
     ensures { Notes removal.now.set removal.now.events commit result }
@@ -145,7 +133,7 @@ fn link_of(removal: &Removal, table: &LinkTable, commit: CommitId) -> Link
 }
 
 // The nearest before a commit with these parents.
-fn nearest(removal: &Removal, table: &LinkTable, parents: &[CommitId]) -> Option<CommitId>
+fn nearest(removal: &Selected, table: &LinkTable, parents: &[CommitId]) -> Option<CommitId>
     requires table { AreLinks removal.now.set removal.now.events table.now }
     requires before { AreBefore removal.now.events (table.now.count) parents.now }
     ensures { (most : _) → AreBefore removal.now.events most parents.now →
@@ -157,7 +145,7 @@ fn nearest(removal: &Removal, table: &LinkTable, parents: &[CommitId]) -> Option
 }
 
 // Whether the removed commits before one with these parents begin at a root.
-fn are_from_root(removal: &Removal, table: &LinkTable, parents: &[CommitId]) -> bool
+fn are_from_root(removal: &Selected, table: &LinkTable, parents: &[CommitId]) -> bool
     requires table { AreLinks removal.now.set removal.now.events table.now }
     requires before { AreBefore removal.now.events (table.now.count) parents.now }
     ensures { result ≡ is_from_root (links removal.now.set removal.now.events parents.now) }
@@ -169,7 +157,7 @@ fn are_from_root(removal: &Removal, table: &LinkTable, parents: &[CommitId]) -> 
 }
 
 // Whether nothing stands for these parents.
-fn are_over(removal: &Removal, table: &LinkTable, parents: &[CommitId]) -> bool
+fn are_over(removal: &Selected, table: &LinkTable, parents: &[CommitId]) -> bool
     requires table { AreLinks removal.now.set removal.now.events table.now }
     requires before { AreBefore removal.now.events (table.now.count) parents.now }
     ensures { result
@@ -184,7 +172,7 @@ fn are_over(removal: &Removal, table: &LinkTable, parents: &[CommitId]) -> bool
 }
 
 // Whether the way down from a removed commit with these parents ends at a root: it is one, or those before it begin at one.
-fn ends_at_root(removal: &Removal, table: &LinkTable, parents: &[CommitId]) -> bool
+fn ends_at_root(removal: &Selected, table: &LinkTable, parents: &[CommitId]) -> bool
     requires table { AreLinks removal.now.set removal.now.events table.now }
     requires before { AreBefore removal.now.events (table.now.count) parents.now }
     ensures { result ≡ (is_none parents.now || is_from_root (links removal.now.set removal.now.events parents.now)) }
@@ -200,7 +188,7 @@ fn is_idle(ops: &[FileOp], comment: &[u8]) -> bool
 }
 
 // What is noted of the commit at a place.
-fn link_at(removal: &Removal, table: &LinkTable, place: usize) -> Link
+fn link_at(removal: &Selected, table: &LinkTable, place: usize) -> Link
     requires place { place < length removal.now.events }
     requires table { AreLinks removal.now.set removal.now.events table.now }
     requires next { table.now.count ≡ place }
@@ -235,7 +223,7 @@ fn link_at(removal: &Removal, table: &LinkTable, place: usize) -> Link
 }
 
 /// What is noted of all commits, in one pass.
-pub fn links(alloc: Global, removal: &Removal) -> Result<LinkTable, NoMemory>
+pub fn links(alloc: Global, removal: &Selected) -> Result<LinkTable, NoMemory>
     ensures count { IfOk result (λ table. table.count ≡ length removal.now.events) }
     ensures links { IfOk result
         (λ table. AreLinks removal.now.set removal.now.events table) }
@@ -254,7 +242,7 @@ pub fn links(alloc: Global, removal: &Removal) -> Result<LinkTable, NoMemory>
 }
 
 // The nearest before a removed commit.
-fn nearest_before(removal: &Removal, table: &LinkTable, commit: CommitId) -> Option<CommitId>
+fn nearest_before(removal: &Selected, table: &LinkTable, commit: CommitId) -> Option<CommitId>
     requires count { table.now.count ≡ length removal.now.events }
     requires table { AreLinks removal.now.set removal.now.events table.now }
     ensures { IsNearest removal.now.set removal.now.events
@@ -262,7 +250,7 @@ fn nearest_before(removal: &Removal, table: &LinkTable, commit: CommitId) -> Opt
         (parents_at removal.now.events commit) result }
 {
     let _count = removal.count();
-    match removal.events().event(AnyId::Commit(commit)) {
+    match removal.list().event(AnyId::Commit(commit)) {
         Some(event) => nearest(removal, table, event_parents(event)),
         None => None,
     }
@@ -271,7 +259,7 @@ fn nearest_before(removal: &Removal, table: &LinkTable, commit: CommitId) -> Opt
 /// The removed commits before one with these parents that have operations or a comment, the oldest first.
 pub fn carried(
     alloc: Global,
-    removal: &Removal,
+    removal: &Selected,
     table: &LinkTable,
     parents: &[CommitId],
 ) -> Result<Vec<CommitId>, NoMemory>
@@ -293,7 +281,7 @@ pub fn carried(
 
 /// Whether a commit with these parents has to begin without files: the removed commits before it begin at a root, and it
 /// keeps a parent.
-pub fn begins_anew(removal: &Removal, table: &LinkTable, parents: &[CommitId]) -> bool
+pub fn begins_anew(removal: &Selected, table: &LinkTable, parents: &[CommitId]) -> bool
     requires table { AreLinks removal.now.set removal.now.events table.now }
     requires before { AreBefore removal.now.events (table.now.count) parents.now }
     ensures { result ≡ (is_from_root (links removal.now.set removal.now.events parents.now)

@@ -6,7 +6,7 @@ ghost use Rattle.squash_delete.specs.Judged.{judged, limit_passed};
 
 use event_arena::Plan;
 use plain_model::{Fault, MAX_ALIASES, MAX_EVENTS, MAX_OPERATIONS, MAX_PARENTS, Which};
-use plan_limits::{has_many, has_many_events};
+use plan_steps::{has_many, has_many_events};
 
 fn limit(which: Which, number: u64) -> Result<(), Fault>
     ensures { result ≡ Err (Limit which number) }

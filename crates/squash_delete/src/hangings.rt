@@ -1,11 +1,10 @@
 //! The removed commits that hang on a commit by first parents.
 ghost use Rattle.std.specs.Prelude.{◌≡◌, ◌<◌, length, suc, IfOk, OnOk};
 ghost use Rattle.squash_delete.specs.Hangings.{AreHung, AreHungTo};
-ghost use Rattle.squash_delete.specs.Ways.{AreBack};
+ghost use Rattle.plan_steps.specs.Ways.{AreBack};
 
-use crate::removal::Removal;
-use crate::ways::{way_at, ways_back};
 use plain_model::{CommitId, NoMemory, ParentList, PlainEvent};
+use plan_steps::{Selected, way_at, ways_back};
 use std::alloc::Global;
 
 /// For the place of each commit the removed ones that hang on it, in the order of the list.
@@ -13,7 +12,7 @@ pub type Hangings = Vec<ParentList>;
 
 // Hangs the commit at a place, if it is removed, on the one that stays where its way back ends.
 fn hang(
-    removal: &Removal,
+    removal: &Selected,
     back: &[Option<CommitId>],
     place: usize,
     rows: &mut [ParentList],
@@ -36,7 +35,7 @@ fn hang(
 }
 
 // No commit hangs on any.
-fn none_hung(alloc: Global, removal: &Removal) -> Result<Hangings, NoMemory>
+fn none_hung(alloc: Global, removal: &Selected) -> Result<Hangings, NoMemory>
     ensures { IfOk result (λ rows. AreHungTo removal.now.set removal.now.events 0 rows.items) }
 {
     let mut rows = Vec::with_capacity(alloc, removal.count())?;
@@ -47,7 +46,7 @@ fn none_hung(alloc: Global, removal: &Removal) -> Result<Hangings, NoMemory>
 }
 
 /// Those of all commits, in one pass.
-pub fn hangings(alloc: Global, removal: &Removal) -> Result<Hangings, NoMemory>
+pub fn hangings(alloc: Global, removal: &Selected) -> Result<Hangings, NoMemory>
     ensures { IfOk result (λ rows. AreHung removal.now.set removal.now.events rows.items) }
 {
     let back = ways_back(alloc, removal)?;

@@ -3,20 +3,18 @@ ghost use Rattle.std.specs.Prelude.{◌≡◌, ◌<◌, ◌≤◌, length, map, 
 ghost use Rattle.event_arena.specs.Changes.{changed, has_target, with_comment, with_ops, with_target};
 ghost use Rattle.plain_model.specs.Lookups.{find_event, id_of};
 ghost use Rattle.plain_model.specs.declared.id.AnyId.TheVariants.{Commit};
-ghost use Rattle.squash_delete.specs.Leaving.{event_after, staying, with_takings};
+ghost use Rattle.plan_steps.specs.Leaving.{event_after, staying, with_takings};
 ghost use Rattle.squash_delete.specs.Sources.{AreSources, HasTakenOver, MovesOn, NoneTakes, TakesFrom, TakesOver, push_of};
-ghost use Rattle.squash_delete.specs.Targets.{AreMoves};
+ghost use Rattle.plan_steps.specs.Targets.{AreMoves};
 ghost use Rattle.squash_laws.specs.Removed.{Takings};
 ghost use Rattle.squash_laws.specs.declared.policy.Push.TheVariants.{Discard};
 
 use crate::chains::{LinkTable, begins_anew, carried, links};
 use crate::hangings::{Hangings, hangings};
-use crate::removal::Removal;
 use crate::taking::{Taking, comment_taken, ops_taken};
-use crate::targets::{lost_at, target_at};
 use event_arena::Plan;
 use plain_model::{AnyId, CommitId, MAX_OPERATIONS, NoMemory, OpList, PlainEvent, Text};
-use plan_steps::event_parents;
+use plan_steps::{Selected, event_parents, lost_at, target_at};
 use squash_laws::Push;
 use std::alloc::Global;
 
@@ -47,7 +45,7 @@ fn give(plan: &mut Plan, commit: CommitId, ops: OpList, comment: Text) -> Result
 // or fewer.
 fn take(
     alloc: Global,
-    removal: &Removal,
+    removal: &Selected,
     plan: &mut Plan,
     place: usize,
     taking: &Taking,
@@ -68,8 +66,8 @@ fn take(
     if taking.is_nothing() {
         return Ok(ops.as_slice().len() as u64);
     }
-    let ops = ops_taken(alloc, removal.events(), taking, ops.as_slice())?;
-    let comment = comment_taken(alloc, removal.events(), taking, comment.as_slice())?;
+    let ops = ops_taken(alloc, removal.list(), taking, ops.as_slice())?;
+    let comment = comment_taken(alloc, removal.list(), taking, comment.as_slice())?;
     let count = ops.as_slice().len() as u64;
     give(plan, *id, ops, comment)?;
     Ok(count)
@@ -84,7 +82,7 @@ pub enum Sources {
 }
 
 // Those of a squash whose operations aren't discarded.
-fn find_sources(alloc: Global, removal: &Removal, push: Push) -> Result<Option<Sources>, NoMemory>
+fn find_sources(alloc: Global, removal: &Selected, push: Push) -> Result<Option<Sources>, NoMemory>
     ensures { IfOk result (λ found. MatchOption found (push ≡ Discard)
         (λ sources. AreSources removal.now.set removal.now.events sources × (push_of sources ≡ push))) }
 {
@@ -98,7 +96,7 @@ fn find_sources(alloc: Global, removal: &Removal, push: Push) -> Result<Option<S
 // Lets the event at a place take over what its sources have for it; answers how many operations it has then, or fewer.
 fn take_from(
     alloc: Global,
-    removal: &Removal,
+    removal: &Selected,
     plan: &mut Plan,
     place: usize,
     sources: &Sources,
@@ -134,7 +132,7 @@ fn take_from(
 
 // The next place, this one or a later one, of an event that may take over something; the end, where there is none. What is
 // pushed forward goes to near events alone.
-fn next_taking(removal: &Removal, sources: &Sources, place: usize) -> usize
+fn next_taking(removal: &Selected, sources: &Sources, place: usize) -> usize
     requires { place ≤ length removal.now.events }
     ensures later { place ≤ result }
     ensures within { result ≤ length removal.now.events }
@@ -151,7 +149,7 @@ fn next_taking(removal: &Removal, sources: &Sources, place: usize) -> usize
 // operations than a history may have, and answers false.
 fn take_all(
     alloc: Global,
-    removal: &Removal,
+    removal: &Selected,
     plan: &mut Plan,
     sources: &Sources,
     bounded: bool,
@@ -180,7 +178,7 @@ fn take_all(
 /// are more operations than a history may have, and answers false.
 pub fn take_over(
     alloc: Global,
-    removal: &Removal,
+    removal: &Selected,
     plan: &mut Plan,
     push: Push,
     bounded: bool,
@@ -209,7 +207,7 @@ fn retarget(plan: &mut Plan, event: &PlainEvent, target: CommitId) -> Result<(),
 
 // Puts the tag or the reset at a place on the commit to which it goes.
 fn move_at(
-    removal: &Removal,
+    removal: &Selected,
     plan: &mut Plan,
     targets: &[Option<CommitId>],
     place: usize,
@@ -233,7 +231,7 @@ fn move_at(
 
 /// Puts tags and resets on the commits to which they go.
 pub fn move_all(
-    removal: &Removal,
+    removal: &Selected,
     plan: &mut Plan,
     targets: &[Option<CommitId>],
 ) -> Result<(), NoMemory>

@@ -2,7 +2,7 @@
 ghost use Rattle.std.specs.Prelude.{◌≡◌, OnOk};
 ghost use Rattle.event_arena.specs.Changes.{changed, with_parents};
 ghost use Rattle.plain_model.specs.declared.id.AnyId.TheVariants.{Commit};
-ghost use Rattle.squash_delete.specs.Leaving.{with_all_parents};
+ghost use Rattle.plan_steps.specs.Leaving.{with_all_parents};
 
 use event_arena::Plan;
 use graph_walk::ParentChanges;

@@ -4,20 +4,20 @@ ghost use Rattle.edit_laws.specs.Parts.{AreComplete};
 ghost use Rattle.edit_laws.specs.Settling.{is_ready, settle};
 ghost use Rattle.graph_walk.specs.Outcome.{IsCauseOf};
 ghost use Rattle.plain_model.specs.Lookups.{id_of, place_of};
-ghost use Rattle.squash_delete.specs.Near.{AreReadyNear};
+ghost use Rattle.plan_steps.specs.Near.{AreReadyNear};
 ghost use Rattle.squash_laws.specs.Removed.{without_set};
 ghost use Rattle.squash_laws.specs.Squash.{takes};
 
-use crate::removal::Removal;
 use edit_laws::settling_orders;
 use event_arena::Plan;
 use graph_walk::{is_ready_at, settle};
 use plain_model::Halt;
+use plan_steps::Selected;
 use squash_laws::{Policy, Push};
 use std::alloc::Global;
 
 // Whether what is left of the event at a place is after all that it refers to.
-fn is_settled_at(removal: &Removal, plan: &Plan, place: usize) -> bool
+fn is_settled_at(removal: &Selected, plan: &Plan, place: usize) -> bool
     requires { place < length removal.now.events }
     ensures { (event left : _) (at : _) → slice_get removal.now.events place ≡ Some event →
         place_of (id_of event) plan.now.after ≡ Some at → slice_get plan.now.after at ≡ Some left →
@@ -31,7 +31,7 @@ fn is_settled_at(removal: &Removal, plan: &Plan, place: usize) -> bool
 }
 
 // Whether each near event is after all that it refers to.
-fn are_near_settled(removal: &Removal, plan: &Plan) -> bool
+fn are_near_settled(removal: &Selected, plan: &Plan) -> bool
     ensures { result ≡ true → AreReadyNear removal.now.set removal.now.events plan.now.after }
 {
     let count = removal.count();
@@ -49,7 +49,7 @@ fn are_near_settled(removal: &Removal, plan: &Plan) -> bool
 /// mostly a look at them does.
 pub fn settle_left(
     alloc: Global,
-    removal: &Removal,
+    removal: &Selected,
     plan: &mut Plan,
     how: Policy,
 ) -> Result<(), Halt>

@@ -7,36 +7,37 @@ ghost use Rattle.plain_model.specs.Faults.{Returns};
 ghost use Rattle.plain_model.specs.Histories.{IsLinkedPast, past};
 ghost use Rattle.plain_model.specs.Soundness.{IsSound};
 ghost use Rattle.squash_delete.specs.Judged.{AreMany, IsLeftOf, ParentsAre};
-ghost use Rattle.squash_delete.specs.Leaving.{staying, with_own_parents};
-ghost use Rattle.squash_delete.specs.Targets.{AreMoves};
+ghost use Rattle.plan_steps.specs.Leaving.{staying, with_own_parents};
+ghost use Rattle.plan_steps.specs.Targets.{AreMoves};
 ghost use Rattle.squash_laws.specs.Faults.{fault_before, squash_of, trees_checked};
 ghost use Rattle.squash_laws.specs.Removed.{Takings};
 ghost use Rattle.squash_laws.specs.Squash.{takes};
 
 use crate::backing::fault_before;
 use crate::counting::{Left, judge};
-use crate::leaving::leaving;
 use crate::moving::{move_all, take_over};
 use crate::parents::give_parents;
-use crate::removal::Removal;
 use crate::settling::settle_left;
-use crate::sweeping::sweep_removed;
-use crate::targets::{Targets, targets};
 use event_arena::{Events, Plan};
 use graph_walk::{ParentChanges, parent_changes};
 use manifest_cache::Manifests;
-use plain_model::{AnyId, Halt, MAX_EVENTS, NoMemory};
+use plain_model::{AnyId, Halt, IdList, MAX_EVENTS, NoMemory};
+use plan_steps::{Selected, Targets, leaving_ids, sweep_removed, targets_of};
 use squash_laws::{Policy, Push, a_squash_keeps_soundness};
 use std::alloc::Global;
 
 // The parents that commits get in place of removed ones, unless one gets more than a commit can have.
-fn few_parents(alloc: Global, removal: &Removal) -> Result<Option<ParentChanges>, NoMemory>
+fn few_parents(
+    alloc: Global,
+    events: &Events,
+    set: &IdList,
+) -> Result<Option<ParentChanges>, NoMemory>
     ensures { IfOk result (λ found. MatchOption found
-        (AreMany (parent_changes removal.now.events removal.now.set))
-        (λ changes. (changes ≡ parent_changes removal.now.events removal.now.set)
-        × AreFew (parent_changes removal.now.events removal.now.set))) }
+        (AreMany (parent_changes events.now.list set.now))
+        (λ changes. (changes ≡ parent_changes events.now.list set.now)
+        × AreFew (parent_changes events.now.list set.now))) }
 {
-    match parent_changes(alloc, removal.events(), removal.set()) {
+    match parent_changes(alloc, events, set) {
         Ok(changes) => Ok(Some(changes)),
         Err(Halt::Refused(_)) => Ok(None),
         Err(Halt::Memory) => Err(NoMemory),
@@ -60,7 +61,7 @@ fn check_trees(manifests: &mut Manifests, plan: &Plan, push: Push) -> Result<(),
 fn take_away(
     alloc: Global,
     plan: &mut Plan,
-    removal: &Removal,
+    removal: &Selected,
     targets: &Targets,
 ) -> Result<(), NoMemory>
     requires { plan.old.after ≡ removal.now.events }
@@ -69,12 +70,18 @@ fn take_away(
         plan.new ≡ record plan.old { after = staying removal.now.set takes removal.now.events }) }
 {
     let _count = plan.count();
-    let ids = leaving(alloc, removal, targets)?;
+    let ids = leaving_ids(alloc, removal, targets)?;
     plan.remove_all(&ids)
 }
 
 // Gives the commits that stay the parents that they get, if each gets few enough; answers whether it does.
-fn set_parents(alloc: Global, removal: &Removal, plan: &mut Plan) -> Result<bool, NoMemory>
+fn set_parents(
+    alloc: Global,
+    events: &Events,
+    removal: &Selected,
+    plan: &mut Plan,
+) -> Result<bool, NoMemory>
+    requires { events.now.list ≡ removal.now.events }
     ensures { IfOk result (λ few. (takes : Takings) →
         plan.old.after ≡ staying removal.now.set takes removal.now.events → (parents_of : _)
         × ParentsAre removal.now.set removal.now.events takes few parents_of
@@ -83,7 +90,7 @@ fn set_parents(alloc: Global, removal: &Removal, plan: &mut Plan) -> Result<bool
         })) }
 {
     let _count = removal.count();
-    match few_parents(alloc, removal)? {
+    match few_parents(alloc, events, removal.set())? {
         Some(changes) => {
             give_parents(plan, &changes)?;
             Ok(true)
@@ -94,15 +101,22 @@ fn set_parents(alloc: Global, removal: &Removal, plan: &mut Plan) -> Result<bool
 
 // What a squash leaves of a plan's list, not settled yet. Where a history has no more events than it may have, its
 // operations are judged while they are made, since a fork can repeat them without end.
-fn leave(alloc: Global, removal: &Removal, plan: &mut Plan, how: Policy) -> Result<Left, NoMemory>
+fn remove_set(
+    alloc: Global,
+    events: &Events,
+    removal: &Selected,
+    plan: &mut Plan,
+    how: Policy,
+) -> Result<Left, NoMemory>
+    requires list { events.now.list ≡ removal.now.events }
     requires after { plan.old.after ≡ removal.now.events }
     requires before { plan.old.before ≡ removal.now.events }
     ensures { IfOk result (λ left. IsLeftOf removal.now.set removal.now.events
         (takes removal.now.set removal.now.events how) plan.old left plan.new) }
 {
-    let targets = targets(alloc, removal, how)?;
+    let targets = targets_of(alloc, removal, how)?;
     take_away(alloc, plan, removal, &targets)?;
-    let few = set_parents(alloc, removal, plan)?;
+    let few = set_parents(alloc, events, removal, plan)?;
     let bounded = removal.count() as u64 <= MAX_EVENTS;
     let whole = take_over(alloc, removal, plan, how.push, bounded)?;
     if !whole {
@@ -116,11 +130,13 @@ fn leave(alloc: Global, removal: &Removal, plan: &mut Plan, how: Policy) -> Resu
 // Takes the events of a set out of a plan of their history, where no commit of it is one that can't be pushed back.
 fn remove_all(
     alloc: Global,
+    events: &Events,
     manifests: &mut Manifests,
-    removal: &Removal,
+    removal: &Selected,
     plan: &mut Plan,
     how: Policy,
 ) -> Result<(), Halt>
+    requires list { events.now.list ≡ removal.now.events }
     requires agrees { AgreesWith removal.now.events manifests.old }
     requires sound { IsSound removal.now.events }
     requires none { fault_before how.push removal.now.set removal.now.events ≡ None }
@@ -132,7 +148,7 @@ fn remove_all(
     ensures sound { OnOk result (IsSound plan.new.after) }
     ensures kept { manifests.new ≡ manifests.old }
 {
-    let left = leave(alloc, removal, plan, how)?;
+    let left = remove_set(alloc, events, removal, plan, how)?;
     if let Err(fault) = judge(plan, left) {
         return Err(Halt::Refused(fault));
     }
@@ -164,11 +180,11 @@ pub fn squash(
     ensures kept { manifests.new ≡ manifests.old }
 {
     let _count = events.count();
-    let removal = Removal::new(alloc, events, set)?;
+    let removal = Selected::of(alloc, events, set)?;
     if let Some(fault) = fault_before(alloc, &removal, how.push)? {
         return Err(Halt::Refused(fault));
     }
     let mut plan = Plan::new(alloc, events)?;
-    remove_all(alloc, manifests, &removal, &mut plan, how)?;
+    remove_all(alloc, events, manifests, &removal, &mut plan, how)?;
     Ok(plan)
 }

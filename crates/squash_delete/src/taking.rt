@@ -4,9 +4,9 @@ ghost use Rattle.manifest_cache.specs.Walks.{ops_at};
 ghost use Rattle.squash_delete.specs.Taking.{comment_taken, event_comment, is_nothing, ops_taken};
 ghost use Rattle.squash_laws.specs.Comments.{comment_of, joined, joined_two};
 
-use event_arena::Events;
+use event_arena::EventTable;
 use plain_model::{AnyId, CommitId, FileOp, NoMemory, OpList, PlainEvent, Text};
-use plan_steps::{ops_of, push_ops};
+use plan_steps::{event_ops, push_ops};
 use std::alloc::Global;
 use std::marker::Model;
 
@@ -21,21 +21,31 @@ fn event_comment(event: &PlainEvent) -> &[u8]
 }
 
 // The comment of a commit.
-fn comment_at(events: &Events, commit: CommitId) -> &[u8]
-    ensures { result.now ≡ comment_of events.now.list commit }
+fn comment_at(list: &EventTable, commit: CommitId) -> &[u8]
+    ensures { result.now ≡ comment_of list.now commit }
 {
-    match events.event(AnyId::Commit(commit)) {
+    match list.event(AnyId::Commit(commit)) {
         Some(event) => event_comment(event),
         None => &[],
     }
 }
 
+// The operations of a commit.
+fn ops_at(list: &EventTable, commit: CommitId) -> &[FileOp]
+    ensures { result.now ≡ ops_at list.now commit }
+{
+    match list.event(AnyId::Commit(commit)) {
+        Some(event) => event_ops(event),
+        None => &[],
+    }
+}
+
 // Puts copies of the operations of commits at the end.
-fn push_ops_of(events: &Events, commits: &[CommitId], ops: &mut OpList) -> Result<(), NoMemory>
-    ensures { OnOk result (ops.new ≡ ops.old ++ flat_map (ops_at events.now.list) commits.now) }
+fn push_ops_of(list: &EventTable, commits: &[CommitId], ops: &mut OpList) -> Result<(), NoMemory>
+    ensures { OnOk result (ops.new ≡ ops.old ++ flat_map (ops_at list.now) commits.now) }
 {
     for commit in commits {
-        push_ops(ops, ops_of(events, *commit))?;
+        push_ops(ops, ops_at(list, *commit))?;
     }
     Ok(())
 }
@@ -81,19 +91,19 @@ impl<'a> Taking<'a> {
 /// The operations that it has then.
 pub fn ops_taken(
     alloc: Global,
-    events: &Events,
+    list: &EventTable,
     taking: &Taking,
     own: &[FileOp],
 ) -> Result<OpList, NoMemory>
-    ensures { IfOk result (λ ops. ops ≡ ops_taken events.now.list taking.now own.now) }
+    ensures { IfOk result (λ ops. ops ≡ ops_taken list.now taking.now own.now) }
 {
     let mut ops = OpList::empty(alloc);
     if taking.anew {
         ops.push(FileOp::DeleteAll)?;
     }
-    push_ops_of(events, taking.before, &mut ops)?;
+    push_ops_of(list, taking.before, &mut ops)?;
     push_ops(&mut ops, own)?;
-    push_ops_of(events, taking.after, &mut ops)?;
+    push_ops_of(list, taking.after, &mut ops)?;
     Ok(ops)
 }
 
@@ -111,12 +121,12 @@ fn join(text: &mut Text, comment: &[u8]) -> Result<(), NoMemory>
 }
 
 // Joins the comments of commits to those before them.
-fn join_all(events: &Events, commits: &[CommitId], text: &mut Text) -> Result<(), NoMemory>
+fn join_all(list: &EventTable, commits: &[CommitId], text: &mut Text) -> Result<(), NoMemory>
     ensures { OnOk result (text.new
-        ≡ joined (text.old ∷ map (comment_of events.now.list) commits.now)) }
+        ≡ joined (text.old ∷ map (comment_of list.now) commits.now)) }
 {
     for commit in commits {
-        join(text, comment_at(events, *commit))?;
+        join(text, comment_at(list, *commit))?;
     }
     Ok(())
 }
@@ -124,15 +134,15 @@ fn join_all(events: &Events, commits: &[CommitId], text: &mut Text) -> Result<()
 /// The comment that it has then.
 pub fn comment_taken(
     alloc: Global,
-    events: &Events,
+    list: &EventTable,
     taking: &Taking,
     own: &[u8],
 ) -> Result<Text, NoMemory>
-    ensures { IfOk result (λ comment. comment ≡ comment_taken events.now.list taking.now own.now) }
+    ensures { IfOk result (λ comment. comment ≡ comment_taken list.now taking.now own.now) }
 {
     let mut comment = Text::empty(alloc);
-    join_all(events, taking.before, &mut comment)?;
+    join_all(list, taking.before, &mut comment)?;
     join(&mut comment, own)?;
-    join_all(events, taking.after, &mut comment)?;
+    join_all(list, taking.after, &mut comment)?;
     Ok(comment)
 }

@@ -1,7 +1,7 @@
 use Rattle.std.proofs.Common.{◌≡◌, ◌∙◌, [], List, ℕ, Option, arith, ap, subst, sym}
 use Rattle.std.specs.Option.{option_map_or}
 use Rattle.plain_model.specs.declared.event.PlainEvent.{PlainEvent}
-use Rattle.squash_delete.specs.Chains.{depth, parents_at}
+use Rattle.plan_steps.specs.Depths.{depth, parents_at}
 use Rattle.coalesce_simplify.specs.Joining.{first_joined}
 use Rattle.coalesce_simplify.proofs.Walks.{IsOn, shallower, walk_begins, walk_goes_on}
 use Rattle.coalesce_simplify.proofs.chains.joined_before.Goals as goal

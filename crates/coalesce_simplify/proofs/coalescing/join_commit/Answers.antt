@@ -10,7 +10,7 @@ use Rattle.event_arena.specs.Changes.{changed, with_ops, with_parents}
 use Rattle.graph_walk.proofs.TurnLemmas.{on_ok}
 use Rattle.manifest_cache.specs.Walks.{ops_at}
 use Rattle.squash_laws.specs.Squash.{links}
-use Rattle.squash_delete.specs.Chains.{parents_at}
+use Rattle.plan_steps.specs.Depths.{parents_at}
 use Rattle.coalesce_laws.specs.Remaining.{parents_of_oldest}
 use Rattle.plan_steps.proofs.Steps.{kept}
 use Rattle.coalesce_simplify.proofs.Walks.{none_walked, ops_walked, parents_walked}

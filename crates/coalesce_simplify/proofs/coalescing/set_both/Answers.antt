@@ -6,7 +6,7 @@ use Rattle.plain_model.specs.Lookups.{find_event}
 use Rattle.event_arena.specs.Changes.{changed, with_ops, with_parents}
 use Rattle.event_arena.specs.Graphs.{Change}
 use Rattle.graph_walk.proofs.TurnLemmas.{on_ok}
-use Rattle.squash_delete.proofs.TakingLemmas.{changed_there, changed_twice, ops_id}
+use Rattle.plan_steps.proofs.Steps.{changed_there, changed_twice, ops_id}
 use Rattle.coalesce_simplify.proofs.coalescing.set_both.Goals as goal
 
 pub set_parents-requires : goal.set_parents-requires

@@ -5,7 +5,7 @@ use Rattle.plain_model.specs.Lookups.{is_listed, place_of}
 use Rattle.history_laws.proofs.Ids.{placeless}
 use Rattle.graph_walk.proofs.PlaceLemmas.{event_placed}
 use Rattle.squash_laws.specs.Removed.{is_removed}
-use Rattle.squash_delete.proofs.WayLemmas.{commit_own}
+use Rattle.plan_steps.proofs.WayLemmas.{commit_own}
 use Rattle.coalesce_simplify.proofs.Leading.{absent_stays, end_gone, end_stays}
 use Rattle.coalesce_simplify.proofs.ends.end_of.Goals as goal
 

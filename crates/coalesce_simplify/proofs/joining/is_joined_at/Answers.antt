@@ -5,7 +5,7 @@ use Rattle.plain_model.specs.declared.id.AnyId.TheVariants as any
 use Rattle.plain_model.specs.Lookups.{children_of, find_event, id_of}
 use Rattle.history_laws.proofs.Ids.{find-id}
 use Rattle.manifest_cache.specs.Walks.{commit_id}
-use Rattle.squash_delete.proofs.WayLemmas.{commit_own, no_id}
+use Rattle.plan_steps.proofs.WayLemmas.{commit_own, no_id}
 use Rattle.coalesce_simplify.specs.Joining.{only_of}
 use Rattle.coalesce_simplify.proofs.Joins.{by_child, lost_child, no_child, others_stay, passes, unselected}
 use Rattle.coalesce_simplify.proofs.joining.is_joined_at.Goals as goal

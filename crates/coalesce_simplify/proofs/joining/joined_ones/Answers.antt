@@ -4,7 +4,7 @@ use Rattle.plain_model.specs.declared.event.PlainEvent.{PlainEvent}
 use Rattle.plain_model.specs.Lookups.{id_of}
 use Rattle.history_laws.proofs.Lists.{item_at}
 use Rattle.event_arena.proofs.ListLemmas.{take-all}
-use Rattle.squash_delete.proofs.SweepLemmas.{passing_item}
+use Rattle.plan_steps.proofs.SweepLemmas.{passing_item}
 use Rattle.coalesce_simplify.proofs.Joins.{passes}
 use Rattle.coalesce_simplify.proofs.joining.joined_ones.Goals as goal
 use Rattle.coalesce_simplify.proofs.joining.joined_ones.Goals.{then-is_joined_at+in_ok-push, else-is_joined_at}

@@ -7,7 +7,7 @@ use Rattle.plain_model.specs.declared.id.AnyId.TheVariants as any
 use Rattle.event_arena.specs.Changes.{changed, with_ops}
 use Rattle.graph_walk.proofs.TurnLemmas.{on_ok}
 use Rattle.simplify_laws.specs.Simplify.{simpler}
-use Rattle.squash_delete.proofs.WayLemmas.{no_id}
+use Rattle.plan_steps.proofs.WayLemmas.{no_id}
 use Rattle.coalesce_simplify.specs.Voiding.{simple_event}
 use Rattle.plan_steps.proofs.Steps.{alike_of, kept_of}
 use Rattle.coalesce_simplify.proofs.Voided.{no_commit}

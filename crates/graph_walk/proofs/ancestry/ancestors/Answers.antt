@@ -1,5 +1,6 @@
-use Rattle.std.proofs.Common.{◌≡◌, ◌∙◌, ◌++◌, take, drop, ◌-◌, ◌+◌, suc, List, Bool, false, cond, [], get_or, length, arith, ap, subst, sym}
+use Rattle.std.proofs.Common.{◌≡◌, ◌∙◌, ◌++◌, take, drop, ◌-◌, ◌+◌, suc, List, Bool, false, cond, [], get_or, length, replicate, arith, ap, subst, sym}
 use Rattle.std.proofs.lemmas.List.{length-replicate}
+use Rattle.plain_model.specs.declared.event.PlainEvent.{PlainEvent}
 use Rattle.plain_model.specs.Lookups.{event_parents}
 use Rattle.history_laws.proofs.Lists.{item_at}
 use Rattle.history_laws.proofs.SoundOnce.{sound-once}
@@ -16,8 +17,9 @@ loop-done-init c =
     let old = c.in_ok-flags.flags.items in
     let new = c.flag_all.new.flags in
     let more : FlagsMore events c.args.set.now old new = subst (λ (fs : List Bool). FlagsMore events c.args.set.now fs new) c.deref_mut.ensures.value c.flag_all.ensures in
-    let counted : length old ≡ length events = ap length c.in_ok-flags.ensures ∙ length-replicate (length events) false in
-    let first = closed_first events sound once c.args.set.now (c.count-count.result - 0) old new (let count = c.count-count.ensures.count in omega arith) counted (λ j. ap (λ (fs : List Bool). get_or fs j false) c.in_ok-flags.ensures ∙ no_flag (length events) j) more in
+    let none : old ≡ replicate (length events) false = c.in_ok-flags.ensures ∙ ap (λ (es : List PlainEvent). replicate (length es) false) c.table.ensures.table in
+    let counted : length old ≡ length events = ap length none ∙ length-replicate (length events) false in
+    let first = closed_first events sound once c.args.set.now (c.count-count.result - 0) old new (let count = c.count-count.ensures.count in omega arith) counted (λ j. ap (λ (fs : List Bool). get_or fs j false) none ∙ no_flag (length events) j) more in
     let old_count : length old ≡ c.in_ok-flags.flags.len = ap length (sym c.deref_mut.ensures.value) ∙ c.deref_mut.ensures.len in
     subst (AreClosedFrom events c.args.set.now _) (sym (refilled c.in_ok-flags.flags.len new old (more.count ∙ old_count) old_count)) first
 

@@ -6,7 +6,7 @@ use Rattle.plain_model.specs.declared.event.PlainEvent.{PlainEvent}
 use Rattle.plain_model.specs.Lookups.{id_of}
 use Rattle.event_arena.proofs.ListLemmas.{take-all}
 use Rattle.expunge_laws.specs.Expunged.{is_emptied, replaced_event}
-use Rattle.squash_delete.proofs.SweepLemmas.{passing_item}
+use Rattle.plan_steps.proofs.SweepLemmas.{passing_item}
 use Rattle.plan_steps.proofs.Steps.{item_map}
 use Rattle.path_expunge.proofs.emptied.emptied.Goals as goal
 use Rattle.path_expunge.proofs.emptied.emptied.Goals.{then-is_emptied+in_ok-push, else-is_emptied}

@@ -5,15 +5,18 @@ use Rattle.std.proofs.lemmas.Option.{same_Some}
 use Rattle.plain_model.specs.declared.id.AnyId.TheVariants as any
 use Rattle.plain_model.specs.declared.event.PlainEvent.{PlainEvent}
 use Rattle.plain_model.specs.declared.event.PlainEvent.TheVariants.{Commit}
-use Rattle.plain_model.specs.Lookups.{find_event}
+use Rattle.plain_model.specs.Lookups.{find_event, id_of, is_listed}
 use Rattle.edit_laws.proofs.Lists.{OfNodes, nodes_of_events}
 use Rattle.expunge_laws.specs.InLine.{IsInLine}
 use Rattle.graph_walk.proofs.FlagLemmas.{if_ok}
 use Rattle.graph_walk.proofs.TurnLemmas.{all_at}
 use Rattle.squash_laws.specs.Removed.{is_removed}
-use Rattle.squash_delete.proofs.NodeLemmas.{parents_there}
-use Rattle.path_expunge.specs.Fates.{IsCommitFate, fated, given_way}
-use Rattle.path_expunge.proofs.FateLemmas.{commit_fated}
+use Rattle.squash_laws.specs.declared.policy.Lean.TheVariants as lean
+use Rattle.plan_steps.specs.Targets.{moving, target_for}
+use Rattle.plan_steps.proofs.NodeLemmas.{parents_there}
+use Rattle.path_expunge.specs.declared.fates.Fate.{Fate}
+use Rattle.path_expunge.specs.Fates.{IsCommitFate, fated, given_way, target_fate}
+use Rattle.path_expunge.proofs.FateLemmas.{commit_fated, target_fated}
 use Rattle.path_expunge.proofs.fates.fate_at.Goals as goal
 
 pub commit_fate-requires-clause-there : goal.commit_fate-requires-clause-there
@@ -38,3 +41,15 @@ returns-in-Commit c =
     subst (λ (y : PlainEvent). given_way fate y ≡ fated set events y) (same_Some e event (sym here ∙ at))
     (commit_fated set events x.id x.mark x.branch x.author x.committer x.encoding x.comment x.parents x.ops x.aliases line.0 stays fate
     (subst (λ (ps : List ℕ). IsCommitFate set events ps fate) c.as_slice.ensures its))) c.commit_fate.ensures
+
+pub returns-in_default : goal.returns-in_default
+returns-in_default c event at =
+    let events = c.args.removal.now.events in
+    let set = c.args.removal.now.set in
+    let e = c.nth-event.result.now in
+    let here = c.nth-event.ensures.event in
+    let fate : c.target_fate.result ≡ target_fate (target_for Some e) (target_for (moving set events lean.Forward) e) =
+    c.target_fate.ensures ∙ (λ i. target_fate (c.target_of.ensures i) (c.target_in.ensures e here i)) in
+    let out : is_listed (id_of e) set ≡ false = sym (c.has_at.ensures e here) ∙ c.if-has_at.false in
+    subst (λ (y : PlainEvent). given_way c.target_fate.result y ≡ fated set events y) (same_Some e event (sym here ∙ at))
+    (ap (λ (f : Fate). given_way f e) fate ∙ target_fated set events e out c.in_default.not-Commit)

@@ -1,6 +1,6 @@
 use Rattle.path_expunge.specs.declared.fates.Fate.TheVariants.{Same}
 use Rattle.path_expunge.specs.Fates.{FateIs}
-use Rattle.squash_delete.specs.Tables.{IsTableTo}
+use Rattle.plan_steps.specs.Tables.{IsTableTo}
 use Rattle.path_expunge.proofs.fates.fates.Given as goal
 
 abbrev pub invariant-loop-place : goal.invariant-loop-place

@@ -10,7 +10,7 @@ use Rattle.plain_model.specs.Lookups.{find_event, id_of}
 use Rattle.event_arena.specs.Changes.{changed, with_ops, with_parents}
 use Rattle.event_arena.specs.Graphs.{Change}
 use Rattle.graph_walk.proofs.TurnLemmas.{on_ok}
-use Rattle.squash_delete.proofs.TakingLemmas.{changed_there, changed_twice}
+use Rattle.plan_steps.proofs.Steps.{changed_there, changed_twice}
 use Rattle.path_expunge.specs.Fates.{begun_anew}
 use Rattle.path_expunge.proofs.FateLemmas.{not_anew, parents_id}
 use Rattle.plan_steps.proofs.Steps.{alike_of, kept_of}

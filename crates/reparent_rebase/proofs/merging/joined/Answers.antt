@@ -9,7 +9,7 @@ use Rattle.event_arena.specs.Graphs.{Change}
 use Rattle.event_arena.specs.Plans.{leaving}
 use Rattle.commit_laws.specs.Selected.{node_of}
 use Rattle.reparent_laws.specs.Merge.{merges, ops_with_parent, with_parent}
-use Rattle.squash_delete.proofs.SweepLemmas.{nil_of}
+use Rattle.plan_steps.proofs.SweepLemmas.{nil_of}
 use Rattle.reparent_rebase.proofs.Answered.{no_root}
 use Rattle.reparent_rebase.proofs.Rewritten.{both_given, parents_given}
 use Rattle.reparent_rebase.proofs.merging.joined.Goals as goal

@@ -3,8 +3,8 @@ use Rattle.std.specs.Prelude.{slice_get}
 use Rattle.plain_model.specs.Lookups.{event_parents}
 use Rattle.manifest_cache.specs.Walks.{commit_id}
 use Rattle.squash_delete.proofs.HangLemmas.{counted_more, counted_same, few_children, no_parents, take_short}
-use Rattle.squash_delete.proofs.NodeLemmas.{earlier_there}
-use Rattle.squash_delete.proofs.WayLemmas.{first_known, is_placed, no_id}
+use Rattle.plan_steps.proofs.NodeLemmas.{earlier_there}
+use Rattle.plan_steps.proofs.WayLemmas.{first_known, is_placed, no_id}
 use Rattle.squash_delete.proofs.backing.count_child.Goals as goal
 
 pub place-requires : goal.place-requires

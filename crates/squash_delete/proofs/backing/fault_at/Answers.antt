@@ -10,8 +10,8 @@ use Rattle.squash_laws.specs.Faults.{back_fault, first_children}
 use Rattle.squash_laws.specs.Removed.{is_removed}
 use Rattle.squash_delete.specs.Backing.{own_fault}
 use Rattle.squash_delete.proofs.HangLemmas.{is_fork, no_fork}
-use Rattle.squash_delete.proofs.NodeLemmas.{earlier_there}
-use Rattle.squash_delete.proofs.WayLemmas.{first_known, is_placed, removed_at}
+use Rattle.plan_steps.proofs.NodeLemmas.{earlier_there}
+use Rattle.plan_steps.proofs.WayLemmas.{first_known, is_placed, removed_at}
 use Rattle.squash_delete.proofs.backing.fault_at.Goals as goal
 
 pub place-requires : goal.place-requires

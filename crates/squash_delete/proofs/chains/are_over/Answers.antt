@@ -7,7 +7,7 @@ use Rattle.event_arena.proofs.ListLemmas.{take-all}
 use Rattle.squash_laws.specs.Removed.{is_removed}
 use Rattle.squash_laws.specs.Squash.{is_none}
 use Rattle.squash_delete.proofs.ChainLemmas.{not_all, over_each}
-use Rattle.squash_delete.proofs.WayLemmas.{not_so}
+use Rattle.plan_steps.proofs.WayLemmas.{not_so}
 use Rattle.squash_delete.proofs.chains.are_over.Goals as goal
 
 pub returns-then-not-link_of : goal.returns-then-not-link_of

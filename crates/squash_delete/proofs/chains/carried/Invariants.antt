@@ -1,5 +1,5 @@
 use Rattle.std.specs.Option.{option_map_or}
-use Rattle.squash_delete.specs.Chains.{depth}
+use Rattle.plan_steps.specs.Depths.{depth}
 use Rattle.squash_delete.proofs.ChainLemmas.{IsOnTheWay}
 use Rattle.squash_delete.proofs.chains.carried.Given as goal
 

@@ -14,7 +14,7 @@ use Rattle.squash_laws.specs.Squash.{is_from_root, is_none, links}
 use Rattle.squash_delete.specs.Chains.{IsNearest, Notes}
 use Rattle.squash_delete.specs.Taking.{event_comment}
 use Rattle.squash_delete.proofs.ChainLemmas.{comment_found, notes_gone, notes_stays, own_before}
-use Rattle.squash_delete.proofs.WayLemmas.{own_commit, removed_at}
+use Rattle.plan_steps.proofs.WayLemmas.{own_commit, removed_at}
 use Rattle.squash_delete.proofs.chains.link_at.Goals as goal
 use Rattle.squash_delete.proofs.chains.link_at.Goals.{then-is_idle, else-is_idle}
 

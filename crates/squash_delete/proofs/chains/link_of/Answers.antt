@@ -1,8 +1,8 @@
 use Rattle.std.proofs.Common.{subst, sym}
 use Rattle.history_laws.proofs.SoundOnce.{sound-once}
 use Rattle.squash_delete.specs.Chains.{Notes}
-use Rattle.squash_delete.proofs.NodeLemmas.{earlier_there}
-use Rattle.squash_delete.proofs.WayLemmas.{is_early}
+use Rattle.plan_steps.proofs.NodeLemmas.{earlier_there}
+use Rattle.plan_steps.proofs.WayLemmas.{is_early}
 use Rattle.squash_delete.proofs.chains.link_of.Goals as goal
 
 pub place-requires : goal.place-requires

@@ -2,8 +2,10 @@ use Rattle.std.proofs.Common.{subst, sym, take}
 use Rattle.plain_model.specs.Soundness.{IsCommitOf}
 use Rattle.history_laws.proofs.SoundOnce.{sound-once}
 use Rattle.plan_steps.proofs.Nodes.{first_of}
-use Rattle.squash_delete.specs.Chains.{IsNearest, depth}
-use Rattle.squash_delete.proofs.ChainLemmas.{depth_before, nearest_none, nearest_some}
+use Rattle.plan_steps.specs.Depths.{depth}
+use Rattle.squash_delete.specs.Chains.{IsNearest}
+use Rattle.plan_steps.proofs.Depths.{depth_before}
+use Rattle.squash_delete.proofs.ChainLemmas.{nearest_none, nearest_some}
 use Rattle.squash_delete.proofs.chains.nearest.Goals as goal
 
 pub returns-in_err-parent : goal.returns-in_err-parent

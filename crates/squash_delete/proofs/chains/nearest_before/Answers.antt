@@ -6,9 +6,11 @@ use Rattle.plain_model.specs.declared.id.AnyId.TheVariants as any
 use Rattle.plain_model.specs.Lookups.{event_parents, find_event, place_of}
 use Rattle.history_laws.proofs.SoundOnce.{sound-once}
 use Rattle.graph_walk.proofs.PlaceLemmas.{place_found}
-use Rattle.squash_delete.specs.Chains.{IsNearest, depth, parents_at}
-use Rattle.squash_delete.proofs.ChainLemmas.{all_before, depth_at, nearest_nil, own_before}
-use Rattle.squash_delete.proofs.NodeLemmas.{found_at, parents_there}
+use Rattle.plan_steps.specs.Depths.{depth, parents_at}
+use Rattle.squash_delete.specs.Chains.{IsNearest}
+use Rattle.plan_steps.proofs.Depths.{depth_at}
+use Rattle.squash_delete.proofs.ChainLemmas.{all_before, nearest_nil, own_before}
+use Rattle.plan_steps.proofs.NodeLemmas.{found_at, parents_there}
 use Rattle.squash_delete.proofs.chains.nearest_before.Goals as goal
 
 pub nearest-requires-clause-before : goal.nearest-requires-clause-before
@@ -16,7 +18,7 @@ nearest-requires-clause-before c =
     let events = c.args.removal.now.events in
     let sound = c.count-count.ensures.sound in
     let e = c.in-Some.event.now in
-    let found : find_event (any.Commit c.args.commit) events ≡ Some e = sym (c.in-Some.ensures ∙ ap (find_event (any.Commit c.args.commit)) c.events.ensures) in
+    let found : find_event (any.Commit c.args.commit) events ≡ Some e = sym (c.in-Some.ensures ∙ ap (find_event (any.Commit c.args.commit)) c.list.ensures) in
     let a = found_at events sound c.args.commit e found in
     all_before events c.args.table.now.count (let count = c.requires.count in omega arith) c.event_parents.result.now
     (subst (AllByRecursion (λ p. IsSome (find_event (any.Commit p) events))) (sym c.event_parents.ensures) (parents_there events sound a.place e a.at))
@@ -27,7 +29,7 @@ returns-in-Some c =
     let set = c.args.removal.now.set in
     let sound = c.count-count.ensures.sound in
     let e = c.in-Some.event.now in
-    let found : find_event (any.Commit c.args.commit) events ≡ Some e = sym (c.in-Some.ensures ∙ ap (find_event (any.Commit c.args.commit)) c.events.ensures) in
+    let found : find_event (any.Commit c.args.commit) events ≡ Some e = sym (c.in-Some.ensures ∙ ap (find_event (any.Commit c.args.commit)) c.list.ensures) in
     let a = found_at events sound c.args.commit e found in
     let there : place_of (any.Commit c.args.commit) events ≡ Some a.place = ap (λ id. place_of id events) a.own ∙ (place_found events a.place e a.at (sound-once events sound).ids).0 in
     let deep = depth_at events c.args.commit a.place there in
@@ -41,5 +43,5 @@ pub returns-in-None : goal.returns-in-None
 returns-in-None c =
     let events = c.args.removal.now.events in
     let set = c.args.removal.now.set in
-    let found : find_event (any.Commit c.args.commit) events ≡ None = sym (c.in-None.ensures ∙ ap (find_event (any.Commit c.args.commit)) c.events.ensures) in
+    let found : find_event (any.Commit c.args.commit) events ≡ None = sym (c.in-None.ensures ∙ ap (find_event (any.Commit c.args.commit)) c.list.ensures) in
     subst (λ ps. IsNearest set events (depth events c.args.commit - 1) ps None) (sym (ap (λ o. option_map_or event_parents o []) found)) (nearest_nil set events (depth events c.args.commit - 1))

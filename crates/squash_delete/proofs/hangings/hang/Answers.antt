@@ -10,8 +10,8 @@ use Rattle.squash_laws.specs.Removed.{is_removed}
 use Rattle.squash_laws.specs.Squash.{back_of, is_it}
 use Rattle.squash_delete.specs.Hangings.{AreHungTo}
 use Rattle.squash_delete.proofs.HangLemmas.{back_there, hung_more, hung_same}
-use Rattle.squash_delete.proofs.Tables.{any_default}
-use Rattle.squash_delete.proofs.WayLemmas.{no_id, removed_at}
+use Rattle.plan_steps.proofs.Tables.{any_default}
+use Rattle.plan_steps.proofs.WayLemmas.{no_id, removed_at}
 use Rattle.squash_delete.proofs.hangings.hang.Goals as goal
 
 no_and : (b : Bool) → b && false ≡ false

@@ -3,7 +3,7 @@ use Rattle.std.specs.Prelude.{is_some}
 use Rattle.plain_model.specs.declared.event.PlainEvent.{PlainEvent}
 use Rattle.plain_model.specs.declared.id.AnyId.TheVariants as any
 use Rattle.event_arena.specs.Changes.{with_comment, with_ops}
-use Rattle.squash_delete.proofs.LeavingLemmas.{changed_nowhere, found_is}
+use Rattle.plan_steps.proofs.LeavingLemmas.{changed_nowhere, found_is}
 use Rattle.squash_delete.proofs.moving.give.Goals as goal
 
 pub set_both-requires : goal.set_both-requires

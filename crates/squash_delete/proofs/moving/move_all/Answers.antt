@@ -1,8 +1,8 @@
 use Rattle.std.proofs.Common.{◌∙◌, ◌+◌, List, not, add-one, arith, ap}
 use Rattle.plain_model.specs.declared.event.PlainEvent.{PlainEvent}
-use Rattle.squash_delete.specs.Leaving.{event_after, goes, with_takings}
-use Rattle.squash_delete.proofs.NearPlaces.{MovedTo, moved_over}
-use Rattle.squash_delete.proofs.Passes.{so_far_all}
+use Rattle.plan_steps.specs.Leaving.{event_after, goes, with_takings}
+use Rattle.squash_delete.proofs.MovedPlaces.{MovedTo, moved_over}
+use Rattle.plan_steps.proofs.Passes.{so_far_all}
 use Rattle.squash_delete.proofs.moving.move_all.Goals as goal
 
 pub loop-place-init : goal.loop-place-init

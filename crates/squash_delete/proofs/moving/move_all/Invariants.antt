@@ -1,8 +1,8 @@
 use Rattle.std.proofs.Common.{◌≡◌, ◌≤◌, ◌-◌, ℕ, List, length, map}
 use Rattle.squash_laws.specs.Removed.{Takings}
-use Rattle.squash_delete.specs.Leaving.{staying, with_takings}
-use Rattle.squash_delete.specs.Passes.{moved_to}
-use Rattle.squash_delete.specs.Targets.{AreMoves}
+use Rattle.plan_steps.specs.Leaving.{staying, with_takings}
+use Rattle.plan_steps.specs.Passes.{moved_to}
+use Rattle.plan_steps.specs.Targets.{AreMoves}
 use Rattle.squash_delete.proofs.moving.move_all.Given as goal
 
 abbrev pub invariant-loop-place : goal.invariant-loop-place

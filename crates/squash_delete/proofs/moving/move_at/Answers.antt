@@ -6,7 +6,7 @@ use Rattle.event_arena.specs.Changes.{changed, with_target}
 use Rattle.event_arena.specs.Graphs.{Change}
 use Rattle.graph_walk.proofs.TurnLemmas.{on_ok}
 use Rattle.squash_delete.proofs.MovingLemmas.{apart_moved, gone_moved, lost_moved, nowhere_lost, target_id}
-use Rattle.squash_delete.proofs.NearLemmas.{lost_is}
+use Rattle.plan_steps.proofs.NearLemmas.{lost_is}
 use Rattle.squash_delete.proofs.moving.move_at.Goals as goal
 
 pub returns-then-has_at : goal.returns-then-has_at

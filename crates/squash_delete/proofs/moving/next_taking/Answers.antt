@@ -1,12 +1,12 @@
 use Rattle.std.proofs.Common.{◌≡◌, ◌∙◌, refl, subst, sym}
 use Rattle.squash_laws.specs.Squash.{takes}
 use Rattle.squash_laws.specs.declared.policy.Push.TheVariants as push
-use Rattle.squash_delete.specs.Passes.{taken_to}
+use Rattle.plan_steps.specs.Passes.{taken_to}
 use Rattle.squash_delete.specs.Sources.{NoneTakes, push_of}
 use Rattle.squash_delete.specs.declared.moving.Sources.{Sources}
 use Rattle.squash_delete.proofs.MovingLemmas.{apart_taken}
-use Rattle.squash_delete.proofs.NearLemmas.{is_apart}
-use Rattle.squash_delete.proofs.NearPlaces.{over_apart}
+use Rattle.plan_steps.proofs.NearLemmas.{is_apart}
+use Rattle.plan_steps.proofs.NearPlaces.{over_apart}
 use Rattle.squash_delete.proofs.moving.next_taking.Goals as goal
 
 pub returns-in-Before-clause-apart : goal.returns-in-Before-clause-apart

@@ -5,7 +5,7 @@ use Rattle.plain_model.specs.declared.event.PlainEvent.{PlainEvent}
 use Rattle.plain_model.specs.Lookups.{find_event, id_of, place_of}
 use Rattle.event_arena.specs.Changes.{changed, has_target, with_target}
 use Rattle.graph_walk.proofs.TurnLemmas.{on_ok}
-use Rattle.squash_delete.proofs.LeavingLemmas.{changed_nowhere, found_is}
+use Rattle.plan_steps.proofs.LeavingLemmas.{changed_nowhere, found_is}
 use Rattle.squash_delete.proofs.moving.retarget.Goals as goal
 
 pub set_target-requires-clause-there : goal.set_target-requires-clause-there

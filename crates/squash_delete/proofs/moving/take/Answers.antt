@@ -8,7 +8,7 @@ use Rattle.event_arena.specs.Graphs.{Change}
 use Rattle.manifest_cache.specs.Walks.{commit_id}
 use Rattle.squash_delete.specs.Taking.{IsTakenBy, comment_taken, ops_taken}
 use Rattle.squash_delete.proofs.MovingLemmas.{commit_taken, le_is, none_taken, own_count, same_taken}
-use Rattle.squash_delete.proofs.WayLemmas.{no_id}
+use Rattle.plan_steps.proofs.WayLemmas.{no_id}
 use Rattle.squash_delete.proofs.moving.take.Goals as goal
 
 pub returns-in_default : goal.returns-in_default
@@ -41,8 +41,8 @@ returns c par takes event at no_removed taken start was =
     let is : event ≡ Commit v.id v.mark v.branch v.author v.committer v.encoding v.comment v.parents v.ops v.aliases = same_Some event e (sym at ∙ c.nth.ensures.event) ∙ v.is in
     let ops = c.in_ok-ops.ops in
     let comment = c.in_ok-comment.comment in
-    let ops_is : ops ≡ ops_taken events t v.ops = c.in_ok-ops.ensures ∙ ap (λ (es : List PlainEvent). ops_taken es t c.as_slice-2.result.now) c.events.ensures ∙ ap (ops_taken events t) c.as_slice-2.ensures in
-    let comment_is : comment ≡ comment_taken events t v.comment = c.in_ok-comment.ensures ∙ ap (λ (es : List PlainEvent). comment_taken es t c.as_slice-3.result.now) c.events-2.ensures ∙ ap (comment_taken events t) c.as_slice-3.ensures in
+    let ops_is : ops ≡ ops_taken events t v.ops = c.in_ok-ops.ensures ∙ ap (λ (es : List PlainEvent). ops_taken es t c.as_slice-2.result.now) c.list.ensures ∙ ap (ops_taken events t) c.as_slice-2.ensures in
+    let comment_is : comment ≡ comment_taken events t v.comment = c.in_ok-comment.ensures ∙ ap (λ (es : List PlainEvent). comment_taken es t c.as_slice-3.result.now) c.list-2.ensures ∙ ap (comment_taken events t) c.as_slice-3.ensures in
     let n = commit_taken set events c.count-count.ensures.sound par takes c.args.place v.id v.mark v.branch v.author v.committer v.encoding v.comment v.parents v.ops v.aliases
     (at ∙ ap Some is) (no_removed v.id (ap commit_id is)) t ops comment (subst (IsTakenBy events t takes) is taken) ops_is comment_is in (
       c.in_ok-give.ensures

@@ -3,10 +3,10 @@ use Rattle.plain_model.specs.declared.event.PlainEvent.{PlainEvent}
 use Rattle.plain_model.specs.declared.limit.TheConstants.{MAX_OPERATIONS}
 use Rattle.history_laws.proofs.Lists.{item_at}
 use Rattle.squash_laws.specs.Squash.{takes}
-use Rattle.squash_delete.specs.Leaving.{goes, with_own_parents, with_takings}
+use Rattle.plan_steps.specs.Leaving.{goes, with_own_parents, with_takings}
 use Rattle.squash_delete.specs.Sources.{count_ops, push_of}
 use Rattle.squash_delete.proofs.MovingLemmas.{counted_left, counted_later, counted_more, counted_passed, own_count}
-use Rattle.squash_delete.proofs.Passes.{so_far_all}
+use Rattle.plan_steps.proofs.Passes.{so_far_all}
 use Rattle.squash_delete.proofs.moving.take_all.Goals as goal
 use Rattle.squash_delete.proofs.moving.take_all.Goals.{then-bounded+else-total-count, else-bounded}
 

@@ -3,8 +3,8 @@ use Rattle.plain_model.specs.declared.limit.TheConstants.{MAX_OPERATIONS}
 use Rattle.event_arena.specs.Graphs.{Change}
 use Rattle.squash_laws.specs.Squash.{takes}
 use Rattle.squash_laws.specs.declared.policy.Lean.{Lean}
-use Rattle.squash_delete.specs.Leaving.{goes, staying, with_own_parents, with_takings}
-use Rattle.squash_delete.specs.Passes.{taken_to}
+use Rattle.plan_steps.specs.Leaving.{goes, staying, with_own_parents, with_takings}
+use Rattle.plan_steps.specs.Passes.{taken_to}
 use Rattle.squash_delete.specs.Sources.{count_ops, push_of}
 use Rattle.squash_delete.proofs.moving.take_all.Given as goal
 

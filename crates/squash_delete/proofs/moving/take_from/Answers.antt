@@ -14,8 +14,8 @@ use Rattle.squash_delete.specs.Sources.{AreSources, TakesFrom, push_of}
 use Rattle.squash_delete.specs.declared.moving.Sources.{Sources}
 use Rattle.squash_delete.proofs.ChainLemmas.{all_before}
 use Rattle.squash_delete.proofs.MovingLemmas.{back_taken, forward_taken, gone_taken, le_is}
-use Rattle.squash_delete.proofs.NodeLemmas.{parents_there}
-use Rattle.squash_delete.proofs.WayLemmas.{removed_at}
+use Rattle.plan_steps.proofs.NodeLemmas.{parents_there}
+use Rattle.plan_steps.proofs.WayLemmas.{removed_at}
 use Rattle.squash_delete.proofs.moving.take_from.Goals as goal
 
 pub returns-then-has_at : goal.returns-then-has_at

@@ -4,8 +4,8 @@ use Rattle.plain_model.specs.declared.id.AnyId.TheVariants as any
 use Rattle.event_arena.specs.Changes.{changed, with_parents}
 use Rattle.event_arena.specs.Graphs.{Change}
 use Rattle.event_arena.proofs.ListLemmas.{take-more}
-use Rattle.squash_delete.specs.Leaving.{with_all_parents}
-use Rattle.squash_delete.proofs.LeavingLemmas.{parents_push}
+use Rattle.plan_steps.specs.Leaving.{with_all_parents}
+use Rattle.plan_steps.proofs.LeavingLemmas.{parents_push}
 use Rattle.squash_delete.proofs.parents.give_parents.Goals as goal
 
 pub loop-change-preserved : goal.loop-change-preserved

@@ -1,5 +1,5 @@
 use Rattle.std.proofs.Common.{◌≡◌, take}
-use Rattle.squash_delete.specs.Leaving.{with_all_parents}
+use Rattle.plan_steps.specs.Leaving.{with_all_parents}
 use Rattle.squash_delete.proofs.parents.give_parents.Given as goal
 
 abbrev pub invariant-loop-change : goal.invariant-loop-change

@@ -1,6 +1,6 @@
 use Rattle.std.proofs.Common.{◌+◌, add-one, arith}
 use Rattle.std.proofs.lemmas.Option.{slice_get_within}
-use Rattle.squash_delete.proofs.NearPlaces.{AreReadyTo, ready_more, ready_over}
+use Rattle.plan_steps.proofs.NearPlaces.{AreReadyTo, ready_more, ready_over}
 use Rattle.squash_delete.proofs.settling.are_near_settled.Goals as goal
 
 pub loop-place-init : goal.loop-place-init

@@ -1,5 +1,5 @@
 use Rattle.std.proofs.Common.{◌≤◌, ◌-◌, length}
-use Rattle.squash_delete.proofs.NearPlaces.{AreReadyTo}
+use Rattle.plan_steps.proofs.NearPlaces.{AreReadyTo}
 use Rattle.squash_delete.proofs.settling.are_near_settled.Given as goal
 
 abbrev pub invariant-loop-place : goal.invariant-loop-place

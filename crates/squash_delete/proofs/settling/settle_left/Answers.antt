@@ -2,7 +2,7 @@ use Rattle.std.proofs.Common.{◌≡◌, ◌∙◌, ◌⊎◌, inl, inr, [], sym
 use Rattle.edit_laws.specs.Parts.{AreComplete, AreInOrder}
 use Rattle.squash_laws.specs.declared.policy.Push.{Push}
 use Rattle.squash_laws.specs.declared.policy.Push.TheVariants as push
-use Rattle.squash_delete.specs.Near.{AreReadyNear}
+use Rattle.plan_steps.specs.Near.{AreReadyNear}
 use Rattle.squash_delete.proofs.SettlingLemmas.{squash_settled}
 use Rattle.squash_delete.proofs.settling.settle_left.Goals as goal
 use Rattle.squash_delete.proofs.settling.settle_left.Goals.{in-Forward, in-Back}

@@ -4,9 +4,9 @@ use Rattle.plain_model.specs.declared.event.PlainEvent.{PlainEvent}
 use Rattle.event_arena.specs.Changes.{without_all}
 use Rattle.history_laws.specs.Once.{AreDistinct}
 use Rattle.graph_walk.proofs.TurnLemmas.{on_ok}
-use Rattle.squash_delete.specs.Leaving.{goes}
-use Rattle.squash_delete.specs.Targets.{AreMoves}
-use Rattle.squash_delete.proofs.SweepLemmas.{without_passing}
+use Rattle.plan_steps.specs.Leaving.{goes}
+use Rattle.plan_steps.specs.Targets.{AreMoves}
+use Rattle.plan_steps.proofs.SweepLemmas.{without_passing}
 use Rattle.squash_delete.proofs.squashing.take_away.Goals as goal
 
 pub returns : goal.returns

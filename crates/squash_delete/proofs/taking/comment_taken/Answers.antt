@@ -7,7 +7,7 @@ use Rattle.squash_delete.proofs.taking.comment_taken.Goals as goal
 
 pub returns : goal.returns
 returns c =
-    let events = c.args.events.now.list in
+    let events = c.args.list.now in
     let comment = comment_of events in
     c.in_ok-join_all-2.ensures
     ∙ ap (λ (x : Bytes). joined_two x (joined (map comment c.taking.inside.after.now))) c.in_ok-join.ensures

@@ -8,7 +8,7 @@ use Rattle.squash_delete.proofs.taking.join_all.Goals as goal
 
 pub loop-commit-preserved : goal.loop-commit-preserved
 loop-commit-preserved c =
-    let events = c.args.events.now.list in
+    let events = c.args.list.now in
     let commits = c.args.commits.now in
     let k = c.loop-commit.commit-index in
     let d = c.commit-item.result in

@@ -6,6 +6,7 @@ use Rattle.graph_walk.specs.Flags.{FlagsOf}
 use Rattle.graph_walk.specs.Joined.{next_entry}
 use Rattle.plain_model.specs.Lookups.{id_of, is_listed}
 use Rattle.plain_model.specs.declared.id.AnyId.{AnyId}
+use Rattle.plain_model.specs.declared.event.PlainEvent.{PlainEvent}
 use Rattle.std.proofs.Common.{subst}
 use Rattle.history_laws.proofs.Lists.{item_at}
 use Rattle.graph_walk.proofs.ExpandingLemmas.{expanded_all, expanded_more}
@@ -19,7 +20,7 @@ loop-place-preserved c =
     let place = c.loop-place.place in
     let within : place < length events = let test = c.loop-place-test.true in let count = c.count-place-end.ensures.count in omega arith in
     let item = item_at events place within in
-    let flags : FlagsOf events c.args.removed.now c.in_ok-flags.flags.items = subst (λ (ids : List AnyId). FlagsOf events ids c.in_ok-flags.flags.items) c.as_slice.ensures c.in_ok-flags.ensures in
+    let flags : FlagsOf events c.args.removed.now c.in_ok-flags.flags.items = subst (λ (ids : List AnyId). FlagsOf events ids c.in_ok-flags.flags.items) c.as_slice.ensures (subst (λ (es : List PlainEvent). FlagsOf es c.as_slice.result.now c.in_ok-flags.flags.items) c.table.ensures.table c.in_ok-flags.ensures) in
     let low : place < length c.in_ok-flags.flags.items = let n = flags.count in omega arith in
     let flag : c.index.result.now ≡ is_listed (id_of item.0) c.args.removed.now = get_or_read c.in_ok-flags.flags.items place c.index.result.now low c.index.ensures false ∙ flags.flag place item.0 item.1 in
     let same = c.loop-place.invariant.events in

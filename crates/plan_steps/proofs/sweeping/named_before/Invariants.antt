@@ -1,0 +1,6 @@
+use Rattle.std.proofs.Common.{take}
+use Rattle.plan_steps.specs.Flags.{FlagsNamed}
+use Rattle.plan_steps.proofs.sweeping.named_before.Given as goal
+
+abbrev pub invariant-loop-place : goal.invariant-loop-place
+invariant-loop-place l = FlagsNamed l.plan.after (take l.place l.plan.before) l.flags.items

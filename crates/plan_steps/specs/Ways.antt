@@ -1,0 +1,39 @@
+-- For each commit of a history the commit to which its tags and resets can go, back along first parents or forward to
+-- children.
+use Rattle.std.specs.Prelude.{ℕ, ◌≡◌, ◌==◌, if◌then◌else◌, List, length, Option, Some, None, drop, option_and_then, slice_get, slice_index_or}
+use Rattle.std.specs.List.{list_any}
+use Rattle.plain_model.specs.declared.id.AnyId.{AnyId}
+use Rattle.plain_model.specs.declared.event.PlainEvent.{PlainEvent}
+use Rattle.plain_model.specs.Histories.{nodes}
+use Rattle.edit_laws.specs.Removal.{forward}
+use Rattle.manifest_cache.specs.Walks.{commit_id}
+use Rattle.squash_laws.specs.Removed.{is_removed}
+use Rattle.squash_laws.specs.Squash.{back_of}
+use Rattle.plan_steps.specs.Tables.{IsTable, IsTableTo}
+
+-- a commit has its way, and other events have none
+abbrev pub WayIs : (ℕ → Option ℕ) → PlainEvent → Option ℕ → Type 0
+WayIs goes_to e way = way ≡ option_and_then goes_to (commit_id e)
+
+-- the ways back from the first commits
+abbrev pub AreBackTo : List AnyId → List PlainEvent → ℕ → List (Option ℕ) → Type 0
+AreBackTo set events k table = IsTableTo None (WayIs (back_of set events)) events k table
+
+-- the ways back from all of them
+abbrev pub AreBack : List AnyId → List PlainEvent → List (Option ℕ) → Type 0
+AreBack set events table = IsTable None (WayIs (back_of set events)) events table
+
+-- the ways forward, where only the children from a place on are looked at
+abbrev pub AreForwardFrom : List AnyId → List PlainEvent → ℕ → List (Option ℕ) → Type 0
+AreForwardFrom set events k table =
+    IsTable None (λ e way. (c : ℕ) → commit_id e ≡ Some c → way ≡ forward (is_removed set) (nodes (drop k events)) c) events table
+
+-- the ways forward from all of them
+abbrev pub AreForward : List AnyId → List PlainEvent → List (Option ℕ) → Type 0
+AreForward set events table = AreForwardFrom set events 0 table
+
+-- some commits lead one way, and the others where they did
+pub record AreLed (events : List PlainEvent) (commits : List ℕ) (way : Option ℕ) (old new : List (Option ℕ)) : Type 0 where
+  pub count : length new ≡ length old
+  pub entry : (j : ℕ) (e : PlainEvent) (c : ℕ) → slice_get events j ≡ Some e → commit_id e ≡ Some c →
+      slice_index_or new j None ≡ (if list_any (λ p. p == c) commits then way else slice_index_or old j None)

@@ -1,0 +1,152 @@
+//! To which commits tags and resets go.
+ghost use Rattle.std.specs.Prelude.{
+  ◌≡◌,
+  ◌<◌,
+  None,
+  Some,
+  is_some,
+  length,
+  option_and_then,
+  slice_get,
+  slice_index_or,
+  IfOk,
+  IsSome,
+};
+ghost use Rattle.std.specs.List.{list_any};
+ghost use Rattle.plain_model.specs.Lookups.{find_event};
+ghost use Rattle.plain_model.specs.declared.id.AnyId.TheVariants.{Commit};
+ghost use Rattle.plan_steps.specs.Targets.{AreMoves, lost_target, moving, target_for};
+ghost use Rattle.plan_steps.specs.Ways.{AreBack, AreForward};
+ghost use Rattle.squash_laws.specs.Squash.{moved, takes};
+
+use crate::selection::Selected;
+use crate::ways::Leads;
+use plain_model::{CommitId, NoMemory, PlainEvent};
+use squash_laws::{Lean, Policy, Push};
+use std::alloc::Global;
+
+/// For the place of each tag and reset of a removed commit the commit to which it goes, if there is one. Where it ends,
+/// there is none for any later place.
+pub type Targets = Vec<Option<CommitId>>;
+
+/// The commit that a tag or a reset is on.
+pub fn target_of(event: &PlainEvent) -> Option<CommitId>
+    ensures { result ≡ target_for Some event.now }
+{
+    match event {
+        PlainEvent::Tag { target, .. } => Some(*target),
+        PlainEvent::Reset { target, .. } => *target,
+        _ => None,
+    }
+}
+
+/// What a table has for a place.
+pub fn target_at(targets: &[Option<CommitId>], place: usize) -> Option<CommitId>
+    ensures { result ≡ slice_index_or targets.now place None }
+{
+    if place < targets.len() {
+        targets[place]
+    } else {
+        None
+    }
+}
+
+/// The removed commit that the tag or the reset at a place is on, if it is on one.
+pub fn lost_at(removal: &Selected, place: usize) -> Option<CommitId>
+    requires { place < length removal.now.events }
+    ensures { (event : _) → slice_get removal.now.events place ≡ Some event →
+        result ≡ lost_target removal.now.set event }
+{
+    let _count = removal.count();
+    let target = target_of(removal.nth(place))?;
+    if removal.has(target) {
+        Some(target)
+    } else {
+        None
+    }
+}
+
+// Whether some tag or reset is on a removed commit.
+fn is_any_lost(removal: &Selected) -> bool
+    ensures { result ≡ list_any (λ e. is_some (lost_target removal.now.set e)) removal.now.events }
+{
+    let count = removal.count();
+    let mut place = removal.next_near(0);
+    while place < count {
+        if lost_at(removal, place).is_some() {
+            return true;
+        }
+        place = removal.next_near(place + 1);
+    }
+    false
+}
+
+// Where a tag or a reset of a removed commit goes: the way to which it leans, else the other, if there is one.
+fn moved(removal: &Selected, leads: &Leads, tags: Lean, commit: CommitId) -> Option<CommitId>
+    requires there { IsSome (find_event (Commit commit) removal.now.events) }
+    requires back { AreBack removal.now.set removal.now.events leads.now.back.items }
+    requires forward { AreForward removal.now.set removal.now.events leads.now.forward.items }
+    ensures { result ≡ moved removal.now.set removal.now.events tags commit }
+{
+    let place = removal.place(commit);
+    let _count = removal.count();
+    match tags {
+        Lean::Forward => leads.forward[place].or(leads.back[place]),
+        Lean::Back => leads.back[place].or(leads.forward[place]),
+    }
+}
+
+// Where the tag or the reset at a place goes, if it is on a removed commit.
+fn moved_target(removal: &Selected, leads: &Leads, tags: Lean, place: usize) -> Option<CommitId>
+    requires place { place < length removal.now.events }
+    requires back { AreBack removal.now.set removal.now.events leads.now.back.items }
+    requires forward { AreForward removal.now.set removal.now.events leads.now.forward.items }
+    ensures { (event : _) → slice_get removal.now.events place ≡ Some event →
+        result ≡ option_and_then (moved removal.now.set removal.now.events tags) (lost_target removal.now.set event) }
+{
+    let _count = removal.count();
+    let commit = lost_at(removal, place)?;
+    moved(removal, leads, tags, commit)
+}
+
+/// Tags and resets of removed commits move to commits that stay.
+pub fn moved_targets(
+    alloc: Global,
+    removal: &Selected,
+    leads: &Leads,
+    tags: Lean,
+) -> Result<Targets, NoMemory>
+    requires back { AreBack removal.now.set removal.now.events leads.now.back.items }
+    requires forward { AreForward removal.now.set removal.now.events leads.now.forward.items }
+    ensures { IfOk result (λ table. AreMoves removal.now.set
+        (moving removal.now.set removal.now.events tags) removal.now.events table.items) }
+{
+    let mut table = Vec::with_capacity(alloc, removal.count())?;
+    for place in 0..removal.count() {
+        table.push(moved_target(removal, leads, tags, place))?;
+    }
+    Ok(table)
+}
+
+// The same, where ways are looked for only if some tag or reset is on a removed commit.
+fn moved_if_lost(alloc: Global, removal: &Selected, tags: Lean) -> Result<Targets, NoMemory>
+    ensures { IfOk result (λ table. AreMoves removal.now.set
+        (moving removal.now.set removal.now.events tags) removal.now.events table.items) }
+{
+    if !is_any_lost(removal) {
+        return Ok(Vec::new(alloc));
+    }
+    let leads = Leads::of(alloc, removal)?;
+    moved_targets(alloc, removal, &leads, tags)
+}
+
+/// Where all tags and resets of removed commits go; nowhere, where commits are discarded.
+pub fn targets_of(alloc: Global, removal: &Selected, how: Policy) -> Result<Targets, NoMemory>
+    ensures { IfOk result (λ table. AreMoves removal.now.set
+        (takes removal.now.set removal.now.events how).target removal.now.events table.items) }
+{
+    match how.push {
+        Push::Forward | Push::Back => moved_if_lost(alloc, removal, how.tags),
+        Push::Discard => Ok(Vec::new(alloc)),
+    }
+}

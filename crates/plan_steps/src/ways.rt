@@ -1,0 +1,164 @@
+//! To which commits the tags and resets of a removed commit can go.
+ghost use Rattle.std.specs.Prelude.{
+  ◌≡◌,
+  ◌<◌,
+  Some,
+  None,
+  if◌then◌else◌,
+  length,
+  option_and_then,
+  slice_get,
+  slice_index_or,
+  suc,
+  take,
+  IfOk,
+  IsSome,
+};
+ghost use Rattle.std.specs.List.{AllByRecursion};
+ghost use Rattle.manifest_cache.specs.Walks.{commit_id};
+ghost use Rattle.plain_model.specs.Lookups.{find_event};
+ghost use Rattle.plain_model.specs.Soundness.{IsCommitOf};
+ghost use Rattle.plain_model.specs.declared.id.AnyId.TheVariants.{Commit};
+ghost use Rattle.plan_steps.specs.Ways.{AreBack, AreBackTo, AreForward, AreForwardFrom, AreLed};
+ghost use Rattle.squash_laws.specs.Removed.{is_removed};
+ghost use Rattle.squash_laws.specs.Squash.{back_of};
+
+use crate::selection::Selected;
+use plain_model::{CommitId, NoMemory, PlainEvent};
+use squash_laws::Lean;
+use std::alloc::Global;
+
+/// For the place of each commit a commit, if there is one.
+pub type Ways = Vec<Option<CommitId>>;
+
+/// The way at a place.
+pub fn way_at(ways: &[Option<CommitId>], place: usize) -> Option<CommitId>
+    requires { place < length ways.now }
+    ensures { result ≡ slice_index_or ways.now place None }
+{
+    ways[place]
+}
+
+// Where an earlier commit stands.
+fn back_of(removal: &Selected, ways: &[Option<CommitId>], commit: CommitId) -> Option<CommitId>
+    requires ways { AreBackTo removal.now.set removal.now.events (length ways.now) ways.now }
+    requires earlier { IsCommitOf (take (length ways.now) removal.now.events) commit }
+    ensures { result ≡ back_of removal.now.set removal.now.events commit }
+{
+    let _count = removal.count();
+    way_at(ways, removal.place(commit))
+}
+
+// Where the commit at a place stands: itself, if it stays, else where its first parent stands.
+fn back_at(removal: &Selected, ways: &[Option<CommitId>], place: usize) -> Option<CommitId>
+    requires place { place < length removal.now.events }
+    requires ways { AreBackTo removal.now.set removal.now.events place ways.now }
+    ensures { (event : _) → slice_get removal.now.events place ≡ Some event →
+        result ≡ option_and_then (back_of removal.now.set removal.now.events) (commit_id event) }
+{
+    let _count = removal.count();
+    match removal.nth(place) {
+        PlainEvent::Commit { id, parents, .. } => {
+            if !removal.has_at(place) {
+                return Some(*id);
+            }
+            let parent = parents.as_slice().first()?;
+            back_of(removal, ways, *parent)
+        }
+        _ => None,
+    }
+}
+
+/// The ways back, in one pass.
+pub fn ways_back(alloc: Global, removal: &Selected) -> Result<Ways, NoMemory>
+    ensures { IfOk result (λ ways. AreBack removal.now.set removal.now.events ways.items) }
+{
+    let mut ways = Vec::with_capacity(alloc, removal.count())?;
+    for place in 0..removal.count() {
+        let way = back_at(removal, &ways, place);
+        ways.push(way)?;
+    }
+    Ok(ways)
+}
+
+// Where the commit at a place leads its parents: to itself, if it stays, else to where it leads.
+fn leading_to(
+    removal: &Selected,
+    ways: &[Option<CommitId>],
+    place: usize,
+    commit: CommitId,
+) -> Option<CommitId>
+    requires place { place < length removal.now.events }
+    requires count { length ways.now ≡ length removal.now.events }
+    ensures { (event : _) → slice_get removal.now.events place ≡ Some event → commit_id event ≡ Some commit →
+        result ≡ (if is_removed removal.now.set commit then slice_index_or ways.now place None else Some commit) }
+{
+    let _count = removal.count();
+    if removal.has_at(place) {
+        way_at(ways, place)
+    } else {
+        Some(commit)
+    }
+}
+
+// Leads commits one way.
+fn lead(
+    removal: &Selected,
+    commits: &[CommitId],
+    way: &Option<CommitId>,
+    ways: &mut [Option<CommitId>],
+)
+    requires there { AllByRecursion (λ c. IsSome (find_event (Commit c) removal.now.events)) commits.now }
+    requires count { length ways.old ≡ length removal.now.events }
+    ensures { AreLed removal.now.events commits.now way.now ways.old ways.new }
+{
+    let _count = removal.count();
+    for commit in commits {
+        ways[removal.place(*commit)] = *way;
+    }
+}
+
+// Leads the parents of the commit at a place.
+fn lead_parents(removal: &Selected, place: usize, ways: &mut [Option<CommitId>])
+    requires place { place < length removal.now.events }
+    requires ways { AreForwardFrom removal.now.set removal.now.events (suc place) ways.old }
+    ensures { AreForwardFrom removal.now.set removal.now.events place ways.new }
+{
+    let _count = removal.count();
+    if let PlainEvent::Commit { id, parents, .. } = removal.nth(place) {
+        let way = leading_to(removal, ways, place, *id);
+        lead(removal, parents.as_slice(), &way, ways);
+    }
+}
+
+// The ways forward, in one pass from the end, so that the first child of a commit comes last.
+fn ways_forward(alloc: Global, removal: &Selected) -> Result<Ways, NoMemory>
+    ensures { IfOk result (λ ways. AreForward removal.now.set removal.now.events ways.items) }
+{
+    let count = removal.count();
+    let mut ways = vec![in alloc; None; count]?;
+    for done in 0..count {
+        lead_parents(removal, count - 1 - done, &mut ways);
+    }
+    Ok(ways)
+}
+
+/// The ways of a history's commits, without some of them.
+#[derive(Drop)]
+pub struct Leads {
+    pub back: Ways,
+    pub forward: Ways,
+}
+
+impl Leads {
+    pub fn of(alloc: Global, removal: &Selected) -> Result<Leads, NoMemory>
+        ensures back { IfOk result
+            (λ leads. AreBack removal.now.set removal.now.events leads.back.items) }
+        ensures forward { IfOk result
+            (λ leads. AreForward removal.now.set removal.now.events leads.forward.items) }
+    {
+        let back = ways_back(alloc, removal)?;
+        let forward = ways_forward(alloc, removal)?;
+        Ok(Leads { back, forward })
+    }
+}

@@ -1,8 +1,0 @@
-use Rattle.std.proofs.Common.{None}
-use Rattle.squash_delete.specs.Tables.{IsTableTo}
-use Rattle.squash_laws.specs.Squash.{moved}
-use Rattle.squash_delete.proofs.Answered.{MoveIs}
-use Rattle.squash_delete.proofs.targets.moved_targets.Given as goal
-
-abbrev pub invariant-loop-place : goal.invariant-loop-place
-invariant-loop-place l = IsTableTo None (MoveIs l.removal.set (moved l.removal.set l.removal.events l.tags)) l.removal.events l.place l.table.items

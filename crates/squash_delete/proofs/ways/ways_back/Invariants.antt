@@ -1,5 +1,0 @@
-use Rattle.squash_delete.specs.Ways.{AreBackTo}
-use Rattle.squash_delete.proofs.ways.ways_back.Given as goal
-
-abbrev pub invariant-loop-place : goal.invariant-loop-place
-invariant-loop-place l = AreBackTo l.removal.set l.removal.events l.place l.ways.items

@@ -1,6 +1,0 @@
-use Rattle.std.proofs.Common.{◌-◌}
-use Rattle.squash_delete.specs.Ways.{AreForwardFrom}
-use Rattle.squash_delete.proofs.ways.ways_forward.Given as goal
-
-abbrev pub invariant-loop-done : goal.invariant-loop-done
-invariant-loop-done l = AreForwardFrom l.removal.set l.removal.events (l.count - l.done) l.ways.items
