@@ -7,7 +7,7 @@ use Rattle.plain_model.specs.declared.id.AnyId.{AnyId}
 use Rattle.plain_model.specs.declared.path.PathFault.{PathFault}
 use Rattle.plain_model.specs.Paths.{Bytes, path_fault}
 use Rattle.edit_laws.specs.Editing.{IsEdit, LeavesLawful, Remade}
-use Rattle.script_reader.specs.Answering.{◌>>=◌}
+use Rattle.script_lines.specs.Answering.{◌>>=◌}
 use Rattle.history_machine.specs.PathWords.{said_path}
 
 -- what is refused for its path is an edit

@@ -29,17 +29,17 @@ use Rattle.selection_eval.specs.Names.{Names, assigned}
 use Rattle.selection_parser.specs.Plain.{PlainSelection}
 use Rattle.sample_history.specs.Sample.{sample}
 use Rattle.script_reader.specs.Added.{IsSpelledCommand, IsSpelledEdit}
-use Rattle.script_reader.specs.Answering.{◌>>=◌}
+use Rattle.script_lines.specs.Answering.{◌>>=◌}
 use Rattle.script_reader.specs.Commands.{order_of}
 use Rattle.script_reader.specs.Macros.{called}
-use Rattle.script_reader.specs.Names.{is_repo_name}
+use Rattle.script_lines.specs.Names.{is_repo_name}
 use Rattle.script_reader.specs.declared.command.Command.{Command}
 use Rattle.script_reader.specs.declared.command.Command.TheVariants as command
 use Rattle.script_reader.specs.declared.command.Order.{Order}
 use Rattle.script_reader.specs.declared.command.Order.TheVariants as order
 use Rattle.script_reader.specs.declared.edit.Edit.{Edit}
-use Rattle.script_reader.specs.declared.script.ScriptLine.{ScriptLine}
-use Rattle.script_reader.specs.declared.script.ScriptLine.TheVariants.{Define, Plain}
+use Rattle.script_lines.specs.declared.script.ScriptLine.{ScriptLine}
+use Rattle.script_lines.specs.declared.script.ScriptLine.TheVariants.{Define, Plain}
 use Rattle.history_machine.specs.Lawful.{AreNameBytes, IsLawful, IsLawfulRepo}
 use Rattle.history_machine.specs.Loading.{loaded, over, read_of}
 use Rattle.history_machine.specs.Machine.{Turn}

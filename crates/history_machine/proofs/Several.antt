@@ -14,7 +14,7 @@ use Rattle.history_laws.proofs.Ids.{below-next}
 use Rattle.edit_laws.specs.Editing.{IsLawfulHistory, Remade}
 use Rattle.event_sets.specs.Once.{IsOnce}
 use Rattle.event_sets.specs.Sets.{Ids}
-use Rattle.script_reader.specs.Answering.{◌>>=◌}
+use Rattle.script_lines.specs.Answering.{◌>>=◌}
 use Rattle.history_machine.specs.Lawful.{AreNameBytes, IsLawful, IsLawfulRepo, repo_names}
 use Rattle.history_machine.specs.Several.{IsDivision, IsJoining, IsUniting, after_dividing, after_joining, after_uniting, all_there, early_name, joined_name, late_name, other_than, without_repos}
 use Rattle.history_machine.specs.Sessions.{Repo, Session, chosen, chosen_by, edited, find_repo, or_no_repo, read_repo, room, there, unless, unused, with_repo, without_repo}

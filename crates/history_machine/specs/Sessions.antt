@@ -20,7 +20,7 @@ use Rattle.listing.specs.TreeListings.{manifest_text}
 use Rattle.expunge_laws.specs.Matching.{Matches, matched_by}
 use Rattle.renumbering.specs.Renumbered.{renumbered}
 use Rattle.sample_history.specs.Sample.{sample}
-use Rattle.script_reader.specs.Answering.{◌>>=◌}
+use Rattle.script_lines.specs.Answering.{◌>>=◌}
 use Rattle.script_reader.specs.Commands.{order_of}
 use Rattle.script_reader.specs.Macros.{Macro, called, with_macro}
 use Rattle.script_reader.specs.declared.command.Command.{Command}
@@ -31,8 +31,8 @@ use Rattle.script_reader.specs.declared.command.Order.{Order}
 use Rattle.script_reader.specs.declared.command.Order.TheVariants as order
 use Rattle.script_reader.specs.declared.edit.Edit.{Edit}
 use Rattle.script_reader.specs.declared.edit.Edit.TheVariants as edit
-use Rattle.script_reader.specs.declared.script.ScriptLine.{ScriptLine}
-use Rattle.script_reader.specs.declared.script.ScriptLine.TheVariants.{Define, Plain}
+use Rattle.script_lines.specs.declared.script.ScriptLine.{ScriptLine}
+use Rattle.script_lines.specs.declared.script.ScriptLine.TheVariants.{Define, Plain}
 use Rattle.selection_eval.specs.Denoted.{denote}
 use Rattle.selection_eval.specs.Names.{Names, assigned, live_names}
 use Rattle.selection_parser.specs.Plain.{PlainSelection}

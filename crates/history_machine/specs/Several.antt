@@ -7,7 +7,7 @@ use Rattle.plain_model.specs.declared.event.PlainEvent.{PlainEvent}
 use Rattle.plain_model.specs.declared.fault.Fault.{Fault}
 use Rattle.edit_laws.specs.Editing.{IsEdit, IsLawfulHistory, Remade}
 use Rattle.event_sets.specs.Sets.{Ids}
-use Rattle.script_reader.specs.Answering.{◌>>=◌}
+use Rattle.script_lines.specs.Answering.{◌>>=◌}
 use Rattle.history_machine.specs.Lawful.{IsLawfulRepo}
 use Rattle.history_machine.specs.Sessions.{Repo, Session, chosen, edited, find_repo, read_repo, room, there, unused, with_repo, without_repo}
 

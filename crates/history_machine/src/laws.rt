@@ -15,7 +15,7 @@ ghost use Rattle.script_reader.specs.declared.command.Command.TheVariants as com
 ghost use Rattle.script_reader.specs.declared.command.Command.{Command};
 ghost use Rattle.script_reader.specs.declared.edit.Edit.TheVariants as edit;
 ghost use Rattle.script_reader.specs.declared.edit.Edit.{Edit};
-ghost use Rattle.script_reader.specs.declared.script.ScriptLine.{ScriptLine};
+ghost use Rattle.script_lines.specs.declared.script.ScriptLine.{ScriptLine};
 ghost use Rattle.squash_laws.specs.declared.policy.Lean.{Lean};
 ghost use Rattle.stream_grammar.specs.Limits.{stream_of};
 ghost use Rattle.squash_laws.specs.declared.policy.Push.TheVariants as push;

@@ -1,5 +1,5 @@
 -- An operation that a line of a script adds is such as one of a stream is.
-use Rattle.std.proofs.Common.{◌≡◌, ℕ, Bool, true, false, cond, List, [], ◌∷◌, codes, Option, Some, None, Result, Ok, Err, refl, subst}
+use Rattle.std.proofs.Common.{◌≡◌, ℕ, Bool, true, false, cond, List, [], ◌∷◌, Option, Some, None, Result, Ok, Err, refl, subst}
 use Rattle.std.specs.Prelude.{option_and_then}
 use Rattle.plain_model.specs.declared.fault.Fault.{Fault}
 use Rattle.plain_model.specs.declared.fault.Fault.TheVariants as fault
@@ -7,18 +7,22 @@ use Rattle.plain_model.specs.declared.raw.RawOp.{RawOp}
 use Rattle.plain_model.specs.Paths.{Bytes}
 use Rattle.sample_history.specs.declared.limit.TheConstants.{MAX_COMMITS}
 use Rattle.squash_laws.specs.Faults.{delete_how}
-use Rattle.script_reader.specs.Answering.{◌>>=◌}
-use Rattle.script_reader.specs.Commands.{add_words, added, alone, asked_by, assign_form, choose_form, choose_of, coalesce_words, cut_form, do_form, drop_form, drop_of, edit_form, expunge_form, form_of, is_long, last_name, name_within, names_form, op_by, or_at_fault, order_after, order_in, order_of, output_in, plain_form, read_form, read_of, remove_words, removal_of, renumber_form, reparent_words, reparenting_by, said_of, sample_form, sample_start, show_form, split_words, squash_words, steps, summary_form, text_before, texts_in, too_long, whole_in, write_form}
+use Rattle.script_lines.specs.Answering.{◌>>=◌}
+use Rattle.script_lines.specs.Names.{is_repo_name, repo_name}
+use Rattle.script_lines.specs.Redirections.{redirected}
+use Rattle.script_lines.specs.Scripts.{is_long, too_long}
+use Rattle.script_lines.specs.Texts.{or_at_fault, text_before, texts_in, whole_in}
+use Rattle.script_lines.specs.Words.{after_head, head_of, words_of}
+use Rattle.script_lines.specs.declared.redirection.Direction.TheVariants.{Input}
+use Rattle.script_lines.specs.declared.word.Word.{Word}
+use Rattle.script_reader.specs.Commands.{add_words, added, alone, asked_by, assign_form, choose_form, choose_of, coalesce_words, cut_form, do_form, drop_form, drop_of, edit_form, expunge_form, form_of, last_name, name_within, names_form, op_by, order_after, order_in, order_of, output_in, plain_form, read_form, read_of, remove_words, removal_of, renumber_form, reparent_words, reparenting_by, said_of, sample_form, sample_start, show_form, split_words, squash_words, steps, summary_form, write_form}
 use Rattle.script_reader.specs.Cuts.{cut_of}
 use Rattle.script_reader.specs.Keywords.{edit_word, keyword_of, needs_selection}
-use Rattle.script_reader.specs.Names.{is_repo_name, repo_name}
 use Rattle.script_reader.specs.Numbers.{index_in, said_between, seconds_in}
 use Rattle.script_reader.specs.Options.{nothing_asked, policy_of, reparenting}
-use Rattle.script_reader.specs.Redirections.{redirected}
 use Rattle.script_reader.specs.Selecting.{front_of, is_superfluous}
 use Rattle.script_reader.specs.Added.{IsSpelledCommand, IsSpelledEdit}
 use Rattle.script_reader.specs.Spelled.{IsSpelled, whole_op}
-use Rattle.script_reader.specs.Words.{after_head, head_of, words_of}
 use Rattle.script_reader.specs.declared.command.Command.{Command}
 use Rattle.script_reader.specs.declared.command.Command.TheVariants as command
 use Rattle.script_reader.specs.declared.command.Listing.{Listing}
@@ -35,9 +39,7 @@ use Rattle.script_reader.specs.declared.keyword.Keyword.TheVariants as keyword
 use Rattle.script_reader.specs.declared.keyword.PlainWord.{PlainWord}
 use Rattle.script_reader.specs.declared.keyword.PlainWord.TheVariants as plain
 use Rattle.script_reader.specs.declared.number.TheConstants.{MAX_START}
-use Rattle.script_reader.specs.declared.redirection.Direction.TheVariants.{Input}
 use Rattle.script_reader.specs.declared.spelled.SaidOp.TheVariants.{Nothing}
-use Rattle.script_reader.specs.declared.word.Word.{Word}
 use Rattle.script_reader.proofs.SpelledFits.{spelled_fits}
 
 -- ---- what is claimed of an edit, a command, an order

@@ -1,6 +1,6 @@
 -- What a script can spell of a command: the operations that are added, and the names under which files are read.
 use Rattle.std.specs.Prelude.{IsTrue}
-use Rattle.script_reader.specs.Names.{is_repo_name}
+use Rattle.script_lines.specs.Names.{is_repo_name}
 use Rattle.script_reader.specs.Spelled.{IsSpelled}
 use Rattle.script_reader.specs.declared.command.Command.{Command}
 use Rattle.script_reader.specs.declared.command.Command.TheVariants as command

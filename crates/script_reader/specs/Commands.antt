@@ -1,28 +1,29 @@
 -- What a line orders: a command, or that a macro is run. (reposurgeon manual, of each command word its section; what is at fault: own)
-use Rattle.std.specs.Prelude.{ℕ, Bool, List, [], ◌∷◌, length, nat_lt, Option, Some, None, option_and_then, Result, Ok, Err, codes, if◌then◌else◌}
+use Rattle.std.specs.Prelude.{ℕ, List, [], ◌∷◌, Option, Some, None, option_and_then, Result, Ok, Err, codes, if◌then◌else◌}
 use Rattle.plain_model.specs.Paths.{Bytes}
 use Rattle.plain_model.specs.declared.fault.Fault.{Fault}
 use Rattle.plain_model.specs.declared.fault.Fault.TheVariants as fault
-use Rattle.plain_model.specs.declared.fault.Which.TheVariants as limit
-use Rattle.plain_model.specs.declared.limit.TheConstants.{MAX_LINE_BYTES}
 use Rattle.plain_model.specs.declared.raw.RawOp.{RawOp}
 use Rattle.squash_laws.specs.Faults.{delete_how}
 use Rattle.sample_history.specs.declared.limit.TheConstants.{MAX_COMMITS}
-use Rattle.script_reader.specs.Answering.{◌>>=◌}
+use Rattle.script_lines.specs.Answering.{◌>>=◌}
+use Rattle.script_lines.specs.Names.{repo_name, is_given_name, is_repo_name}
+use Rattle.script_lines.specs.Redirections.{redirected}
+use Rattle.script_lines.specs.Scripts.{is_long, too_long}
+use Rattle.script_lines.specs.Texts.{at_fault, name_in, or_at_fault, text_before, texts_in, whole_in}
+use Rattle.script_lines.specs.Words.{head_of, after_head, words_of}
+use Rattle.script_lines.specs.declared.redirection.Direction.TheVariants.{Input, Output}
+use Rattle.script_lines.specs.declared.word.Word.{Word}
 use Rattle.script_reader.specs.Keywords.{edit_word, keyword_of, needs_selection}
-use Rattle.script_reader.specs.Names.{repo_name, is_given_name, is_repo_name}
 use Rattle.script_reader.specs.Cuts.{cut_of}
 use Rattle.script_reader.specs.Numbers.{index_in, said_between, seconds_in}
 use Rattle.script_reader.specs.Options.{asked_more, nothing_asked, policy_of, reparenting, reparenting_more, squash_option}
-use Rattle.script_reader.specs.Redirections.{begins_with_sign, redirected}
 use Rattle.script_reader.specs.Selecting.{Front, front_of, is_superfluous}
 use Rattle.script_reader.specs.Spelled.{op_more, whole_op}
-use Rattle.script_reader.specs.Words.{head_of, after_head, words_of, text_of}
 use Rattle.script_reader.specs.declared.command.Command.{Command}
 use Rattle.script_reader.specs.declared.command.Command.TheVariants as command
 use Rattle.script_reader.specs.declared.command.Call.{Call}
 use Rattle.script_reader.specs.declared.command.Listing.{Listing}
-use Rattle.script_reader.specs.declared.command.Listing.TheVariants as listing
 use Rattle.script_reader.specs.declared.command.Order.{Order}
 use Rattle.script_reader.specs.declared.command.Order.TheVariants as order
 use Rattle.script_reader.specs.declared.cut.Cut.{Cut}
@@ -40,44 +41,8 @@ use Rattle.script_reader.specs.declared.keyword.Keyword.{Keyword}
 use Rattle.script_reader.specs.declared.keyword.Keyword.TheVariants as keyword
 use Rattle.script_reader.specs.declared.keyword.PlainWord.{PlainWord}
 use Rattle.script_reader.specs.declared.keyword.PlainWord.TheVariants as plain
-use Rattle.script_reader.specs.declared.redirection.Direction.TheVariants.{Input, Output}
-use Rattle.script_reader.specs.declared.word.Word.{Word}
-use Rattle.script_reader.specs.declared.word.Word.TheVariants.{Plain, Quoted, Broken}
-
--- ---- words at fault
-
--- the words don't fit, and this one is the first at fault
-abbrev pub at_fault : {A : Type 0} → Word → Result A Fault
-at_fault word = Err (fault.BadWords (text_of word))
-
--- what a word was found to be, or the word is at fault
-abbrev pub or_at_fault : {A : Type 0} → Word → Option A → Result A Fault
-or_at_fault word (Some x) = Ok x
-or_at_fault word None = at_fault word
 
 -- ---- what the forms have in common
-
--- a last word as a name: it isn't broken, and no redirection
-abbrev pub name_in : Word → Option Bytes
-name_in (Plain text) = if begins_with_sign text then None else Some text
-name_in (Quoted text) = Some text
-name_in (Broken rest) = None
-
--- a word as a name that isn't the last word, where `<` and `>` are no signs
-abbrev pub whole_in : Word → Option Bytes
-whole_in (Plain text) = Some text
-whole_in (Quoted text) = Some text
-whole_in (Broken rest) = None
-
--- a word as a text, before such others
-abbrev pub text_before : List Word → Word → Option Bytes
-text_before [] word = name_in word
-text_before (next ∷ words) word = whole_in word
-
--- all words as texts; the last one is no redirection
-abbrev pub texts_in : List Word → Result (List Bytes) Fault
-texts_in [] = Ok []
-texts_in (word ∷ words) = or_at_fault word (text_before words word) >>= λ text. texts_in words >>= λ texts. Ok (text ∷ texts)
 
 -- a value after which no word is
 abbrev pub alone : {A : Type 0} → A → List Word → Result A Fault
@@ -298,14 +263,6 @@ abbrev pub order_in : Option Bytes → Bytes → Option Keyword → List Word �
 order_in selection head None words = Err (fault.UnknownCommand head)
 order_in selection head (Some word) words =
     if is_superfluous selection word then Err (fault.BadWords head) else form_of selection word words
-
--- more bytes than a line may have
-abbrev pub is_long : Bytes → Bool
-is_long line = nat_lt MAX_LINE_BYTES (length line)
-
--- what is reported of such a line
-abbrev pub too_long : Fault
-too_long = fault.ExpansionLimit limit.LineBytes MAX_LINE_BYTES
 
 -- the order that is after a line's selection: its command word goes up to the first blank
 abbrev pub order_after : Front → Result Order Fault

@@ -8,9 +8,9 @@ use Rattle.selection_parser.specs.Reading.{selection_at}
 use Rattle.selection_parser.specs.Texts.{has_utf8_texts}
 use Rattle.selection_parser.specs.Views.{plain_of}
 use Rattle.selection_parser.specs.declared.selection.Selection.{Selection}
+use Rattle.script_lines.specs.Names.{is_letter}
+use Rattle.script_lines.specs.Words.{head_of, without_blanks}
 use Rattle.script_reader.specs.Keywords.{keyword_of}
-use Rattle.script_reader.specs.Names.{is_letter}
-use Rattle.script_reader.specs.Words.{head_of, without_blanks}
 use Rattle.script_reader.specs.declared.keyword.Keyword.{Keyword}
 use Rattle.script_reader.specs.declared.keyword.Keyword.TheVariants as keyword
 

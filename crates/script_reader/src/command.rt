@@ -1,18 +1,15 @@
 //! What a line orders: a command, or that a macro is run.
-ghost use Rattle.std.specs.Prelude.{◌≡◌};
 ghost use Rattle.plain_model.specs.Faults.{Returns};
-ghost use Rattle.script_reader.specs.Answering.{Refuses};
-ghost use Rattle.script_reader.specs.Commands.{is_long, order_after, order_of, too_long};
 ghost use Rattle.plain_model.specs.declared.fault.Fault.TheVariants.{UnknownCommand};
+ghost use Rattle.script_lines.specs.Answering.{Refuses};
+ghost use Rattle.script_reader.specs.Commands.{order_after, order_of};
 
 use crate::edit::Edit;
-use crate::form::{bad_words, form};
+use crate::form::form;
 use crate::keyword::Keyword;
-use crate::script::LineList;
-use crate::script_text::ScriptText;
 use crate::selecting::{WrittenSelection, cut_front, is_superfluous};
-use crate::words::{cut_head, words_in};
-use plain_model::{Fault, Halt, Items, MAX_LINE_BYTES, NoMemory, Text, Which};
+use plain_model::{Fault, Halt, Items, NoMemory, Text};
+use script_lines::{LineList, ScriptText, bad_words, cut_head, is_long, too_long, words_in};
 use std::alloc::Global;
 
 /// A command as it was read: its words fit, and nothing was looked up yet. (reposurgeon manual, the
@@ -116,23 +113,6 @@ fn unknown(alloc: Global, word: &str) -> Halt
     match Items::of(alloc, word.as_bytes()) {
         Ok(word) => Halt::Refused(Fault::UnknownCommand { word }),
         Err(NoMemory) => Halt::Memory,
-    }
-}
-
-/// Whether a line has more bytes than one may have.
-pub fn is_long(line: &str) -> bool
-    ensures { result ≡ is_long line.now }
-{
-    line.len() as u64 > MAX_LINE_BYTES
-}
-
-/// What is reported of such a line.
-pub fn too_long() -> Fault
-    ensures { result ≡ too_long }
-{
-    Fault::ExpansionLimit {
-        which: Which::LineBytes,
-        number: MAX_LINE_BYTES,
     }
 }
 

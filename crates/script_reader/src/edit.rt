@@ -1,7 +1,7 @@
 //! Edits of the chosen history.
 use crate::options::Reparenting;
-use crate::script_text::ScriptText;
 use crate::spelled::SpelledOp;
+use script_lines::ScriptText;
 use squash_laws::Policy;
 
 /// An edit of selected events as it was read. (reposurgeon manual, the section of each command word)

@@ -1,6 +1,7 @@
 //! The words of edits, after their command words.
 ghost use Rattle.std.specs.Prelude.{◌≡◌, option_and_then};
 ghost use Rattle.plain_model.specs.Faults.{Returns};
+ghost use Rattle.script_lines.specs.Texts.{or_at_fault, text_before, whole_in};
 ghost use Rattle.script_reader.specs.Commands.{
   add_words,
   alone,
@@ -8,15 +9,12 @@ ghost use Rattle.script_reader.specs.Commands.{
   coalesce_words,
   cut_form,
   op_by,
-  or_at_fault,
   remove_words,
   removal_of,
   reparent_words,
   reparenting_by,
   split_words,
   squash_words,
-  text_before,
-  whole_in,
 };
 ghost use Rattle.script_reader.specs.Cuts.{cut_of};
 ghost use Rattle.script_reader.specs.Numbers.{index_in, seconds_in};
@@ -27,14 +25,11 @@ ghost use Rattle.squash_laws.specs.Faults.{delete_how};
 
 use crate::cut::Cut;
 use crate::edit::Edit;
-use crate::form::{at_fault, bad_words};
 use crate::number::{USUAL_SECONDS, index_in, seconds_in};
 use crate::options::{Asked, Reparenting, SquashOption};
-use crate::script_text::ScriptText;
 use crate::spelled::{SaidOp, SpelledOp};
-use crate::texts::text_before;
-use crate::word::Word;
 use plain_model::Halt;
+use script_lines::{ScriptText, Word, at_fault, bad_words, or_at_fault, text_before};
 use squash_laws::{Lean, Policy, Push};
 use std::alloc::Global;
 
@@ -52,10 +47,7 @@ pub fn only(alloc: Global, what: Edit, words: &[Word]) -> Result<Edit, Halt>
 fn squash_option(word: &Word) -> Option<SquashOption>
     ensures { result ≡ option_and_then squash_option (whole_in word.now) }
 {
-    match word {
-        Word::Plain(text) | Word::Quoted(text) => SquashOption::of(text.as_bytes()),
-        Word::Broken(_) => None,
-    }
+    SquashOption::of(word.whole()?.as_bytes())
 }
 
 // What options ask for with one more word, if it is an option and can follow them.
@@ -63,10 +55,7 @@ fn asked_more(asked: Asked, word: &Word) -> Option<Asked>
     ensures { result ≡ option_and_then (asked_more asked)
         (option_and_then squash_option (whole_in word.now)) }
 {
-    match squash_option(word) {
-        Some(option) => asked.more(option),
-        None => None,
-    }
+    asked.more(squash_option(word)?)
 }
 
 // What the options ask for that follow some.
@@ -75,10 +64,10 @@ fn asked_by(alloc: Global, asked: Asked, words: &[Word]) -> Result<Asked, Halt>
 {
     match words {
         [] => Ok(asked),
-        [word, others @ ..] => match asked_more(asked, word) {
-            Some(more) => asked_by(alloc, more, others),
-            None => Err(at_fault(alloc, word)),
-        },
+        [word, others @ ..] => {
+            let more = or_at_fault(alloc, word, asked_more(asked, word))?;
+            asked_by(alloc, more, others)
+        }
     }
 }
 
@@ -103,33 +92,17 @@ pub fn delete(alloc: Global, words: &[Word]) -> Result<Edit, Halt>
 }
 
 // The word after `split`.
-fn cut_in(alloc: Global, word: &Word) -> Result<Cut, Halt>
-    ensures { Returns (λ cut. cut) result
-        (or_at_fault word.now (option_and_then cut_of (whole_in word.now))) }
+fn cut_in(word: &Word) -> Option<Cut>
+    ensures { result ≡ option_and_then cut_of (whole_in word.now) }
 {
-    let cut = match word {
-        Word::Plain(text) | Word::Quoted(text) => Cut::of(text.as_bytes()),
-        Word::Broken(_) => None,
-    };
-    match cut {
-        Some(cut) => Ok(cut),
-        None => Err(at_fault(alloc, word)),
-    }
+    Cut::of(word.whole()?.as_bytes())
 }
 
-// The number of an operation.
-fn index(alloc: Global, word: &Word) -> Result<u64, Halt>
-    ensures { Returns (λ number. number) result
-        (or_at_fault word.now (option_and_then index_in (whole_in word.now))) }
+// The number of an operation that a word says.
+fn index(word: &Word) -> Option<u64>
+    ensures { result ≡ option_and_then index_in (whole_in word.now) }
 {
-    let number = match word {
-        Word::Plain(text) | Word::Quoted(text) => index_in(text.as_bytes()),
-        Word::Broken(_) => None,
-    };
-    match number {
-        Some(number) => Ok(number),
-        None => Err(at_fault(alloc, word)),
-    }
+    index_in(word.whole()?.as_bytes())
 }
 
 // What is after `at`, or after `by`.
@@ -140,7 +113,7 @@ fn cut(alloc: Global, place: Cut, words: &[Word]) -> Result<Edit, Halt>
         return Err(bad_words(alloc, b"split"));
     };
     let what = match place {
-        Cut::At => Edit::SplitAt(index(alloc, word)?),
+        Cut::At => Edit::SplitAt(or_at_fault(alloc, word, index(word))?),
         Cut::By => Edit::SplitBy(text_before(alloc, others, word)?),
     };
     match others {
@@ -157,7 +130,7 @@ pub fn split(alloc: Global, words: &[Word]) -> Result<Edit, Halt>
     let [word, others @ ..] = words else {
         return Err(bad_words(alloc, b"split"));
     };
-    let place = cut_in(alloc, word)?;
+    let place = or_at_fault(alloc, word, cut_in(word))?;
     cut(alloc, place, others)
 }
 
@@ -165,10 +138,7 @@ pub fn split(alloc: Global, words: &[Word]) -> Result<Edit, Halt>
 fn reparenting_more(how: Reparenting, word: &Word) -> Option<Reparenting>
     ensures { result ≡ option_and_then (reparenting_more how) (whole_in word.now) }
 {
-    match word {
-        Word::Plain(text) | Word::Quoted(text) => how.more(text.as_bytes()),
-        Word::Broken(_) => None,
-    }
+    how.more(word.whole()?.as_bytes())
 }
 
 // What the options of `reparent` say that follow some.
@@ -177,10 +147,10 @@ fn reparenting_by(alloc: Global, how: Reparenting, words: &[Word]) -> Result<Rep
 {
     match words {
         [] => Ok(how),
-        [word, others @ ..] => match reparenting_more(how, word) {
-            Some(more) => reparenting_by(alloc, more, others),
-            None => Err(at_fault(alloc, word)),
-        },
+        [word, others @ ..] => {
+            let more = or_at_fault(alloc, word, reparenting_more(how, word))?;
+            reparenting_by(alloc, more, others)
+        }
     }
 }
 
@@ -199,10 +169,8 @@ fn op_more(alloc: Global, said: SaidOp, others: &[Word], word: &Word) -> Result<
         (or_at_fault word.now (option_and_then (op_more said) (text_before others.now word.now))) }
 {
     let text = text_before(alloc, others, word)?;
-    match said.more(alloc, text.as_bytes())? {
-        Some(more) => Ok(more),
-        None => Err(at_fault(alloc, word)),
-    }
+    let more = said.more(alloc, text.as_bytes())?;
+    or_at_fault(alloc, word, more)
 }
 
 // What the words of an operation say that follow some.
@@ -253,18 +221,10 @@ pub fn remove(alloc: Global, words: &[Word]) -> Result<Edit, Halt>
 }
 
 // The number of seconds that a word says.
-fn seconds(alloc: Global, word: &Word) -> Result<u64, Halt>
-    ensures { Returns (λ number. number) result
-        (or_at_fault word.now (option_and_then seconds_in (whole_in word.now))) }
+fn seconds(word: &Word) -> Option<u64>
+    ensures { result ≡ option_and_then seconds_in (whole_in word.now) }
 {
-    let number = match word {
-        Word::Plain(text) | Word::Quoted(text) => seconds_in(text.as_bytes()),
-        Word::Broken(_) => None,
-    };
-    match number {
-        Some(number) => Ok(number),
-        None => Err(at_fault(alloc, word)),
-    }
+    seconds_in(word.whole()?.as_bytes())
 }
 
 /// `[SECONDS]`
@@ -275,7 +235,7 @@ pub fn coalesce(alloc: Global, words: &[Word]) -> Result<Edit, Halt>
     match words {
         [] => Ok(Edit::Coalesce(USUAL_SECONDS)),
         [word, others @ ..] => {
-            let seconds = seconds(alloc, word)?;
+            let seconds = or_at_fault(alloc, word, seconds(word))?;
             only(alloc, Edit::Coalesce(seconds), others)
         }
     }

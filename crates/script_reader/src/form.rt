@@ -1,8 +1,9 @@
 //! The forms of the commands: what may be after each command word.
-ghost use Rattle.std.specs.Prelude.{◌≡◌, IfOk, Some, option_and_then};
-ghost use Rattle.plain_model.specs.declared.fault.Fault.TheVariants.{BadWords};
+ghost use Rattle.std.specs.Prelude.{◌≡◌, IfOk};
+ghost use Rattle.std.specs.Option.{option_copied};
 ghost use Rattle.plain_model.specs.Faults.{Returns};
-ghost use Rattle.script_reader.specs.Answering.{Refuses};
+ghost use Rattle.script_lines.specs.Redirections.{redirected};
+ghost use Rattle.script_lines.specs.Texts.{name_in, or_at_fault, whole_in};
 ghost use Rattle.script_reader.specs.Commands.{
   assign_form,
   choose_form,
@@ -13,10 +14,8 @@ ghost use Rattle.script_reader.specs.Commands.{
   form_of,
   if_given,
   last_name,
-  name_in,
   name_within,
   names_form,
-  or_at_fault,
   output_in,
   plain_form,
   read_form,
@@ -28,58 +27,31 @@ ghost use Rattle.script_reader.specs.Commands.{
   show_form,
   steps,
   summary_form,
-  whole_in,
   write_form,
 };
 ghost use Rattle.script_reader.specs.Numbers.{said_between};
-ghost use Rattle.script_reader.specs.Redirections.{redirected};
-ghost use Rattle.script_reader.specs.Words.{text_of};
 
 use crate::command::{Call, Command, Listing, Order};
-use crate::definition::is_given_name;
 use crate::edit::Edit;
 use crate::edit_words::{add, coalesce, delete, only, remove, reparent, split, squash};
 use crate::keyword::{EditWord, Keyword, PlainWord};
 use crate::number::{MAX_START, number_between};
-use crate::redirection::{Direction, begins_with_sign, redirected};
-use crate::repo_name::{is_repo_name, repo_name};
-use crate::script::LineList;
-use crate::script_text::ScriptText;
 use crate::selecting::WrittenSelection;
-use crate::texts::{text_before, texts_in};
-use crate::word::Word;
-use plain_model::{Fault, Halt, Items, NoMemory, Text};
+use plain_model::{Halt, Items, NoMemory, Text};
 use sample_history::MAX_COMMITS;
+use script_lines::{
+    Direction, ScriptText, Word, at_fault, bad_words, is_given_name, is_repo_name, name_in,
+    or_at_fault, redirected, repo_name, text_before, texts_in,
+};
 use std::alloc::Global;
 
-/// The refusal of a line with this word, which is the first at fault.
-pub fn bad_words(alloc: Global, word: &[u8]) -> Halt
-    ensures { Refuses result (BadWords word.now) }
-{
-    match Items::of(alloc, word) {
-        Ok(word) => Halt::Refused(Fault::BadWords { word }),
-        Err(NoMemory) => Halt::Memory,
-    }
-}
-
-/// The same of a word.
-pub fn at_fault(alloc: Global, word: &Word) -> Halt
-    ensures { Refuses result (BadWords (text_of word.now)) }
-{
-    bad_words(alloc, word.text().as_bytes())
-}
-
-// The name that a last word is, which is no redirection.
-fn name_in(alloc: Global, word: &Word) -> Result<Text, Halt>
+// The name of a repository that a last word is.
+fn name_of(alloc: Global, word: &Word) -> Result<Text, Halt>
     ensures { Returns (λ name. name) result (or_at_fault word.now (name_in word.now)) }
 {
-    match word {
-        Word::Plain(text) if !begins_with_sign(text.as_bytes()) => Ok(Items::of(
-            alloc,
-            text.as_bytes(),
-        )?),
-        Word::Quoted(text) => Ok(Items::of(alloc, text.as_bytes())?),
-        _ => Err(at_fault(alloc, word)),
+    match name_in(word) {
+        Some(text) => Ok(Items::of(alloc, text.as_bytes())?),
+        None => Err(at_fault(alloc, word)),
     }
 }
 
@@ -103,15 +75,18 @@ fn name_within(alloc: Global, words: &[Word]) -> Result<Option<Text>, Halt>
 {
     match words {
         [] => Ok(None),
-        [word] => Ok(Some(name_in(alloc, word)?)),
+        [word] => Ok(Some(name_of(alloc, word)?)),
         [_, next, ..] => Err(at_fault(alloc, next)),
     }
 }
 
-// The command to read a file, if the file gives a repository's name.
-fn read_of(alloc: Global, file: &str) -> Result<Option<Command>, NoMemory>
-    ensures { IfOk result (λ command. command ≡ read_of (Some file.now)) }
+// The command to read a file, if one is named and gives a repository's name.
+fn read_of(alloc: Global, file: Option<&str>) -> Result<Option<Command>, NoMemory>
+    ensures { IfOk result (λ command. command ≡ read_of (option_copied file.entry)) }
 {
+    let Some(file) = file else {
+        return Ok(None);
+    };
     let name = repo_name(file.as_bytes());
     if !is_repo_name(name) {
         return Ok(None);
@@ -127,12 +102,8 @@ fn read_one(alloc: Global, word: &Word) -> Result<Command, Halt>
     ensures { Returns (λ command. command) result
         (or_at_fault word.now (read_of (redirected Direction.Input word.now))) }
 {
-    if let Some(file) = redirected(Direction::Input, word) {
-        if let Some(command) = read_of(alloc, file)? {
-            return Ok(command);
-        }
-    }
-    Err(at_fault(alloc, word))
+    let command = read_of(alloc, redirected(Direction::Input, word))?;
+    or_at_fault(alloc, word, command)
 }
 
 // `read <FILE`
@@ -212,10 +183,8 @@ fn given_name(alloc: Global, word: &Word) -> Result<Text, Halt>
     ensures { Returns (λ name. name) result
         (or_at_fault word.now (if_given (whole_in word.now))) }
 {
-    match word {
-        Word::Plain(text) | Word::Quoted(text) if is_given_name(text.as_bytes()) => {
-            Ok(Items::of(alloc, text.as_bytes())?)
-        }
+    match word.whole() {
+        Some(text) if is_given_name(text.as_bytes()) => Ok(Items::of(alloc, text.as_bytes())?),
         _ => Err(at_fault(alloc, word)),
     }
 }
@@ -270,18 +239,10 @@ fn summary(alloc: Global, words: &[Word]) -> Result<Command, Halt>
 }
 
 // The number that a word says, in a range.
-fn number_in(alloc: Global, word: &Word, least: u64, most: u64) -> Result<u64, Halt>
-    ensures { Returns (λ number. number) result
-        (or_at_fault word.now (said_between least most (whole_in word.now))) }
+fn number_in(word: &Word, least: u64, most: u64) -> Option<u64>
+    ensures { result ≡ said_between least most (whole_in word.now) }
 {
-    let number = match word {
-        Word::Plain(text) | Word::Quoted(text) => number_between(least, most, text.as_bytes()),
-        Word::Broken(_) => None,
-    };
-    match number {
-        Some(number) => Ok(number),
-        None => Err(at_fault(alloc, word)),
-    }
+    number_between(least, most, word.whole()?.as_bytes())
 }
 
 // `sample COUNT START`, after COUNT
@@ -292,10 +253,10 @@ fn sample_start(alloc: Global, count: u64, words: &[Word]) -> Result<Command, Ha
         [] => Err(bad_words(alloc, b"sample")),
         [word] => Ok(Command::Sample {
             count,
-            start: number_in(alloc, word, 0, MAX_START)?,
+            start: or_at_fault(alloc, word, number_in(word, 0, MAX_START))?,
         }),
         [word, next, ..] => {
-            let _ = number_in(alloc, word, 0, MAX_START)?;
+            let _ = or_at_fault(alloc, word, number_in(word, 0, MAX_START))?;
             Err(at_fault(alloc, next))
         }
     }
@@ -309,7 +270,7 @@ fn sample(alloc: Global, words: &[Word]) -> Result<Command, Halt>
     match words {
         [] => Err(bad_words(alloc, b"sample")),
         [word, others @ ..] => {
-            let count = number_in(alloc, word, 1, MAX_COMMITS)?;
+            let count = or_at_fault(alloc, word, number_in(word, 1, MAX_COMMITS))?;
             sample_start(alloc, count, others)
         }
     }

@@ -22,7 +22,7 @@ pub const MAX_INDEX: u64 = 9_999_999_999_999_999_999;
 pub const MAX_SECOND_DIGITS: usize = 9;
 
 /// The greatest number of so many digits. (own)
-pub const MAX_SECONDS: u64 = 999_999_999;
+pub const MAX_COALESCE_SECONDS: u64 = 999_999_999;
 
 /// The seconds between two commits that are joined, where none are said. (reposurgeon manual, `coalesce`)
 pub const USUAL_SECONDS: u64 = 90;
@@ -63,7 +63,7 @@ pub fn seconds_in(text: &[u8]) -> Option<u64>
     ensures { result ≡ seconds_in text.now }
 {
     if text.len() <= MAX_SECOND_DIGITS {
-        number_up_to(MAX_SECONDS, text)
+        number_up_to(MAX_COALESCE_SECONDS, text)
     } else {
         None
     }

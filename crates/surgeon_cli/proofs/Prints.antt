@@ -4,7 +4,7 @@ use Rattle.std.specs.Prelude.{IfSome}
 use Rattle.plain_model.specs.Files.{Files}
 use Rattle.history_machine.specs.Machine.{World, Run, EndsAs, SessionEndsAs}
 use Rattle.history_machine.specs.Sessions.{empty_session}
-use Rattle.script_reader.specs.declared.script.ScriptItem.{ScriptItem}
+use Rattle.script_lines.specs.declared.script.ScriptItem.{ScriptItem}
 use Rattle.history_machine.specs.Words.{Asked}
 use Rattle.history_machine.specs.Whole.{Denials, run_from, run_read, unread}
 use Rattle.plain_model.specs.declared.fault.Fault.{Fault}

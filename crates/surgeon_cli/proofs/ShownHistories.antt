@@ -17,13 +17,13 @@ use Rattle.script_reader.specs.Commands.{order_of}
 use Rattle.script_reader.specs.declared.command.Order.{Order}
 use Rattle.script_reader.specs.declared.command.Order.TheVariants as order
 use Rattle.script_reader.specs.declared.command.Command.TheVariants as command
-use Rattle.script_reader.specs.declared.script.ScriptItem.{ScriptItem}
-use Rattle.script_reader.specs.declared.script.ScriptLine.{ScriptLine}
-use Rattle.script_reader.specs.declared.script.ScriptLine.TheVariants.{Define, Plain}
+use Rattle.script_lines.specs.declared.script.ScriptItem.{ScriptItem}
+use Rattle.script_lines.specs.declared.script.ScriptLine.{ScriptLine}
+use Rattle.script_lines.specs.declared.script.ScriptLine.TheVariants.{Define, Plain}
 use Rattle.history_machine.specs.declared.waiting.Waiting.{Waiting}
 use Rattle.edit_laws.specs.Editing.{IsLawfulHistory}
 use Rattle.history_machine.specs.Lawful.{IsLawful, IsLawfulRepo}
-use Rattle.script_reader.specs.Answering.{◌>>=◌}
+use Rattle.script_lines.specs.Answering.{◌>>=◌}
 use Rattle.history_machine.specs.Machine.{Run, Turn, called_by, ended, files_after, first_of, goes_on, others_of, run_on, status_after, turn_of}
 use Rattle.history_machine.specs.Sessions.{Repo, Session, chosen, empty_session, line_step, ordered, sends, step}
 use Rattle.history_machine.specs.Whole.{Denials, run, run_asked, run_read, script_in, waiting_of}

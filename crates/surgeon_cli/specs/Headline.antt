@@ -15,8 +15,8 @@ use Rattle.script_reader.specs.Commands.{order_of}
 use Rattle.script_reader.specs.declared.command.Order.{Order}
 use Rattle.script_reader.specs.declared.command.Order.TheVariants as order
 use Rattle.script_reader.specs.declared.command.Command.TheVariants as command
-use Rattle.script_reader.specs.declared.script.ScriptLine.{ScriptLine}
-use Rattle.script_reader.specs.declared.script.ScriptLine.TheVariants.{Define, Plain}
+use Rattle.script_lines.specs.declared.script.ScriptLine.{ScriptLine}
+use Rattle.script_lines.specs.declared.script.ScriptLine.TheVariants.{Define, Plain}
 use Rattle.history_machine.specs.Sessions.{Repo, Session, chosen}
 use Rattle.history_machine.specs.Machine.{Completes, EndsAs, Turn}
 use Rattle.history_machine.specs.Whole.{Denials, run}

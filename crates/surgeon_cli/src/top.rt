@@ -51,7 +51,7 @@ use history_machine::{
     the_reads_of_a_run_are_spelled,
 };
 use plain_model::{Fault, Items, MAX_SCRIPT_BYTES, NoMemory, Status, Text};
-use script_reader::{Script, a_script_is_never_absent};
+use script_lines::{Script, a_script_is_never_absent};
 use shown_laws::what_is_written_shows_the_history;
 use std::alloc::Global;
 use std::mem;

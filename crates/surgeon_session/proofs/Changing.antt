@@ -16,7 +16,7 @@ use Rattle.edit_laws.specs.Editing.{Remade, with_number}
 use Rattle.event_arena.specs.Graphs.{Change, Graph}
 use Rattle.event_arena.specs.Plans.{IsPlanOf, Plans}
 use Rattle.selection_eval.specs.Names.{assigned}
-use Rattle.script_reader.specs.Answering.{◌>>=◌}
+use Rattle.script_lines.specs.Answering.{◌>>=◌}
 use Rattle.history_machine.specs.Sessions.{Repo, Session, after_edit, chosen, chosen_by, edited, find_repo, unassigned, with_remade, with_repo}
 use Rattle.surgeon_session.specs.Entries.{Loaded, assigned_in, edited_in, found_repo, made_by, repo_under, repos_of, with_given}
 use Rattle.surgeon_session.proofs.Entries.{found_under, same_repos, set_repos}

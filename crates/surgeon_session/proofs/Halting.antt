@@ -12,7 +12,7 @@ use Rattle.surgeon_store.specs.Outside.{StoreState, SinkState, Reads}
 use Rattle.surgeon_store.specs.WholeFiles.{ReturnsOrBreaks}
 use Rattle.surgeon_store.specs.declared.whole_files.ReadEnd.{ReadEnd}
 use Rattle.surgeon_store.specs.declared.whole_files.ReadEnd.TheVariants as read
-use Rattle.script_reader.specs.Answering.{◌>>=◌}
+use Rattle.script_lines.specs.Answering.{◌>>=◌}
 use Rattle.history_machine.specs.Machine.{World, Turn}
 use Rattle.history_machine.specs.Sessions.{Session, after_read, changes}
 use Rattle.surgeon_session.specs.Calls.{Outcome, world, world_of}

@@ -13,7 +13,7 @@ use Rattle.script_reader.specs.Commands.{order_of}
 use Rattle.script_reader.specs.declared.command.Command.{Command}
 use Rattle.script_reader.specs.declared.command.Command.TheVariants as command
 use Rattle.script_reader.specs.declared.command.Order.{Order}
-use Rattle.script_reader.specs.declared.script.ScriptLine.TheVariants.{Plain}
+use Rattle.script_lines.specs.declared.script.ScriptLine.TheVariants.{Plain}
 use Rattle.surgeon_store.specs.Outside.{StoreState, SinkState}
 use Rattle.history_machine.specs.Machine.{World, Turn, PartSent, sent, turn_of}
 use Rattle.history_machine.specs.Sessions.{Session, Subject, carried, line_step, of_events, ordered, ready, step}

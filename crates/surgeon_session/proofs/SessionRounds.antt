@@ -8,8 +8,8 @@ use Rattle.history_machine.specs.declared.waiting.Waiting.{Waiting}
 use Rattle.plain_model.specs.declared.fault.Fault.{Fault}
 use Rattle.plain_model.specs.declared.status.Status.{Status}
 use Rattle.plain_model.specs.declared.status.Status.TheVariants as status
-use Rattle.script_reader.specs.declared.script.ScriptItem.{ScriptItem}
-use Rattle.script_reader.specs.declared.script.ScriptLine.{ScriptLine}
+use Rattle.script_lines.specs.declared.script.ScriptItem.{ScriptItem}
+use Rattle.script_lines.specs.declared.script.ScriptLine.{ScriptLine}
 use Rattle.history_machine.specs.Whole.{waiting_of}
 use Rattle.history_machine.proofs.Runs.{IsBreak}
 use Rattle.surgeon_session.specs.Calls.{Caused}

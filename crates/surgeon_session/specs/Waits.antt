@@ -4,7 +4,7 @@ use Rattle.std.specs.List.{AllByRecursion}
 use Rattle.plain_model.specs.Faults.{refusal}
 use Rattle.plain_model.specs.declared.status.Status.{Status}
 use Rattle.plain_model.specs.declared.status.Status.TheVariants as status
-use Rattle.script_reader.specs.declared.script.ScriptLine.{ScriptLine}
+use Rattle.script_lines.specs.declared.script.ScriptLine.{ScriptLine}
 use Rattle.history_machine.specs.declared.waiting.Waiting.{Waiting}
 use Rattle.history_machine.specs.Machine.{PartSent, World, past, sent}
 

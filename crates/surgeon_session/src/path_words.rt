@@ -8,7 +8,7 @@ ghost use Rattle.plain_model.specs.Faults.{Returns};
 use byte_patterns::Patterns;
 use path_expunge::Matcher;
 use plain_model::{Fault, Halt, Items, Path, PathFault};
-use script_reader::ScriptText;
+use script_lines::ScriptText;
 use std::alloc::Global;
 
 /// The path that a word says.

@@ -27,7 +27,8 @@ use crate::worklist::Worklist;
 use byte_patterns::Patterns;
 use history_machine::Waiting;
 use plain_model::{Fault, Items, MAX_COMMANDS, NoMemory, Status, Which};
-use script_reader::{LineList, Order, Script, ScriptLine, is_long, too_long};
+use script_lines::{LineList, Script, ScriptLine, is_long, too_long};
+use script_reader::Order;
 use std::alloc::Global;
 use surgeon_store::{Sink, Store, WriteEnd, write_all};
 

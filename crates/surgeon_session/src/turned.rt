@@ -1,7 +1,7 @@
 //! How a line of a run ends.
 
 use plain_model::Status;
-use script_reader::LineList;
+use script_lines::LineList;
 
 /// What broke a line off.
 #[derive(Clone, Copy)]

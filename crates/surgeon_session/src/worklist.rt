@@ -5,7 +5,7 @@ ghost use Rattle.history_machine.specs.Whole.{waiting_of};
 
 use history_machine::Waiting;
 use plain_model::{Copied, NoMemory};
-use script_reader::{LineList, Script, ScriptLine};
+use script_lines::{LineList, Script, ScriptLine};
 use std::alloc::Global;
 use std::collections::VecDeque;
 use std::marker::Model;

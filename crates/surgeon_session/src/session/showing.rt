@@ -12,7 +12,8 @@ use crate::halted::Halted;
 use crate::sending::send;
 use listing::{names, summary};
 use plain_model::{AnyId, Fault, Halt, Items, NoMemory, Text};
-use script_reader::{Listing, ScriptText};
+use script_lines::ScriptText;
+use script_reader::Listing;
 use stream_writer::Stream;
 use surgeon_store::{Sink, Store};
 

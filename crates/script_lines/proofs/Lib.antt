@@ -1,0 +1,10 @@
+mod Boundaries
+mod LastParts
+mod LineCuts
+mod NeverAbsent
+mod PlaceSteps
+mod ScriptSteps
+mod TextSteps
+mod Trims
+mod WordLaws
+mod WordSteps

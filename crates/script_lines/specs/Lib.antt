@@ -1,0 +1,8 @@
+pub mod Answering
+pub mod Names
+pub mod Places
+pub mod Redirections
+pub mod Scripts
+pub mod Texts
+pub mod Words
+pub mod Written
