@@ -7,9 +7,9 @@ use Rattle.std.proofs.lemmas.List.{append-nil}
 use Rattle.std.specs.Prelude.{◌==◌, flat_map, replicate, slice_get}
 use Rattle.memchr.specs.Find.{IsFirstByte, is_byte}
 use Rattle.plain_model.specs.declared.event.PlainEvent.{PlainEvent}
-use Rattle.plain_model.specs.declared.event.PlainEvent.TheVariants.{Blob, Commit, Tag, Reset, Pass}
 use Rattle.plain_model.specs.Snapshots.{refs_after}
 use Rattle.plain_model.specs.Trees.{TreeOf}
+use Rattle.branch_tips.proofs.Noted.{noted}
 use Rattle.event_arena.proofs.ListLemmas.{drop-item}
 use Rattle.listing.specs.Listings.{first_line}
 
@@ -64,15 +64,6 @@ padded count into new few is =
     rw (is, more) (append_assoc into (32 ∷ []) (replicate (6 - (count + 1)) 32))
 
 -- the branches after one more event
-noted : (tips : TreeOf ℕ) (e : PlainEvent) (events : List PlainEvent)
-    → refs_after tips (e ∷ events) ≡ refs_after (refs_after tips (e ∷ [])) events
-noted tips (Blob id mark bytes) events = refl
-noted tips (Commit id mark branch author committer encoding comment parents ops aliases) events = refl
-noted tips (Tag id name target tagger comment mark) events = refl
-noted tips (Reset id branch (Some c)) events = refl
-noted tips (Reset id branch None) events = refl
-noted tips (Pass id bytes) events = refl
-
 pub noted_at : (events : List PlainEvent) (k : ℕ) (e : PlainEvent) (tips new : TreeOf ℕ)
     → slice_get events k ≡ Some e → new ≡ refs_after tips (e ∷ [])
     → refs_after new (drop (k + 1) events) ≡ refs_after tips (drop k events)

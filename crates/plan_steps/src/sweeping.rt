@@ -23,10 +23,10 @@ ghost use Rattle.edit_laws.specs.Sweeping.{is_left_over, swept};
 ghost use Rattle.plain_model.specs.Lookups.{id_of, is_listed, op_blobs};
 ghost use Rattle.plan_steps.specs.Flags.{AreCandidates, FlagsAdd, FlagsAll, FlagsIds, FlagsNamed, FlagsSome, KeepNames};
 
+use crate::commits::event_ops;
 use crate::selection::Selected;
 use event_arena::Plan;
 use plain_model::{AnyId, Content, FileOp, IdList, NoMemory, PlainEvent};
-use crate::commits::event_ops;
 use std::alloc::Global;
 
 // The blob that an operation names.

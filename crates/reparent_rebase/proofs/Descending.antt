@@ -99,5 +99,3 @@ found_among P test (q ∷ ps) p a h = go (test q) h (found_among P test ps p a.1
     go : (b : Bool) → cond b (Some q) (find test ps) ≡ Some p → (find test ps ≡ Some p → P p) → P p
     go true h f = let is : q ≡ p = cc in subst P is a.0
     go false h f = f h
-
--- ---- the front of a list without repeats

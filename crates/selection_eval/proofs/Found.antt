@@ -46,5 +46,3 @@ dated_after earlier (x ∷ events) (suc n) e h k = dated_after (earlier ++ x ∷
 pub dated_at : (events : List PlainEvent) (k : ℕ) (e : PlainEvent) → IsSound events → slice_get events k ≡ Some e
     → IsDated e
 dated_at events k e h is = dated_after [] events k e h.formed is
-
--- ---- one more

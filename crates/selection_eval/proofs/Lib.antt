@@ -2,6 +2,7 @@ mod Arms
 mod BigLaws
 mod Found
 mod DayTexts
+mod Judged
 mod LiveLaws
 mod LiveParts
 mod Marks
@@ -9,7 +10,6 @@ mod NameSteps
 mod OnceLaws
 mod OnceParts
 mod PathMarks
-mod Powers
 mod SoundLaws
 mod Steps
 mod TipSteps

@@ -1,5 +1,5 @@
 -- Where the branches are, event by event.
-use Rattle.std.proofs.Common.{◌≡◌, ℕ, zero, suc, List, [], ◌∷◌, ◌++◌, Option, Some, None, refl, subst, drop, IsSome}
+use Rattle.std.proofs.Common.{◌≡◌, ℕ, suc, List, [], ◌∷◌, Option, Some, subst, drop, sym, IsSome}
 use Rattle.std.specs.Prelude.{slice_get}
 use Rattle.plain_model.specs.Lookups.{find_event}
 use Rattle.plain_model.specs.Paths.{Bytes}
@@ -8,36 +8,21 @@ use Rattle.plain_model.specs.Soundness.{IsSound}
 use Rattle.plain_model.specs.Trees.{TreeOf, at}
 use Rattle.plain_model.specs.declared.id.AnyId.TheVariants as any
 use Rattle.plain_model.specs.declared.event.PlainEvent.{PlainEvent}
-use Rattle.plain_model.specs.declared.event.PlainEvent.TheVariants.{Blob, Commit, Tag, Reset, Pass}
+use Rattle.event_arena.proofs.ListLemmas.{drop-item}
+use Rattle.branch_tips.proofs.Noted.{noted}
 use Rattle.event_sets.specs.Once.{AreLive}
 use Rattle.selection_eval.specs.Spots.{tip_of}
 use Rattle.selection_eval.proofs.Found.{live_found}
 use Rattle.selection_eval.proofs.SoundLaws.{sound_tips}
 
 -- one event more
-noted : (tips : TreeOf ℕ) (e : PlainEvent) (events : List PlainEvent)
-    → refs_after (refs_after tips (e ∷ [])) events ≡ refs_after tips (e ∷ events)
-noted tips (Blob id mark bytes) events = refl
-noted tips (Commit id mark branch author committer encoding comment parents ops aliases) events = refl
-noted tips (Tag id name target tagger comment mark) events = refl
-noted tips (Reset id branch None) events = refl
-noted tips (Reset id branch (Some c)) events = refl
-noted tips (Pass id line) events = refl
-
-drop_at : (events : List PlainEvent) (k : ℕ) (e : PlainEvent) → slice_get events k ≡ Some e
-    → drop k events ≡ e ∷ drop (suc k) events
-drop_at [] zero e h = absurd cc
-drop_at [] (suc k) e h = absurd cc
-drop_at (x ∷ events) zero e h = let is : x ≡ e = cc in rw is refl
-drop_at (x ∷ events) (suc k) e h = drop_at events k e h
-
 pub next_tips : (tips now : TreeOf ℕ) (events : List PlainEvent) (k : ℕ) (e : PlainEvent) → slice_get events k ≡ Some e
     → now ≡ refs_after tips (e ∷ []) → refs_after tips (drop k events) ≡ refs events
     → refs_after now (drop (suc k) events) ≡ refs events
 next_tips tips now events k e at_k is h =
     let rest : refs_after tips (e ∷ drop (suc k) events) ≡ refs events =
-    subst (λ (l : List PlainEvent). refs_after tips l ≡ refs events) (drop_at events k e at_k) h in
-    rw (is, noted tips e (drop (suc k) events)) rest
+    subst (λ (l : List PlainEvent). refs_after tips l ≡ refs events) (drop-item events k e at_k) h in
+    rw (is, sym (noted tips e (drop (suc k) events))) rest
 
 -- the tip of a branch is a commit of the history
 pub tip_found : (events : List PlainEvent) (branch : Bytes) (c : ℕ) → IsSound events → at (refs events) branch ≡ Some c

@@ -182,7 +182,7 @@ fn next<'e>(
 // ---- what is made of an answer
 
 // All other events.
-#[tactic(auto, using(crate::proofs::Judged::made, crate::proofs::Judged::stopped))]
+#[tactic(auto, using(crate::proofs::Judged::made, byte_patterns::proofs::Judged::stopped))]
 fn rest_of<'e>(
     alloc: Global,
     answer: Result<EventSet<'e>, Halt>,
@@ -199,7 +199,7 @@ fn rest_of<'e>(
 }
 
 // The neighbours, so many times over.
-#[tactic(auto, using(crate::proofs::Judged::made, crate::proofs::Judged::stopped))]
+#[tactic(auto, using(crate::proofs::Judged::made, byte_patterns::proofs::Judged::stopped))]
 fn near_of<'e>(
     alloc: Global,
     answer: Result<EventSet<'e>, Halt>,
@@ -217,7 +217,7 @@ fn near_of<'e>(
 }
 
 // What a function makes of it.
-#[tactic(auto, using(crate::proofs::Judged::made, crate::proofs::Judged::stopped))]
+#[tactic(auto, using(crate::proofs::Judged::made, byte_patterns::proofs::Judged::stopped))]
 fn called_of<'e>(
     alloc: Global,
     answer: Result<EventSet<'e>, Halt>,

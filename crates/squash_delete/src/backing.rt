@@ -72,7 +72,11 @@ fn back_fault(alloc: Global, removal: &Selected) -> Result<Option<Fault>, NoMemo
 }
 
 /// Why the history as it is refuses to be squashed so, if it does.
-pub fn fault_before(alloc: Global, removal: &Selected, push: Push) -> Result<Option<Fault>, NoMemory>
+pub fn fault_before(
+    alloc: Global,
+    removal: &Selected,
+    push: Push,
+) -> Result<Option<Fault>, NoMemory>
     ensures { IfOk result (λ fault. fault ≡ fault_before push removal.now.set removal.now.events) }
 {
     match push {

@@ -21,7 +21,7 @@ ghost use Rattle.edit_laws.specs.Removal.{expand_all};
 ghost use Rattle.plain_model.specs.Histories.{past};
 ghost use Rattle.plain_model.specs.Soundness.{IsCommitOf};
 ghost use Rattle.plan_steps.specs.Depths.{depth, parents_at};
-ghost use Rattle.squash_delete.specs.Chains.{AreBefore, AreLinks, Carry, IsNearest, LinkIs, Notes, NotesNext, no_link, noted_at, };
+ghost use Rattle.squash_delete.specs.Chains.{AreBefore, AreLinks, Carry, IsNearest, LinkIs, Notes, NotesNext, no_link, noted_at};
 ghost use Rattle.squash_laws.specs.Removed.{is_removed};
 ghost use Rattle.squash_laws.specs.Squash.{is_from_root, is_none, links};
 
