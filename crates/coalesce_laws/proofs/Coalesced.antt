@@ -31,7 +31,7 @@ use Rattle.edit_laws.proofs.Sound.{in_parts}
 use Rattle.edit_laws.proofs.Swept.{swept_commit, swept_nodes}
 use Rattle.edit_laws.proofs.Trees.{nodes_found}
 use Rattle.squash_laws.specs.Removed.{Takings, all_left, is_removed, left_of, parents_after, without_set}
-use Rattle.squash_laws.specs.Squash.{links}
+use Rattle.squash_laws.specs.Takings.{links}
 use Rattle.squash_laws.specs.declared.policy.Lean.TheVariants as lean
 use Rattle.squash_laws.specs.declared.policy.Push.TheVariants as push
 use Rattle.squash_laws.proofs.Forward.{left_fits}

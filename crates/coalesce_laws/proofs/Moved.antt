@@ -13,7 +13,7 @@ use Rattle.edit_laws.specs.Removal.{chain}
 use Rattle.edit_laws.proofs.Chains.{chain_gone}
 use Rattle.edit_laws.proofs.Following.{chain_later, chain_none}
 use Rattle.edit_laws.proofs.Trees.{known_later}
-use Rattle.squash_laws.specs.Faults.{is_first}
+use Rattle.squash_laws.specs.Squash.{is_first}
 use Rattle.squash_laws.proofs.Hung.{kids}
 use Rattle.coalesce_laws.specs.Remaining.{weigh}
 

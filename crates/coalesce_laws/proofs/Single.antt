@@ -12,7 +12,7 @@ use Rattle.edit_laws.specs.Removal.{chain, expand, expand_all, once_each}
 use Rattle.edit_laws.proofs.Chains.{chain_gone, chain_other, expand_gone, expand_other, expand_stays, once_each_distinct}
 use Rattle.edit_laws.proofs.Following.{chain_none, expand_itself}
 use Rattle.edit_laws.proofs.Repeats.{distinct_once, shorter_once}
-use Rattle.squash_laws.specs.Squash.{anew, is_from_root, is_none}
+use Rattle.squash_laws.specs.Takings.{anew, is_from_root, is_none}
 use Rattle.coalesce_laws.specs.Remaining.{parents_of_oldest}
 
 -- ---- few parents

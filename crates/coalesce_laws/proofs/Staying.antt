@@ -22,7 +22,7 @@ use Rattle.edit_laws.proofs.Numbered.{sound_numbered}
 use Rattle.edit_laws.proofs.Settles.{settled_ids}
 use Rattle.edit_laws.proofs.Swept.{swept_others}
 use Rattle.squash_laws.specs.Removed.{Takings, all_left, is_removed, left_of, parents_after, without_set}
-use Rattle.squash_laws.specs.Squash.{back_of, forward_of}
+use Rattle.squash_laws.specs.Takings.{back_of, forward_of}
 use Rattle.coalesce_laws.specs.Coalesce.{is_joined_to}
 use Rattle.coalesce_laws.proofs.Blobs.{blobs_stay}
 use Rattle.coalesce_laws.proofs.Coalesced.{commits_stay, done, joins, new, set}

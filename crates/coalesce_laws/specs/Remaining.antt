@@ -8,7 +8,7 @@ use Rattle.plain_model.specs.declared.event.PlainEvent.TheVariants.{Commit}
 use Rattle.plain_model.specs.Histories.{Node, node_at, nodes, past}
 use Rattle.plain_model.specs.Lookups.{children_of, is_listed}
 use Rattle.history_laws.specs.FirstParents.{ops_along}
-use Rattle.squash_laws.specs.Squash.{links}
+use Rattle.squash_laws.specs.Takings.{links}
 
 -- the commit has exactly one child, and both are selected
 abbrev pub IsJoinedTo : List AnyId → List PlainEvent → ℕ → Type 0

@@ -14,7 +14,7 @@ use Rattle.edit_laws.proofs.Children.{forward_at}
 use Rattle.graph_walk.proofs.PlaceLemmas.{place_found, place_within}
 use Rattle.manifest_cache.specs.Walks.{commit_id}
 use Rattle.squash_laws.specs.Removed.{is_removed}
-use Rattle.squash_laws.specs.Squash.{back_of, forward_of}
+use Rattle.squash_laws.specs.Takings.{back_of, forward_of}
 use Rattle.plan_steps.proofs.NodeLemmas.{found_at}
 use Rattle.plan_steps.proofs.WayLemmas.{commit_own, first_known, is_early, own_commit}
 use Rattle.coalesce_laws.proofs.Joined.{IsJoined, joined}

@@ -23,7 +23,7 @@ use Rattle.edit_laws.proofs.Sound.{in_parts}
 use Rattle.graph_walk.proofs.TurnLemmas.{all_at}
 use Rattle.manifest_cache.specs.Walks.{commit_id}
 use Rattle.squash_laws.specs.Removed.{Takings, all_left, is_removed, left_of, parents_after}
-use Rattle.squash_laws.specs.Squash.{links}
+use Rattle.squash_laws.specs.Takings.{links}
 use Rattle.plan_steps.specs.Leaving.{event_after, goes}
 use Rattle.plan_steps.proofs.LeavingLemmas.{after_id, left_one}
 use Rattle.coalesce_laws.specs.Remaining.{parents_of_oldest}

@@ -21,7 +21,7 @@ use Rattle.edit_laws.proofs.Following.{chain_at, chain_none}
 use Rattle.graph_walk.proofs.PlaceLemmas.{place_found}
 use Rattle.manifest_cache.specs.Walks.{event_ops, ops_at}
 use Rattle.squash_laws.specs.Removed.{is_removed}
-use Rattle.squash_laws.specs.Squash.{links}
+use Rattle.squash_laws.specs.Takings.{links}
 use Rattle.plan_steps.specs.Depths.{depth, parents_at}
 use Rattle.plan_steps.proofs.Depths.{depth_at, depth_before, links_nil}
 use Rattle.plan_steps.proofs.NodeLemmas.{found_at, found_node, node_of}

@@ -10,7 +10,7 @@ use Rattle.plain_model.specs.Soundness.{has_id}
 use Rattle.history_laws.specs.Finding.{is_only}
 use Rattle.manifest_cache.specs.Walks.{commit_id, ops_at}
 use Rattle.squash_laws.specs.Removed.{Takings, is_removed, parents_after}
-use Rattle.squash_laws.specs.Squash.{forward_of}
+use Rattle.squash_laws.specs.Takings.{forward_of}
 use Rattle.squash_laws.specs.declared.policy.Lean.TheVariants as lean
 use Rattle.plan_steps.specs.Depths.{parents_at}
 use Rattle.plan_steps.specs.Leaving.{event_after}

@@ -2,7 +2,7 @@
 ghost use Rattle.std.specs.Prelude.{◌≡◌, ◌++◌, flat_map, map, IfOk};
 ghost use Rattle.coalesce_simplify.specs.Joining.{commit_node, first_joined};
 ghost use Rattle.manifest_cache.specs.Walks.{ops_at};
-ghost use Rattle.squash_laws.specs.Squash.{links};
+ghost use Rattle.squash_laws.specs.Takings.{links};
 
 use event_arena::Events;
 use plain_model::{CommitId, FileOp, NoMemory, OpList};

@@ -32,7 +32,7 @@ ghost use Rattle.history_laws.specs.FirstParents.{ops_along};
 ghost use Rattle.plain_model.specs.Lookups.{find_event, id_of};
 ghost use Rattle.plain_model.specs.declared.id.AnyId.TheVariants.{Commit};
 ghost use Rattle.squash_laws.specs.Removed.{without_set};
-ghost use Rattle.squash_laws.specs.Squash.{links};
+ghost use Rattle.squash_laws.specs.Takings.{links};
 
 use crate::chains::{joined_before, ops_after};
 use crate::ends::{end_of, ends};

@@ -20,7 +20,7 @@ use Rattle.plain_model.specs.Trees.{Refusal, Tree, apply, apply_all, at, cleared
 use Rattle.history_laws.proofs.TreeLaws.{same_path}
 use Rattle.history_laws.proofs.Lists.{all_join}
 use Rattle.edit_laws.proofs.Lists.{all_filter}
-use Rattle.squash_laws.specs.Squash.{is_none}
+use Rattle.squash_laws.specs.Takings.{is_none}
 use Rattle.expunge_laws.specs.Replaced.{deletes_of, is_clear, puts_of, replaced, replaced_all, restricted, rewritten, has_entry}
 
 -- the moved path isn't too long

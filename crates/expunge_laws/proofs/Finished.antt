@@ -20,7 +20,7 @@ use Rattle.history_laws.proofs.SoundOnce.{sound-once}
 use Rattle.edit_laws.specs.Passing.{IsWithinLimits, limit_fault}
 use Rattle.edit_laws.specs.Sweeping.{is_named}
 use Rattle.edit_laws.proofs.Limits.{limits_hold, not_many}
-use Rattle.squash_laws.specs.Faults.{checked_after, squash_of}
+use Rattle.squash_laws.specs.Squash.{checked_after, squash_of}
 use Rattle.squash_laws.specs.Remaining.{IsBareOneOf}
 use Rattle.squash_laws.specs.Removed.{is_removed}
 use Rattle.squash_laws.specs.declared.policy.Lean.{Lean}

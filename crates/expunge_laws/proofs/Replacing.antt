@@ -17,7 +17,7 @@ use Rattle.plain_model.specs.declared.limit.TheConstants.{MAX_PATHS}
 use Rattle.plain_model.specs.Paths.{Bytes, is_below, is_at_or_below, do_conflict, is_in_the_way}
 use Rattle.plain_model.specs.Trees.{Tree, Refusal, at, has, IsTree, where_path, put, put_all, subtree, without, cleared_for, moved, within_paths, has_long_path, placed, apply, apply_all, ◌>>=◌}
 use Rattle.plain_model.specs.Trees.Refusal.{PathBytes}
-use Rattle.squash_laws.specs.Squash.{is_none}
+use Rattle.squash_laws.specs.Takings.{is_none}
 use Rattle.expunge_laws.specs.Replaced.{mode_number, same_content, same_entry, has_entry, deletes_of, puts_of, restricted, has_matched, rewritten, is_clear, replaced}
 use Rattle.history_laws.proofs.LineLaws.{apply_more}
 use Rattle.history_laws.proofs.PathLaws.{same_bytes}

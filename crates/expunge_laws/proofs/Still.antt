@@ -24,7 +24,7 @@ use Rattle.edit_laws.proofs.Settled.{in_order_stays}
 use Rattle.edit_laws.proofs.Sound.{in_parts}
 use Rattle.edit_laws.proofs.Swept.{swept_in_order}
 use Rattle.squash_laws.specs.Removed.{is_removed, left_of, all_left}
-use Rattle.squash_laws.specs.Squash.{anew, is_none, ops_after}
+use Rattle.squash_laws.specs.Takings.{anew, is_none, ops_after}
 use Rattle.squash_laws.specs.declared.policy.Lean.TheVariants as lean
 use Rattle.squash_laws.specs.declared.policy.Push.TheVariants as push
 use Rattle.history_laws.specs.FirstParents.{ops_along}

@@ -9,7 +9,7 @@ use Rattle.plain_model.specs.Histories.{Node, past, tree}
 use Rattle.plain_model.specs.Trees.{Tree}
 use Rattle.edit_laws.specs.Removal.{expand_all, once_each}
 use Rattle.squash_laws.specs.Removed.{is_removed}
-use Rattle.squash_laws.specs.Squash.{back_of, is_none, ops_after}
+use Rattle.squash_laws.specs.Takings.{back_of, is_none, ops_after}
 use Rattle.squash_laws.specs.declared.policy.Push.TheVariants as push
 
 abbrev pub is_nothing : Option ℕ → Bool

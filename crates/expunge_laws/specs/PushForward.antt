@@ -8,7 +8,7 @@ use Rattle.edit_laws.specs.Passing.{limit_fault}
 use Rattle.edit_laws.specs.Settling.{settle}
 use Rattle.edit_laws.specs.Sweeping.{swept}
 use Rattle.squash_laws.specs.Removed.{Takings, all_left}
-use Rattle.squash_laws.specs.Squash.{comment_after, ops_after, target_after}
+use Rattle.squash_laws.specs.Takings.{comment_after, ops_after, target_after}
 use Rattle.squash_laws.specs.declared.policy.Lean.{Lean}
 use Rattle.squash_laws.specs.declared.policy.Push.TheVariants as push
 

@@ -12,7 +12,7 @@ use Rattle.plain_model.specs.declared.operation.FileOp.{FileOp}
 use Rattle.plain_model.specs.declared.operation.FileOp.TheVariants.{Modify, Delete, Copy, Rename, DeleteAll}
 use Rattle.plain_model.specs.Paths.{Bytes, do_conflict}
 use Rattle.plain_model.specs.Trees.{Tree, TreeOf, apply, at, has, moved, subtree, where_path}
-use Rattle.squash_laws.specs.Squash.{is_none}
+use Rattle.squash_laws.specs.Takings.{is_none}
 
 -- ---- entries
 

@@ -20,7 +20,7 @@ ghost use Rattle.history_laws.specs.FirstParents.{ops_along};
 ghost use Rattle.edit_laws.specs.Keeping.{AddsNothing};
 ghost use Rattle.edit_laws.specs.Passing.{IsWithinLimits};
 ghost use Rattle.edit_laws.specs.Sweeping.{is_named};
-ghost use Rattle.squash_laws.specs.Faults.{squash_of};
+ghost use Rattle.squash_laws.specs.Squash.{squash_of};
 ghost use Rattle.squash_laws.specs.Remaining.{IsBareOneOf};
 ghost use Rattle.squash_laws.specs.Removed.{is_removed};
 ghost use Rattle.squash_laws.specs.declared.policy.Lean.{Lean};

@@ -36,7 +36,7 @@ ghost use Rattle.history_laws.specs.FirstParents.{ops_along};
 ghost use Rattle.edit_laws.specs.Editing.{IsEdit, with_number};
 ghost use Rattle.edit_laws.specs.Passing.{IsWithinLimits};
 ghost use Rattle.edit_laws.specs.Sweeping.{is_named, swept};
-ghost use Rattle.squash_laws.specs.Squash.{back_of};
+ghost use Rattle.squash_laws.specs.Takings.{back_of};
 ghost use Rattle.expunge_laws.specs.Expunged.{
   emptied,
   expunge_of,

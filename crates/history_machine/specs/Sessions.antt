@@ -37,7 +37,7 @@ use Rattle.selection_eval.specs.Denoted.{denote}
 use Rattle.selection_eval.specs.Names.{Names, assigned, live_names}
 use Rattle.selection_parser.specs.Plain.{PlainSelection}
 use Rattle.selection_parser.specs.Reading.{selection_at}
-use Rattle.squash_laws.specs.Faults.{squash_of}
+use Rattle.squash_laws.specs.Squash.{squash_of}
 use Rattle.split_laws.specs.Split.{split_at_of, split_by_of}
 use Rattle.reorder_laws.specs.Reorder.{reorder_of}
 use Rattle.coalesce_laws.specs.Coalesce.{coalesce_of}

@@ -17,7 +17,7 @@ use Rattle.history_laws.proofs.SoundOnce.{has_id-find}
 use Rattle.edit_laws.specs.Equations.{Fits}
 use Rattle.edit_laws.proofs.Lists.{OfNodes, own_here}
 use Rattle.graph_walk.proofs.TurnLemmas.{all_at}
-use Rattle.squash_laws.specs.Squash.{is_none}
+use Rattle.squash_laws.specs.Takings.{is_none}
 use Rattle.plan_steps.proofs.NodeLemmas.{parents_there}
 use Rattle.expunge_laws.specs.Expunged.{replaced_event}
 use Rattle.expunge_laws.specs.Untouched.{is_touched, may_touch}

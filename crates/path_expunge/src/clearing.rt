@@ -3,7 +3,7 @@ ghost use Rattle.std.specs.Prelude.{◌≡◌, ◌++◌, drop, length, IfOk, OnO
 ghost use Rattle.expunge_laws.specs.Replaced.{has_matched, is_clear, restricted};
 ghost use Rattle.expunge_laws.specs.Matching.{matched_by};
 ghost use Rattle.plain_model.specs.Trees.{moved};
-ghost use Rattle.squash_laws.specs.Squash.{is_none};
+ghost use Rattle.squash_laws.specs.Takings.{is_none};
 
 use crate::matching::Matching;
 use path_tree::PathTree;

@@ -4,7 +4,7 @@ ghost use Rattle.event_arena.specs.Plans.{Plans, leaving};
 ghost use Rattle.expunge_laws.specs.Expunged.{expunge_of, expunged};
 ghost use Rattle.manifest_cache.specs.Kept.{AgreesWith};
 ghost use Rattle.expunge_laws.specs.Matching.{matched_by};
-ghost use Rattle.squash_laws.specs.Squash.{is_none};
+ghost use Rattle.squash_laws.specs.Takings.{is_none};
 
 use crate::commits::replace_ops;
 use crate::emptied::emptied;

@@ -17,7 +17,7 @@ ghost use Rattle.plain_model.specs.declared.id.AnyId.TheVariants.{Commit};
 ghost use Rattle.plan_steps.specs.Tables.{IsTable};
 ghost use Rattle.plan_steps.specs.Targets.{AreMoves, moving, target_for};
 ghost use Rattle.plan_steps.specs.Ways.{AreBack};
-ghost use Rattle.squash_laws.specs.Squash.{back_of};
+ghost use Rattle.squash_laws.specs.Takings.{back_of};
 ghost use Rattle.squash_laws.specs.declared.policy.Lean.TheVariants as lean;
 
 use plain_model::{CommitId, NoMemory, ParentList, PlainEvent};

@@ -12,7 +12,7 @@ use Rattle.edit_laws.specs.Removal.{chain}
 use Rattle.graph_walk.proofs.EarlierLemmas.{is_earlier}
 use Rattle.graph_walk.proofs.PlaceLemmas.{place_found}
 use Rattle.squash_laws.specs.Removed.{is_removed}
-use Rattle.squash_laws.specs.Squash.{links}
+use Rattle.squash_laws.specs.Takings.{links}
 use Rattle.plan_steps.specs.Depths.{depth}
 
 -- the place of a commit is one below its depth

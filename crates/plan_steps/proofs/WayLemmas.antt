@@ -28,7 +28,7 @@ use Rattle.graph_walk.proofs.PlaceLemmas.{event_placed, place_found}
 use Rattle.manifest_cache.specs.Walks.{commit_id}
 use Rattle.squash_laws.proofs.Hung.{back_first}
 use Rattle.squash_laws.specs.Removed.{is_removed}
-use Rattle.squash_laws.specs.Squash.{back_of}
+use Rattle.squash_laws.specs.Takings.{back_of}
 use Rattle.plan_steps.specs.Ways.{AreForwardFrom, AreLed}
 use Rattle.plan_steps.proofs.NodeLemmas.{found_node, node_of}
 

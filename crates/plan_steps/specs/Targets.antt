@@ -4,7 +4,7 @@ use Rattle.plain_model.specs.declared.id.AnyId.{AnyId}
 use Rattle.plain_model.specs.declared.event.PlainEvent.{PlainEvent}
 use Rattle.plain_model.specs.declared.event.PlainEvent.TheVariants.{Blob, Commit, Tag, Reset, Pass}
 use Rattle.squash_laws.specs.Removed.{is_removed}
-use Rattle.squash_laws.specs.Squash.{moved}
+use Rattle.squash_laws.specs.Takings.{moved}
 use Rattle.squash_laws.specs.declared.policy.Lean.{Lean}
 
 -- where a tag or a reset goes, from where a commit's go

@@ -8,7 +8,7 @@ use Rattle.plain_model.specs.Histories.{nodes}
 use Rattle.edit_laws.specs.Removal.{forward}
 use Rattle.manifest_cache.specs.Walks.{commit_id}
 use Rattle.squash_laws.specs.Removed.{is_removed}
-use Rattle.squash_laws.specs.Squash.{back_of}
+use Rattle.squash_laws.specs.Takings.{back_of}
 use Rattle.plan_steps.specs.Tables.{IsTable, IsTableTo}
 
 -- a commit has its way, and other events have none

@@ -17,7 +17,7 @@ ghost use Rattle.plain_model.specs.Lookups.{find_event};
 ghost use Rattle.plain_model.specs.declared.id.AnyId.TheVariants.{Commit};
 ghost use Rattle.plan_steps.specs.Targets.{AreMoves, lost_target, moving, target_for};
 ghost use Rattle.plan_steps.specs.Ways.{AreBack, AreForward};
-ghost use Rattle.squash_laws.specs.Squash.{moved, takes};
+ghost use Rattle.squash_laws.specs.Takings.{moved, takes};
 
 use crate::selection::Selected;
 use crate::ways::Leads;

@@ -21,7 +21,7 @@ ghost use Rattle.plain_model.specs.Soundness.{IsCommitOf};
 ghost use Rattle.plain_model.specs.declared.id.AnyId.TheVariants.{Commit};
 ghost use Rattle.plan_steps.specs.Ways.{AreBack, AreBackTo, AreForward, AreForwardFrom, AreLed};
 ghost use Rattle.squash_laws.specs.Removed.{is_removed};
-ghost use Rattle.squash_laws.specs.Squash.{back_of};
+ghost use Rattle.squash_laws.specs.Takings.{back_of};
 
 use crate::selection::Selected;
 use plain_model::{CommitId, NoMemory, PlainEvent};

@@ -6,7 +6,7 @@ use Rattle.plain_model.specs.declared.fault.Fault.TheVariants as fault
 use Rattle.plain_model.specs.declared.raw.RawOp.{RawOp}
 use Rattle.plain_model.specs.Paths.{Bytes}
 use Rattle.sample_history.specs.declared.limit.TheConstants.{MAX_COMMITS}
-use Rattle.squash_laws.specs.Faults.{delete_how}
+use Rattle.squash_laws.specs.Squash.{delete_how}
 use Rattle.script_lines.specs.Answering.{◌>>=◌}
 use Rattle.script_lines.specs.Names.{is_repo_name, repo_name}
 use Rattle.script_lines.specs.Redirections.{redirected}

@@ -21,7 +21,7 @@ ghost use Rattle.script_reader.specs.Numbers.{index_in, seconds_in};
 ghost use Rattle.script_reader.specs.Options.{asked_more, reparenting_more, squash_option};
 ghost use Rattle.script_reader.specs.Spelled.{op_more};
 ghost use Rattle.script_reader.specs.declared.edit.Edit.TheVariants as edit;
-ghost use Rattle.squash_laws.specs.Faults.{delete_how};
+ghost use Rattle.squash_laws.specs.Squash.{delete_how};
 
 use crate::cut::Cut;
 use crate::edit::Edit;

@@ -33,9 +33,9 @@ use Rattle.plain_model.specs.declared.fault.Halt.TheVariants as halt
 use Rattle.plain_model.specs.Faults.{Returns}
 use Rattle.edit_laws.specs.Checking.{unless}
 use Rattle.graph_walk.specs.Outcome.{IsCauseOf}
-use Rattle.squash_laws.specs.Faults.{checked_after, fault_before, squash_of, trees_checked}
+use Rattle.squash_laws.specs.Squash.{checked_after, fault_before, squash_of, trees_checked}
 use Rattle.squash_laws.specs.Removed.{Takings, is_removed, without_set}
-use Rattle.squash_laws.specs.Squash.{anew, hanging, links, moved, ops_after, squashed, takes}
+use Rattle.squash_laws.specs.Takings.{anew, hanging, links, moved, ops_after, squashed, takes}
 use Rattle.squash_laws.specs.declared.policy.Lean.{Lean}
 use Rattle.squash_laws.specs.declared.policy.Push.{Push}
 use Rattle.squash_laws.specs.declared.policy.Push.TheVariants as push

@@ -28,7 +28,7 @@ use Rattle.edit_laws.proofs.Following.{chain_at, chain_none, expand_at, expand_i
 use Rattle.manifest_cache.specs.Walks.{event_ops, ops_at}
 use Rattle.squash_laws.specs.Comments.{comment_of, joined, joined_two}
 use Rattle.squash_laws.specs.Removed.{is_removed}
-use Rattle.squash_laws.specs.Squash.{comments_of, is_from_root, is_none, links}
+use Rattle.squash_laws.specs.Takings.{comments_of, is_from_root, is_none, links}
 use Rattle.squash_delete.specs.Chains.{AreBefore, IsNearest, Notes, comments_to, no_link, ops_to}
 use Rattle.squash_delete.specs.Taking.{event_comment}
 use Rattle.plan_steps.specs.Depths.{depth, parents_at}

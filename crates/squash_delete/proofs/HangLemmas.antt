@@ -23,9 +23,9 @@ use Rattle.history_laws.proofs.SoundOnce.{has_id-find, sound-once}
 use Rattle.graph_walk.proofs.PlaceLemmas.{place_found}
 use Rattle.manifest_cache.specs.Walks.{commit_id}
 use Rattle.squash_laws.proofs.Takes.{target_stays}
-use Rattle.squash_laws.specs.Faults.{back_fault, first_back_fault, first_children, is_first}
+use Rattle.squash_laws.specs.Squash.{back_fault, first_back_fault, first_children, is_first}
 use Rattle.squash_laws.specs.Removed.{is_removed}
-use Rattle.squash_laws.specs.Squash.{back_of, forward_of, is_it}
+use Rattle.squash_laws.specs.Takings.{back_of, forward_of, is_it}
 use Rattle.squash_laws.specs.declared.policy.Lean.TheVariants as lean
 use Rattle.squash_laws.specs.declared.policy.Push.TheVariants as push
 use Rattle.squash_delete.specs.Backing.{AreCountedTo, own_fault}

@@ -30,7 +30,7 @@ use Rattle.graph_walk.proofs.PlaceLemmas.{place_found}
 use Rattle.manifest_cache.specs.Walks.{commit_id, event_ops, ops_at}
 use Rattle.squash_laws.specs.Comments.{comment_of, joined}
 use Rattle.squash_laws.specs.Removed.{Takings, is_removed}
-use Rattle.squash_laws.specs.Squash.{anew, back_of, comment_after, comments_of, hanging, is_from_root, is_it, is_none, links, takes}
+use Rattle.squash_laws.specs.Takings.{anew, back_of, comment_after, comments_of, hanging, is_from_root, is_it, is_none, links, takes}
 use Rattle.squash_laws.specs.declared.policy.Lean.{Lean}
 use Rattle.squash_laws.specs.declared.policy.Push.TheVariants as push
 use Rattle.squash_delete.specs.Chains.{Carry}

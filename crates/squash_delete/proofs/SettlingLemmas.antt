@@ -23,7 +23,7 @@ use Rattle.edit_laws.specs.Sweeping.{is_left_over}
 use Rattle.edit_laws.proofs.Sound.{in_parts}
 use Rattle.graph_walk.proofs.TurnLemmas.{all_at}
 use Rattle.squash_laws.specs.Removed.{Takings, all_left, is_removed, left_of, parents_after, without_set}
-use Rattle.squash_laws.specs.Squash.{anew, moved, takes}
+use Rattle.squash_laws.specs.Takings.{anew, moved, takes}
 use Rattle.squash_laws.specs.declared.policy.Lean.{Lean}
 use Rattle.squash_laws.specs.declared.policy.Push.{Push}
 use Rattle.squash_laws.specs.declared.policy.Push.TheVariants as push

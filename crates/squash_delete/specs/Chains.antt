@@ -13,7 +13,7 @@ use Rattle.edit_laws.specs.Removal.{expand}
 use Rattle.manifest_cache.specs.Walks.{commit_id, ops_at}
 use Rattle.squash_laws.specs.Comments.{comment_of, joined}
 use Rattle.squash_laws.specs.Removed.{is_removed}
-use Rattle.squash_laws.specs.Squash.{comments_of, is_from_root, is_none, links}
+use Rattle.squash_laws.specs.Takings.{comments_of, is_from_root, is_none, links}
 use Rattle.plan_steps.specs.Depths.{depth, parents_at}
 use Rattle.squash_delete.specs.declared.chains.Entry.{Entry}
 use Rattle.squash_delete.specs.declared.chains.Link.{Link}

@@ -5,7 +5,7 @@ use Rattle.plain_model.specs.declared.event.PlainEvent.{PlainEvent}
 use Rattle.plain_model.specs.Histories.{nodes}
 use Rattle.manifest_cache.specs.Walks.{commit_id}
 use Rattle.squash_laws.specs.Removed.{is_removed}
-use Rattle.squash_laws.specs.Squash.{back_of, is_it}
+use Rattle.squash_laws.specs.Takings.{back_of, is_it}
 use Rattle.plan_steps.specs.Tables.{IsTable}
 
 module _ (set : List AnyId) (events : List PlainEvent) where

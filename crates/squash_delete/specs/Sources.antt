@@ -8,7 +8,7 @@ use Rattle.event_arena.specs.Graphs.{Change}
 use Rattle.history_laws.specs.FirstParents.{ops_along}
 use Rattle.manifest_cache.specs.Walks.{commit_id}
 use Rattle.squash_laws.specs.Removed.{Takings, is_removed}
-use Rattle.squash_laws.specs.Squash.{takes}
+use Rattle.squash_laws.specs.Takings.{takes}
 use Rattle.squash_laws.specs.declared.policy.Lean.{Lean}
 use Rattle.squash_laws.specs.declared.policy.Push.{Push}
 use Rattle.squash_laws.specs.declared.policy.Push.TheVariants as push

@@ -8,7 +8,7 @@ use Rattle.plain_model.specs.Paths.{Bytes}
 use Rattle.manifest_cache.specs.Walks.{ops_at}
 use Rattle.squash_laws.specs.Comments.{comment_of, joined}
 use Rattle.squash_laws.specs.Removed.{Takings}
-use Rattle.squash_laws.specs.Squash.{is_none}
+use Rattle.squash_laws.specs.Takings.{is_none}
 
 -- Whether it begins without files, and the commits whose operations and comments come before its own, and after.
 pub record Taking : Type 0 where

@@ -1,7 +1,7 @@
 //! Whether commits can be pushed back.
 ghost use Rattle.std.specs.Prelude.{◌≡◌, ◌<◌, Some, length, slice_get, suc, IfOk};
 ghost use Rattle.squash_delete.specs.Backing.{AreCountedTo, own_fault};
-ghost use Rattle.squash_laws.specs.Faults.{fault_before, first_back_fault};
+ghost use Rattle.squash_laws.specs.Squash.{fault_before, first_back_fault};
 
 use plain_model::{Fault, NoMemory, PlainEvent};
 use plan_steps::Selected;

@@ -23,7 +23,7 @@ ghost use Rattle.plain_model.specs.Soundness.{IsCommitOf};
 ghost use Rattle.plan_steps.specs.Depths.{depth, parents_at};
 ghost use Rattle.squash_delete.specs.Chains.{AreBefore, AreLinks, Carry, IsNearest, LinkIs, Notes, NotesNext, no_link, noted_at};
 ghost use Rattle.squash_laws.specs.Removed.{is_removed};
-ghost use Rattle.squash_laws.specs.Squash.{is_from_root, is_none, links};
+ghost use Rattle.squash_laws.specs.Takings.{is_from_root, is_none, links};
 
 use plain_model::{AnyId, CommitId, FileOp, NoMemory, PlainEvent};
 use plan_steps::{Selected, event_parents};

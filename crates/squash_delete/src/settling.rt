@@ -6,7 +6,7 @@ ghost use Rattle.graph_walk.specs.Outcome.{IsCauseOf};
 ghost use Rattle.plain_model.specs.Lookups.{id_of, place_of};
 ghost use Rattle.plan_steps.specs.Near.{AreReadyNear};
 ghost use Rattle.squash_laws.specs.Removed.{without_set};
-ghost use Rattle.squash_laws.specs.Squash.{takes};
+ghost use Rattle.squash_laws.specs.Takings.{takes};
 
 use edit_laws::settling_orders;
 use event_arena::Plan;

@@ -9,9 +9,9 @@ ghost use Rattle.plain_model.specs.Soundness.{IsSound};
 ghost use Rattle.squash_delete.specs.Judged.{AreMany, IsLeftOf, ParentsAre};
 ghost use Rattle.plan_steps.specs.Leaving.{staying, with_own_parents};
 ghost use Rattle.plan_steps.specs.Targets.{AreMoves};
-ghost use Rattle.squash_laws.specs.Faults.{fault_before, squash_of, trees_checked};
+ghost use Rattle.squash_laws.specs.Squash.{fault_before, squash_of, trees_checked};
 ghost use Rattle.squash_laws.specs.Removed.{Takings};
-ghost use Rattle.squash_laws.specs.Squash.{takes};
+ghost use Rattle.squash_laws.specs.Takings.{takes};
 
 use crate::backing::fault_before;
 use crate::counting::{Left, judge};

@@ -19,10 +19,10 @@ use Rattle.edit_laws.proofs.Edits.{fewer_below}
 use Rattle.edit_laws.proofs.Lists.{all_filter, all_flat, tally_filter, tally_flat}
 use Rattle.edit_laws.proofs.Settles.{settled_all, settled_sums}
 use Rattle.edit_laws.proofs.Tallies.{aliases_counted, counted, moved_no_greater, no_greater, none_new, one, own_aliases}
-use Rattle.squash_laws.specs.Faults.{squash_of}
+use Rattle.squash_laws.specs.Squash.{squash_of}
 use Rattle.squash_laws.specs.Remaining.{IsBareOneOf, bare}
 use Rattle.squash_laws.specs.Removed.{Takings, all_left, is_removed, left_of, parents_after, without_set}
-use Rattle.squash_laws.specs.Squash.{takes}
+use Rattle.squash_laws.specs.Takings.{takes}
 use Rattle.squash_laws.specs.declared.policy.Policy.{Policy}
 use Rattle.squash_laws.proofs.Done.{done_parts}
 use Rattle.squash_laws.proofs.Left.{ids_left, marks_left, one_left, one_moved}

@@ -30,9 +30,9 @@ use Rattle.edit_laws.proofs.Lists.{OfNodes, all_flat, events_of_nodes, nodes_of_
 use Rattle.edit_laws.proofs.Settles.{sound_settles}
 use Rattle.edit_laws.proofs.Sound.{in_parts}
 use Rattle.edit_laws.proofs.Trees.{known_later, not_fresh, trees_fit}
-use Rattle.squash_laws.specs.Faults.{back_fault, first_back_fault, first_children, is_first}
+use Rattle.squash_laws.specs.Squash.{back_fault, first_back_fault, first_children, is_first}
 use Rattle.squash_laws.specs.Removed.{is_removed, left_of, all_left, parents_after}
-use Rattle.squash_laws.specs.Squash.{hanging, is_it, last_of, ops_after, takes}
+use Rattle.squash_laws.specs.Takings.{hanging, is_it, last_of, ops_after, takes}
 use Rattle.squash_laws.specs.declared.policy.Lean.{Lean}
 use Rattle.squash_laws.specs.declared.policy.Push.TheVariants as push
 use Rattle.squash_laws.specs.declared.policy.Policy.{Policy}

@@ -17,9 +17,9 @@ use Rattle.edit_laws.proofs.Settled.{settled}
 use Rattle.edit_laws.proofs.Swept.{swept_nodes}
 use Rattle.edit_laws.specs.Equations.{Fits}
 use Rattle.edit_laws.proofs.Checked.{check_finds}
-use Rattle.squash_laws.specs.Faults.{checked_after, fault_before, squash_of, trees_checked}
+use Rattle.squash_laws.specs.Squash.{checked_after, fault_before, squash_of, trees_checked}
 use Rattle.squash_laws.specs.Removed.{is_removed, all_left, without_set}
-use Rattle.squash_laws.specs.Squash.{hanging, last_of, squashed, takes}
+use Rattle.squash_laws.specs.Takings.{hanging, last_of, squashed, takes}
 use Rattle.squash_laws.specs.declared.policy.Lean.{Lean}
 use Rattle.squash_laws.specs.declared.policy.Push.{Push}
 use Rattle.squash_laws.specs.declared.policy.Push.TheVariants as push

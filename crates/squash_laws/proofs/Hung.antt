@@ -13,8 +13,8 @@ use Rattle.edit_laws.specs.Removal.{back}
 use Rattle.edit_laws.proofs.Chains.{Leads, back_stays, expand_gone, expand_other, expand_stays, first_expanded, leads_all}
 use Rattle.history_laws.proofs.LineLaws.{along_more, first_known, folded_more, known_before}
 use Rattle.edit_laws.proofs.Trees.{known_later, not_fresh, tree_here, tree_other}
-use Rattle.squash_laws.specs.Faults.{is_first}
-use Rattle.squash_laws.specs.Squash.{is_it, last_of}
+use Rattle.squash_laws.specs.Squash.{is_first}
+use Rattle.squash_laws.specs.Takings.{is_it, last_of}
 
 last_more : (c : ℕ) (ns : List Node) (n : Node) → last_of c (ns ++ n ∷ []) ≡ n.id
 last_more c [] n = refl

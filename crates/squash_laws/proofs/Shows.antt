@@ -21,9 +21,9 @@ use Rattle.edit_laws.proofs.Settles.{settled_all, sound_settles}
 use Rattle.edit_laws.proofs.Shown.{has_own_bytes, shown_alike}
 use Rattle.edit_laws.proofs.Sound.{in_parts}
 use Rattle.edit_laws.proofs.Trees.{nodes_found, trees_fit}
-use Rattle.squash_laws.specs.Faults.{squash_of}
+use Rattle.squash_laws.specs.Squash.{squash_of}
 use Rattle.squash_laws.specs.Removed.{Takings, is_removed, left_of, all_left, parents_after, without_set}
-use Rattle.squash_laws.specs.Squash.{last_hanging, takes}
+use Rattle.squash_laws.specs.Takings.{last_hanging, takes}
 use Rattle.squash_laws.specs.declared.policy.Lean.{Lean}
 use Rattle.squash_laws.specs.declared.policy.Push.TheVariants as push
 use Rattle.squash_laws.specs.declared.policy.Policy.{Policy}

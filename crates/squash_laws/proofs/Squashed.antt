@@ -14,7 +14,7 @@ use Rattle.edit_laws.proofs.Fine.{IsFine}
 use Rattle.edit_laws.proofs.Settles.{fine_nodes, settled_ids, settled_sound, settled_trees, settling_ends}
 use Rattle.edit_laws.proofs.Swept.{swept_commit, swept_nodes}
 use Rattle.squash_laws.specs.Removed.{is_removed, all_left, without_set}
-use Rattle.squash_laws.specs.Squash.{comment_after, squashed, takes}
+use Rattle.squash_laws.specs.Takings.{comment_after, squashed, takes}
 use Rattle.squash_laws.specs.declared.policy.Lean.{Lean}
 use Rattle.squash_laws.specs.declared.policy.Push.TheVariants as push
 use Rattle.squash_laws.specs.declared.policy.Policy.{Policy}

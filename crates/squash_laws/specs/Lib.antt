@@ -1,6 +1,6 @@
 pub mod Comments
 pub mod Examples
-pub mod Faults
 pub mod Remaining
 pub mod Removed
 pub mod Squash
+pub mod Takings

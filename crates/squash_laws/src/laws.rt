@@ -15,11 +15,11 @@ ghost use Rattle.edit_laws.specs.Passing.{IsWithinLimits};
 ghost use Rattle.squash_laws.specs.declared.policy.Lean.{Lean};
 ghost use Rattle.squash_laws.specs.declared.policy.Policy.{Policy};
 ghost use Rattle.squash_laws.specs.declared.policy.Push.TheVariants as push;
-ghost use Rattle.squash_laws.specs.Faults.{squash_of};
+ghost use Rattle.squash_laws.specs.Squash.{squash_of};
 ghost use Rattle.squash_laws.specs.Remaining.{IsBareOneOf};
 ghost use Rattle.edit_laws.specs.Keeping.{AddsNothing, HasOperationsOf};
 ghost use Rattle.squash_laws.specs.Removed.{is_removed};
-ghost use Rattle.squash_laws.specs.Squash.{last_hanging, squashed};
+ghost use Rattle.squash_laws.specs.Takings.{last_hanging, squashed};
 
 /// Settling what a squash leaves comes to its end, so no parents run in a circle.
 pub fn a_squash_comes_to_its_end()

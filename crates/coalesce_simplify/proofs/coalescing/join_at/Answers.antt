@@ -7,7 +7,7 @@ use Rattle.plain_model.specs.Lookups.{id_of, is_listed}
 use Rattle.history_laws.specs.FirstParents.{ops_along}
 use Rattle.event_arena.specs.Changes.{changed, with_ops, with_parents, with_target}
 use Rattle.graph_walk.proofs.TurnLemmas.{on_ok}
-use Rattle.squash_laws.specs.Squash.{links}
+use Rattle.squash_laws.specs.Takings.{links}
 use Rattle.coalesce_laws.specs.Remaining.{parents_of_oldest}
 use Rattle.coalesce_simplify.specs.Joining.{end_of, joined_event}
 use Rattle.coalesce_simplify.proofs.Left.{begin_same, blob_same, commit_joined, one_same, pass_same, reset_moved, tag_moved}

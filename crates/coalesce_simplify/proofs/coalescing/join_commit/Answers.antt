@@ -9,7 +9,7 @@ use Rattle.history_laws.specs.FirstParents.{ops_along}
 use Rattle.event_arena.specs.Changes.{changed, with_ops, with_parents}
 use Rattle.graph_walk.proofs.TurnLemmas.{on_ok}
 use Rattle.manifest_cache.specs.Walks.{ops_at}
-use Rattle.squash_laws.specs.Squash.{links}
+use Rattle.squash_laws.specs.Takings.{links}
 use Rattle.plan_steps.specs.Depths.{parents_at}
 use Rattle.coalesce_laws.specs.Remaining.{parents_of_oldest}
 use Rattle.plan_steps.proofs.Steps.{kept}

@@ -1,6 +1,6 @@
 use Rattle.std.proofs.Common.{◌≡◌, drop}
 use Rattle.expunge_laws.specs.Replaced.{restricted}
-use Rattle.squash_laws.specs.Squash.{is_none}
+use Rattle.squash_laws.specs.Takings.{is_none}
 use Rattle.expunge_laws.specs.Matching.{matched_by}
 use Rattle.path_expunge.proofs.clearing.are_all_matched.Given as goal
 

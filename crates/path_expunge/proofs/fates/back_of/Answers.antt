@@ -1,6 +1,6 @@
 use Rattle.std.proofs.Common.{◌∙◌, ap}
 use Rattle.std.specs.Prelude.{option_and_then}
-use Rattle.squash_laws.specs.Squash.{back_of}
+use Rattle.squash_laws.specs.Takings.{back_of}
 use Rattle.plan_steps.proofs.WayLemmas.{is_placed}
 use Rattle.path_expunge.proofs.fates.back_of.Goals as goal
 

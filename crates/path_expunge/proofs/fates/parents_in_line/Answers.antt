@@ -6,7 +6,7 @@ use Rattle.event_arena.proofs.ListLemmas.{take-all, take-more}
 use Rattle.graph_walk.specs.Joined.{with_all}
 use Rattle.graph_walk.proofs.EntryLemmas.{with_all_push}
 use Rattle.graph_walk.proofs.ExpansionLemmas.{with_all_once}
-use Rattle.squash_laws.specs.Squash.{back_of}
+use Rattle.squash_laws.specs.Takings.{back_of}
 use Rattle.path_expunge.proofs.fates.parents_in_line.Goals as goal
 use Rattle.path_expunge.proofs.fates.parents_in_line.Goals.{in-Some+then-not-contains+in_ok-push, in-Some+else-not-contains, in_default}
 

@@ -1,7 +1,7 @@
 use Rattle.std.proofs.Common.{◌≡◌, [], flat_map, take}
 use Rattle.std.specs.Prelude.{option_to_list}
 use Rattle.graph_walk.specs.Joined.{with_all}
-use Rattle.squash_laws.specs.Squash.{back_of}
+use Rattle.squash_laws.specs.Takings.{back_of}
 use Rattle.path_expunge.proofs.fates.parents_in_line.Given as goal
 
 abbrev pub invariant-loop-parent : goal.invariant-loop-parent

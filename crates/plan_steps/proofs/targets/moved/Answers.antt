@@ -2,7 +2,7 @@ use Rattle.std.proofs.Common.{◌≡◌, ◌∙◌, None, arith, ap, sym}
 use Rattle.std.proofs.lemmas.List.{get_or_read}
 use Rattle.std.specs.Option.{option_or}
 use Rattle.std.specs.Prelude.{option_and_then}
-use Rattle.squash_laws.specs.Squash.{back_of, forward_of, moved}
+use Rattle.squash_laws.specs.Takings.{back_of, forward_of, moved}
 use Rattle.plan_steps.proofs.WayLemmas.{is_placed}
 use Rattle.plan_steps.proofs.targets.moved.Goals as goal
 

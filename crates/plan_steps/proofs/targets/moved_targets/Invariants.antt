@@ -1,6 +1,6 @@
 use Rattle.std.proofs.Common.{None}
 use Rattle.plan_steps.specs.Tables.{IsTableTo}
-use Rattle.squash_laws.specs.Squash.{moved}
+use Rattle.squash_laws.specs.Takings.{moved}
 use Rattle.plan_steps.proofs.TargetLemmas.{MoveIs}
 use Rattle.plan_steps.proofs.targets.moved_targets.Given as goal
 

@@ -1,7 +1,7 @@
 use Rattle.std.proofs.Common.{◌∙◌, length, ap}
 use Rattle.std.specs.Prelude.{option_and_then}
 use Rattle.history_laws.proofs.SoundOnce.{sound-once}
-use Rattle.squash_laws.specs.Squash.{back_of}
+use Rattle.squash_laws.specs.Takings.{back_of}
 use Rattle.plan_steps.proofs.NodeLemmas.{earlier_there}
 use Rattle.plan_steps.proofs.WayLemmas.{is_early}
 use Rattle.plan_steps.proofs.ways.back_of.Goals as goal

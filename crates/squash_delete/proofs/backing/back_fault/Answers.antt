@@ -1,7 +1,7 @@
 use Rattle.std.proofs.Common.{◌∙◌, Some, None, add-one, arith, ap, refl, sym}
 use Rattle.history_laws.proofs.Lists.{item_at}
 use Rattle.event_arena.proofs.StepLemmas.{none_left}
-use Rattle.squash_laws.specs.Faults.{first_back_fault}
+use Rattle.squash_laws.specs.Squash.{first_back_fault}
 use Rattle.squash_delete.proofs.HangLemmas.{fault_here, fault_later}
 use Rattle.squash_delete.proofs.backing.back_fault.Goals as goal
 

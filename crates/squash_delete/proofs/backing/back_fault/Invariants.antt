@@ -1,5 +1,5 @@
 use Rattle.std.proofs.Common.{◌≡◌, drop}
-use Rattle.squash_laws.specs.Faults.{first_back_fault}
+use Rattle.squash_laws.specs.Squash.{first_back_fault}
 use Rattle.squash_delete.proofs.backing.back_fault.Given as goal
 
 abbrev pub invariant-loop-place : goal.invariant-loop-place

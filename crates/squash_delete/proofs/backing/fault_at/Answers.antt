@@ -6,7 +6,7 @@ use Rattle.plain_model.specs.declared.event.PlainEvent.{PlainEvent}
 use Rattle.plain_model.specs.Lookups.{event_parents}
 use Rattle.event_arena.proofs.ListLemmas.{take-all}
 use Rattle.manifest_cache.specs.Walks.{commit_id}
-use Rattle.squash_laws.specs.Faults.{back_fault, first_children}
+use Rattle.squash_laws.specs.Squash.{back_fault, first_children}
 use Rattle.squash_laws.specs.Removed.{is_removed}
 use Rattle.squash_delete.specs.Backing.{own_fault}
 use Rattle.squash_delete.proofs.HangLemmas.{is_fork, no_fork}

@@ -5,7 +5,7 @@ use Rattle.plain_model.specs.Histories.{past}
 use Rattle.edit_laws.specs.Removal.{expand}
 use Rattle.event_arena.proofs.ListLemmas.{take-all}
 use Rattle.squash_laws.specs.Removed.{is_removed}
-use Rattle.squash_laws.specs.Squash.{is_none}
+use Rattle.squash_laws.specs.Takings.{is_none}
 use Rattle.squash_delete.proofs.ChainLemmas.{not_all, over_each}
 use Rattle.plan_steps.proofs.WayLemmas.{not_so}
 use Rattle.squash_delete.proofs.chains.are_over.Goals as goal

@@ -10,7 +10,7 @@ use Rattle.graph_walk.proofs.PlaceLemmas.{place_found}
 use Rattle.manifest_cache.specs.Walks.{commit_id, event_ops}
 use Rattle.squash_laws.specs.Comments.{comment_of}
 use Rattle.squash_laws.specs.Removed.{is_removed}
-use Rattle.squash_laws.specs.Squash.{is_from_root, is_none, links}
+use Rattle.squash_laws.specs.Takings.{is_from_root, is_none, links}
 use Rattle.squash_delete.specs.Chains.{IsNearest, Notes}
 use Rattle.squash_delete.specs.Taking.{event_comment}
 use Rattle.squash_delete.proofs.ChainLemmas.{comment_found, notes_gone, notes_stays, own_before}

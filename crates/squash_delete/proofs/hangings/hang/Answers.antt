@@ -7,7 +7,7 @@ use Rattle.plain_model.specs.declared.id.AnyId.TheVariants as any
 use Rattle.plain_model.specs.Lookups.{find_event, id_of}
 use Rattle.manifest_cache.specs.Walks.{commit_id}
 use Rattle.squash_laws.specs.Removed.{is_removed}
-use Rattle.squash_laws.specs.Squash.{back_of, is_it}
+use Rattle.squash_laws.specs.Takings.{back_of, is_it}
 use Rattle.squash_delete.specs.Hangings.{AreHungTo}
 use Rattle.squash_delete.proofs.HangLemmas.{back_there, hung_more, hung_same}
 use Rattle.plan_steps.proofs.Tables.{any_default}

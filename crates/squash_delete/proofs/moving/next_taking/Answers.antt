@@ -1,5 +1,5 @@
 use Rattle.std.proofs.Common.{◌≡◌, ◌∙◌, refl, subst, sym}
-use Rattle.squash_laws.specs.Squash.{takes}
+use Rattle.squash_laws.specs.Takings.{takes}
 use Rattle.squash_laws.specs.declared.policy.Push.TheVariants as push
 use Rattle.plan_steps.specs.Passes.{taken_to}
 use Rattle.squash_delete.specs.Sources.{NoneTakes, push_of}

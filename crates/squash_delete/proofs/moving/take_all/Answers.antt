@@ -2,7 +2,7 @@ use Rattle.std.proofs.Common.{◌∙◌, List, suc, not, filter, map, add-one, a
 use Rattle.plain_model.specs.declared.event.PlainEvent.{PlainEvent}
 use Rattle.plain_model.specs.declared.limit.TheConstants.{MAX_OPERATIONS}
 use Rattle.history_laws.proofs.Lists.{item_at}
-use Rattle.squash_laws.specs.Squash.{takes}
+use Rattle.squash_laws.specs.Takings.{takes}
 use Rattle.plan_steps.specs.Leaving.{goes, with_own_parents, with_takings}
 use Rattle.squash_delete.specs.Sources.{count_ops, push_of}
 use Rattle.squash_delete.proofs.MovingLemmas.{counted_left, counted_later, counted_more, counted_passed, own_count}

@@ -1,5 +1,5 @@
 use Rattle.std.proofs.Common.{◌∙◌, ap, sym}
-use Rattle.squash_laws.specs.Faults.{squash_of, trees_checked}
+use Rattle.squash_laws.specs.Squash.{squash_of, trees_checked}
 use Rattle.squash_delete.specs.Judged.{judged}
 use Rattle.squash_delete.proofs.Answered.{a_limit, after_linked, all_is_left, check_fault, done_or, judged_fault, left_complete, left_is, no_limit, settle_fault, squash_checked, within_after}
 use Rattle.squash_delete.proofs.squashing.remove_all.Goals as goal

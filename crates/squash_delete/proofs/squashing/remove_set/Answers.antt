@@ -4,7 +4,7 @@ use Rattle.plain_model.specs.declared.event.PlainEvent.{PlainEvent}
 use Rattle.plain_model.specs.declared.limit.TheConstants.{MAX_EVENTS}
 use Rattle.event_arena.specs.Graphs.{Change}
 use Rattle.edit_laws.specs.Sweeping.{swept}
-use Rattle.squash_laws.specs.Squash.{takes}
+use Rattle.squash_laws.specs.Takings.{takes}
 use Rattle.plan_steps.specs.Flags.{KeepNames}
 use Rattle.plan_steps.specs.Leaving.{event_after, staying, with_own_parents}
 use Rattle.squash_delete.specs.Sources.{Ends}

@@ -1,5 +1,5 @@
 use Rattle.edit_laws.proofs.Edits.{edit_without}
-use Rattle.squash_laws.specs.Faults.{squash_of}
+use Rattle.squash_laws.specs.Squash.{squash_of}
 use Rattle.squash_laws.proofs.Added.{still_below}
 use Rattle.squash_laws.proofs.Done.{done_limits, done_sound}
 use Rattle.squash_laws.proofs.laws.a_squash_is_an_edit.Goals as goal
