@@ -402,11 +402,11 @@ fn are_at(events: &Events, numbers: (usize, usize, u64), third: AnyId) -> bool {
     events.slots() == slots
         && events.count() == count
         && events.next_id() == next
-        && events.at(3) == Some(third)
+        && events.id_numbered(3) == Some(third)
 }
 
 fn is_gone(events: &Events, commit: u64) -> bool {
-    events.event(commit_id(commit)).is_none() && events.position(commit_id(commit)).is_none()
+    events.event(commit_id(commit)).is_none() && events.number_of(commit_id(commit)).is_none()
 }
 
 fn is_first_child(events: &Events, parent: u64, child: u64) -> bool {

@@ -123,17 +123,17 @@ impl Events {
     }
 
     /// The id of the event with the number, from 1.
-    pub fn at(&self, number: usize) -> Option<AnyId>
+    pub fn id_numbered(&self, number: usize) -> Option<AnyId>
         ensures { result ≡ event_at number self.now.list }
     {
-        self.table.at(number)
+        self.table.id_numbered(number)
     }
 
     /// The number of the event with the id, from 1.
-    pub fn position(&self, id: AnyId) -> Option<usize>
+    pub fn number_of(&self, id: AnyId) -> Option<usize>
         ensures { result ≡ number_of id self.now.list }
     {
-        self.table.position(id)
+        self.table.number_of(id)
     }
 
     /// The event with the id.
@@ -153,12 +153,12 @@ impl Events {
     }
 
     /// The event with the number, from 1. `None` exactly where the history has no such number.
-    pub fn numbered(&self, number: u64) -> Option<&PlainEvent>
+    pub fn event_numbered(&self, number: u64) -> Option<&PlainEvent>
         ensures event { option_map (λ event. event.now) result ≡ numbered number self.now.list }
         ensures found { IfSome result
             (λ event. find_event (id_of event.now) self.now.list ≡ Some event.now) }
     {
-        self.table.numbered(number)
+        self.table.event_numbered(number)
     }
 
     /// How many events are before the one with the id.

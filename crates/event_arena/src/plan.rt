@@ -46,15 +46,7 @@ ghost use Rattle.history_laws.specs.Once.{AreDistinct};
 ghost use Rattle.event_arena.specs.Plans.{leaving};
 ghost use Rattle.event_arena.specs.Spent.{BringsNoneBack};
 ghost use Rattle.event_arena.specs.Weights.{weight_of};
-ghost use Rattle.plain_model.specs.Lookups.{
-  AreIdsBelow,
-  event_at,
-  find_event,
-  id_number,
-  id_of,
-  number_of,
-  place_of,
-};
+ghost use Rattle.plain_model.specs.Lookups.{AreIdsBelow, find_event, id_number, id_of, place_of};
 ghost use Rattle.plain_model.specs.Soundness.{IsSound};
 ghost use Rattle.plain_model.specs.declared.id.AnyId.TheVariants.{Commit};
 
@@ -127,20 +119,6 @@ impl Plan {
         self.after.count()
     }
 
-    /// The id of the event with the number after, from 1.
-    pub fn at(&self, number: usize) -> Option<AnyId>
-        ensures { result ≡ event_at number self.now.after }
-    {
-        self.after.at(number)
-    }
-
-    /// The number after of the event with the id, from 1.
-    pub fn position(&self, id: AnyId) -> Option<usize>
-        ensures { result ≡ number_of id self.now.after }
-    {
-        self.after.position(id)
-    }
-
     /// The event with the id, as it is after.
     pub fn event(&self, id: AnyId) -> Option<&PlainEvent>
         ensures { option_map (λ event. event.now) result ≡ find_event id self.now.after }
@@ -181,20 +159,6 @@ impl Plan {
         ensures sound { IsSound self.now.before }
     {
         self.before.count()
-    }
-
-    /// The id of the event with the number before, from 1.
-    pub fn old_at(&self, number: usize) -> Option<AnyId>
-        ensures { result ≡ event_at number self.now.before }
-    {
-        self.before.at(number)
-    }
-
-    /// The number before of the event with the id, from 1.
-    pub fn old_position(&self, id: AnyId) -> Option<usize>
-        ensures { result ≡ number_of id self.now.before }
-    {
-        self.before.position(id)
     }
 
     /// The event with the id, as it was before.

@@ -203,7 +203,7 @@ impl EventTable {
     }
 
     /// The event with the number, from 1. `None` exactly where the list has no such number.
-    pub fn numbered(&self, number: u64) -> Option<&PlainEvent>
+    pub fn event_numbered(&self, number: u64) -> Option<&PlainEvent>
         ensures event { option_map (λ event. event.now) result ≡ numbered number self.now }
         ensures found { IfSome result
             (λ event. find_event (id_of event.now) self.now ≡ Some event.now) }
@@ -255,7 +255,7 @@ impl EventTable {
     }
 
     /// The number of the event with the id, from 1.
-    pub fn position(&self, id: AnyId) -> Option<usize>
+    pub fn number_of(&self, id: AnyId) -> Option<usize>
         ensures { result ≡ number_of id self.now }
     {
         let _count = self.count();
@@ -266,10 +266,10 @@ impl EventTable {
     }
 
     /// The id of the event with the number, from 1.
-    pub fn at(&self, number: usize) -> Option<AnyId>
+    pub fn id_numbered(&self, number: usize) -> Option<AnyId>
         ensures { result ≡ event_at number self.now }
     {
-        match self.numbered(number as u64) {
+        match self.event_numbered(number as u64) {
             Some(event) => Some(event.id()),
             None => None,
         }

@@ -134,7 +134,7 @@ impl<'e> EventSet<'e> {
         ensures events { IfOk result (λ set. set.events ≡ events.now.list) }
         ensures ids { IfOk result (λ set. set.ids ≡ numbered events.now.list number) }
     {
-        match events.numbered(number) {
+        match events.event_numbered(number) {
             Some(event) => EventSet::one(alloc, events, event.id()),
             None => EventSet::none(alloc, events),
         }

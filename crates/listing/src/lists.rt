@@ -25,7 +25,7 @@ fn push_list_line(events: &Events, id: &AnyId, into: &mut Text) -> Result<(), No
         OnOk result (into.new ≡
         into.old ++ line_of list_line (number_of id.now all) (find_event id.now all)) }
 {
-    let Some(number) = events.position(*id) else {
+    let Some(number) = events.number_of(*id) else {
         return Ok(());
     };
     match event_of(events, *id) {
@@ -39,7 +39,7 @@ fn push_index_line(events: &Events, id: &AnyId, into: &mut Text) -> Result<(), N
         OnOk result (into.new ≡
         into.old ++ line_of (index_line all) (number_of id.now all) (find_event id.now all)) }
 {
-    let Some(number) = events.position(*id) else {
+    let Some(number) = events.number_of(*id) else {
         return Ok(());
     };
     match events.event(*id) {

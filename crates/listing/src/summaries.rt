@@ -13,7 +13,7 @@ fn numbers_of(alloc: Global, events: &Events, set: &[AnyId]) -> Result<NumberLis
 {
     let mut numbers = NumberList::new(alloc)?;
     for id in set {
-        if let Some(number) = events.position(*id) {
+        if let Some(number) = events.number_of(*id) {
             numbers.push(number as u64)?;
         }
     }

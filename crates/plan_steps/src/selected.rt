@@ -11,7 +11,7 @@ use std::alloc::Global;
 pub fn event_number(events: &Events, id: AnyId) -> u64
     ensures { result ≡ event_number events.now.list id }
 {
-    events.position(id).unwrap_or(0) as u64
+    events.number_of(id).unwrap_or(0) as u64
 }
 
 /// The fault of an event that isn't a commit.
