@@ -8,13 +8,12 @@ use event_arena::{Events, Plan, Role};
 use graph_walk::{Scratch, expand_parents, is_ancestor};
 use manifest_cache::Manifests;
 use plain_model::{
-    AnyId, BlobId, CommitId, IdList, Items, NoMemory, Person, PlainEvent, ResetId, Shared, Signed,
-    TagId, Text, When,
+    AnyId, BlobId, CommitId, IdList, Items, Lean, NoMemory, Person, PlainEvent, Policy, Push,
+    ResetId, Shared, Signed, TagId, Text, When,
 };
 use soundness_laws::{what_is_read_is_sound, what_is_read_passes_no_limit};
 use split_reorder::split_at;
 use squash_delete::squash;
-use squash_laws::{Lean, Policy, Push};
 use std::alloc::Global;
 use std::test::*;
 use stream_reader::read_stream;

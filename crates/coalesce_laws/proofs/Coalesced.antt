@@ -32,8 +32,8 @@ use Rattle.edit_laws.proofs.Swept.{swept_commit, swept_nodes}
 use Rattle.edit_laws.proofs.Trees.{nodes_found}
 use Rattle.squash_laws.specs.Removed.{Takings, all_left, is_removed, left_of, parents_after, without_set}
 use Rattle.squash_laws.specs.Takings.{links}
-use Rattle.squash_laws.specs.declared.policy.Lean.TheVariants as lean
-use Rattle.squash_laws.specs.declared.policy.Push.TheVariants as push
+use Rattle.plain_model.specs.declared.policy.Lean.TheVariants as lean
+use Rattle.plain_model.specs.declared.policy.Push.TheVariants as push
 use Rattle.squash_laws.proofs.Forward.{left_fits}
 use Rattle.squash_laws.proofs.Left.{commits_left, one_left, one_moved, without_settles}
 use Rattle.squash_laws.proofs.Takes.{taken_ops, target_stays}

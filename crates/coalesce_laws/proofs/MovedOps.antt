@@ -24,7 +24,7 @@ use Rattle.edit_laws.proofs.Swept.{swept_nodes}
 use Rattle.squash_laws.specs.Squash.{is_first}
 use Rattle.squash_laws.specs.Removed.{Takings, all_left, is_removed, left_of, parents_after, without_set}
 use Rattle.squash_laws.specs.Takings.{links, ops_after}
-use Rattle.squash_laws.specs.declared.policy.Push.TheVariants as push
+use Rattle.plain_model.specs.declared.policy.Push.TheVariants as push
 use Rattle.squash_laws.proofs.Back.{kids_reversed}
 use Rattle.squash_laws.proofs.Hung.{kids}
 use Rattle.coalesce_laws.specs.Remaining.{HasTheOperationsOf, weigh}

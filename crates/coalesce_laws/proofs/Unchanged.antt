@@ -20,7 +20,7 @@ use Rattle.edit_laws.proofs.Sound.{in_parts}
 use Rattle.edit_laws.proofs.Swept.{swept_itself}
 use Rattle.squash_laws.specs.Removed.{Takings, is_removed, left_of, parents_after}
 use Rattle.squash_laws.specs.Takings.{anew}
-use Rattle.squash_laws.specs.declared.policy.Lean.TheVariants as lean
+use Rattle.plain_model.specs.declared.policy.Lean.TheVariants as lean
 use Rattle.coalesce_laws.specs.Coalesce.{coalesce_of, coalesced, joined_ones}
 use Rattle.expunge_laws.specs.PushForward.{forward_takes, pushed_forward}
 use Rattle.coalesce_laws.proofs.Single.{all_itself}

@@ -9,7 +9,7 @@ use Rattle.plain_model.specs.declared.event.PlainEvent.{PlainEvent}
 use Rattle.plain_model.specs.declared.event.PlainEvent.TheVariants.{Commit}
 use Rattle.plain_model.specs.Lookups.{children_of, id_of, is_listed}
 use Rattle.history_laws.specs.Finding.{is_only}
-use Rattle.squash_laws.specs.declared.policy.Lean.TheVariants as lean
+use Rattle.plain_model.specs.declared.policy.Lean.TheVariants as lean
 use Rattle.expunge_laws.specs.PushForward.{pushed_forward}
 
 -- the same name and email, and at most so many seconds between the two

@@ -8,13 +8,12 @@ use Rattle.plain_model.specs.declared.id.AnyId.{AnyId}
 use Rattle.plain_model.specs.declared.id.AnyId.TheVariants as any
 use Rattle.plain_model.specs.declared.event.PlainEvent.{PlainEvent}
 use Rattle.plain_model.specs.declared.event.PlainEvent.TheVariants.{Blob, Commit, Tag, Reset, Pass}
-use Rattle.plain_model.specs.Lookups.{children_of, event_parents, find_event, id_number, id_of, is_listed, same_id}
+use Rattle.plain_model.specs.Lookups.{children_of, commit_id, event_parents, find_event, id_number, id_of, is_listed, same_id}
 use Rattle.plain_model.specs.Soundness.{IsSound, has_id}
 use Rattle.history_laws.specs.Finding.{is_only}
 use Rattle.history_laws.proofs.Ids.{find-id, same_id-true}
 use Rattle.history_laws.specs.Once.{AreDistinct}
 use Rattle.history_laws.proofs.SoundOnce.{has_id-find, sound-once}
-use Rattle.manifest_cache.specs.Walks.{commit_id}
 use Rattle.squash_laws.specs.Removed.{is_removed}
 use Rattle.plan_steps.proofs.SweepLemmas.{listed_filter}
 use Rattle.coalesce_laws.specs.Coalesce.{are_near, is_joined_to, joined_ones}

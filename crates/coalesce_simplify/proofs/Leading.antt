@@ -7,12 +7,11 @@ use Rattle.std.specs.Prelude.{IsSome, slice_get, unwrap_or}
 use Rattle.plain_model.specs.declared.id.AnyId.{AnyId}
 use Rattle.plain_model.specs.declared.id.AnyId.TheVariants as any
 use Rattle.plain_model.specs.declared.event.PlainEvent.{PlainEvent}
-use Rattle.plain_model.specs.Lookups.{children_of, find_event, id_number, id_of, place_of}
+use Rattle.plain_model.specs.Lookups.{children_of, commit_id, find_event, id_number, id_of, place_of}
 use Rattle.plain_model.specs.Soundness.{IsSound}
 use Rattle.history_laws.proofs.SoundOnce.{sound-once}
 use Rattle.edit_laws.proofs.Children.{forward_at}
 use Rattle.graph_walk.proofs.PlaceLemmas.{place_found, place_within}
-use Rattle.manifest_cache.specs.Walks.{commit_id}
 use Rattle.squash_laws.specs.Removed.{is_removed}
 use Rattle.squash_laws.specs.Takings.{back_of, forward_of}
 use Rattle.plan_steps.proofs.NodeLemmas.{found_at}

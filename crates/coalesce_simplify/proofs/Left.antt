@@ -10,7 +10,7 @@ use Rattle.plain_model.specs.declared.person.Signed.{Signed}
 use Rattle.plain_model.specs.declared.event.PlainEvent.{PlainEvent}
 use Rattle.plain_model.specs.declared.event.PlainEvent.TheVariants.{Blob, Commit, Tag, Reset, Pass}
 use Rattle.plain_model.specs.Histories.{Node, nodes, past}
-use Rattle.plain_model.specs.Lookups.{id_of, is_listed, same_id}
+use Rattle.plain_model.specs.Lookups.{commit_id, id_of, is_listed, same_id}
 use Rattle.plain_model.specs.Paths.{Bytes}
 use Rattle.plain_model.specs.Soundness.{IsSound, are_distinct}
 use Rattle.history_laws.specs.FirstParents.{ops_along}
@@ -21,7 +21,6 @@ use Rattle.edit_laws.specs.Parts.{IsLawful}
 use Rattle.edit_laws.proofs.Lists.{OfNodes, events_of_nodes, nodes_of_events}
 use Rattle.edit_laws.proofs.Sound.{in_parts}
 use Rattle.graph_walk.proofs.TurnLemmas.{all_at}
-use Rattle.manifest_cache.specs.Walks.{commit_id}
 use Rattle.squash_laws.specs.Removed.{Takings, all_left, is_removed, left_of, parents_after}
 use Rattle.squash_laws.specs.Takings.{links}
 use Rattle.plan_steps.specs.Leaving.{event_after, goes}

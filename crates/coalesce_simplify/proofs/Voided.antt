@@ -3,8 +3,7 @@ use Rattle.std.proofs.Common.{◌≡◌, true, false, List, refl, sym, ap, None}
 use Rattle.plain_model.specs.declared.id.AnyId.{AnyId}
 use Rattle.plain_model.specs.declared.event.PlainEvent.{PlainEvent}
 use Rattle.plain_model.specs.declared.event.PlainEvent.TheVariants.{Blob, Commit, Tag, Reset, Pass}
-use Rattle.plain_model.specs.Lookups.{id_of, is_listed}
-use Rattle.manifest_cache.specs.Walks.{commit_id}
+use Rattle.plain_model.specs.Lookups.{commit_id, id_of, is_listed}
 use Rattle.simplify_laws.specs.Simplify.{ops_left, simplified_event}
 use Rattle.coalesce_simplify.specs.Voiding.{simple_event}
 

@@ -9,7 +9,7 @@ use Rattle.plain_model.specs.declared.id.AnyId.{AnyId}
 use Rattle.plain_model.specs.declared.id.AnyId.TheVariants as any
 use Rattle.plain_model.specs.declared.event.PlainEvent.{PlainEvent}
 use Rattle.plain_model.specs.Histories.{Node, Past, knows, past}
-use Rattle.plain_model.specs.Lookups.{event_parents, find_event, place_of}
+use Rattle.plain_model.specs.Lookups.{event_ops, event_parents, find_event, place_of}
 use Rattle.plain_model.specs.Soundness.{IsSound, has_id}
 use Rattle.plain_model.specs.declared.operation.FileOp.{FileOp}
 use Rattle.history_laws.specs.FirstParents.{ops_along}
@@ -19,7 +19,7 @@ use Rattle.edit_laws.specs.Removal.{chain}
 use Rattle.edit_laws.proofs.Chains.{chain_other}
 use Rattle.edit_laws.proofs.Following.{chain_at, chain_none}
 use Rattle.graph_walk.proofs.PlaceLemmas.{place_found}
-use Rattle.manifest_cache.specs.Walks.{event_ops, ops_at}
+use Rattle.manifest_cache.specs.Walks.{ops_at}
 use Rattle.squash_laws.specs.Removed.{is_removed}
 use Rattle.squash_laws.specs.Takings.{links}
 use Rattle.plan_steps.specs.Depths.{depth, parents_at}

@@ -5,13 +5,13 @@ use Rattle.plain_model.specs.declared.id.AnyId.TheVariants as any
 use Rattle.plain_model.specs.declared.event.PlainEvent.{PlainEvent}
 use Rattle.plain_model.specs.declared.event.PlainEvent.TheVariants.{Commit}
 use Rattle.plain_model.specs.Histories.{Node}
-use Rattle.plain_model.specs.Lookups.{id_of, is_listed}
+use Rattle.plain_model.specs.Lookups.{commit_id, id_of, is_listed}
 use Rattle.plain_model.specs.Soundness.{has_id}
 use Rattle.history_laws.specs.Finding.{is_only}
-use Rattle.manifest_cache.specs.Walks.{commit_id, ops_at}
+use Rattle.manifest_cache.specs.Walks.{ops_at}
 use Rattle.squash_laws.specs.Removed.{Takings, is_removed, parents_after}
 use Rattle.squash_laws.specs.Takings.{forward_of}
-use Rattle.squash_laws.specs.declared.policy.Lean.TheVariants as lean
+use Rattle.plain_model.specs.declared.policy.Lean.TheVariants as lean
 use Rattle.plan_steps.specs.Depths.{parents_at}
 use Rattle.plan_steps.specs.Leaving.{event_after}
 use Rattle.coalesce_laws.specs.Coalesce.{are_near, joined_ones}

@@ -4,8 +4,7 @@ ghost use Rattle.std.specs.List.{list_any};
 ghost use Rattle.coalesce_laws.specs.Coalesce.{are_near, is_joined_to, joined_ones};
 ghost use Rattle.history_laws.specs.Finding.{is_only};
 ghost use Rattle.coalesce_simplify.specs.Joining.{agree, are_linked, only_of};
-ghost use Rattle.manifest_cache.specs.Walks.{commit_id};
-ghost use Rattle.plain_model.specs.Lookups.{children_of, find_event, id_of};
+ghost use Rattle.plain_model.specs.Lookups.{children_of, commit_id, find_event, id_of};
 
 use event_arena::Events;
 use plain_model::{AnyId, CommitId, IdList, NoMemory, PlainEvent, Signed};

@@ -10,7 +10,7 @@ use Rattle.edit_laws.specs.Keeping.{AddsNothing, unlinked}
 use Rattle.edit_laws.proofs.Edits.{fewer_below}
 use Rattle.edit_laws.proofs.Lists.{all_flat}
 use Rattle.squash_laws.specs.Removed.{Takings, is_removed, left_of, parents_after}
-use Rattle.squash_laws.specs.declared.policy.Lean.{Lean}
+use Rattle.plain_model.specs.declared.policy.Lean.{Lean}
 use Rattle.squash_laws.proofs.Added.{adds_nothing}
 use Rattle.squash_laws.proofs.Left.{one_left, one_moved}
 use Rattle.expunge_laws.specs.PushForward.{forward_takes, pushed_forward}

@@ -25,7 +25,7 @@ use Rattle.edit_laws.proofs.Lists.{OfNodes, all_flat, nodes_of_events, own_here}
 use Rattle.edit_laws.proofs.Settles.{sound_settles}
 use Rattle.squash_laws.specs.Removed.{Takings, is_removed, left_of, parents_after}
 use Rattle.squash_laws.specs.Takings.{back_of, is_none}
-use Rattle.squash_laws.specs.declared.policy.Lean.TheVariants as lean
+use Rattle.plain_model.specs.declared.policy.Lean.TheVariants as lean
 use Rattle.squash_laws.proofs.Left.{one_left, one_moved}
 use Rattle.expunge_laws.specs.Expunged.{emptied, expunge_of, expunged, is_emptied, ops_left, replaced_event, replaced_events}
 use Rattle.expunge_laws.specs.InLine.{IsInLine, is_nothing, ops_in_line, parents_in_line, tree_in_place}

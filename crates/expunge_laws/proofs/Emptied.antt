@@ -23,7 +23,7 @@ use Rattle.edit_laws.proofs.Repeats.{shorter_once}
 use Rattle.edit_laws.proofs.Sound.{in_parts, new_there}
 use Rattle.squash_laws.specs.Removed.{is_removed, left_of, all_left, parents_after}
 use Rattle.squash_laws.specs.Takings.{is_none}
-use Rattle.squash_laws.specs.declared.policy.Lean.TheVariants as lean
+use Rattle.plain_model.specs.declared.policy.Lean.TheVariants as lean
 use Rattle.squash_laws.proofs.Left.{one_left, one_moved}
 use Rattle.expunge_laws.specs.Expunged.{emptied, is_emptied, is_no_merge, ops_left, replaced_event, replaced_events}
 use Rattle.expunge_laws.specs.PushForward.{forward_takes}

@@ -23,8 +23,8 @@ use Rattle.edit_laws.proofs.Limits.{limits_hold, not_many}
 use Rattle.squash_laws.specs.Squash.{checked_after, squash_of}
 use Rattle.squash_laws.specs.Remaining.{IsBareOneOf}
 use Rattle.squash_laws.specs.Removed.{is_removed}
-use Rattle.squash_laws.specs.declared.policy.Lean.{Lean}
-use Rattle.squash_laws.specs.declared.policy.Push.TheVariants as push
+use Rattle.plain_model.specs.declared.policy.Lean.{Lean}
+use Rattle.plain_model.specs.declared.policy.Push.TheVariants as push
 use Rattle.squash_laws.proofs.Added.{all_one}
 use Rattle.expunge_laws.specs.PushForward.{forward_takes, push_forward_of, pushed_forward, unless_limit}
 use Rattle.expunge_laws.proofs.Added.{nothing_added}

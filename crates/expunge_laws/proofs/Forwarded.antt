@@ -23,8 +23,8 @@ use Rattle.edit_laws.proofs.Shown.{has_own_bytes, shown_alike}
 use Rattle.edit_laws.proofs.Sound.{in_parts}
 use Rattle.edit_laws.proofs.Swept.{swept_commit, swept_nodes}
 use Rattle.squash_laws.specs.Removed.{Takings, is_removed, left_of, all_left, parents_after}
-use Rattle.squash_laws.specs.declared.policy.Lean.{Lean}
-use Rattle.squash_laws.specs.declared.policy.Push.TheVariants as push
+use Rattle.plain_model.specs.declared.policy.Lean.{Lean}
+use Rattle.plain_model.specs.declared.policy.Push.TheVariants as push
 use Rattle.squash_laws.proofs.Forward.{left_fits}
 use Rattle.squash_laws.proofs.Left.{blobs_left, commits_left, left_settles, one_left, one_moved}
 use Rattle.squash_laws.proofs.Takes.{taken_ops, target_stays}

@@ -25,7 +25,7 @@ use Rattle.edit_laws.proofs.Settles.{sound_settles}
 use Rattle.squash_laws.proofs.Hung.{back_first, back_gone, back_here, back_other}
 use Rattle.squash_laws.specs.Removed.{is_removed}
 use Rattle.squash_laws.specs.Takings.{anew, is_from_root, is_none, links, ops_after}
-use Rattle.squash_laws.specs.declared.policy.Push.TheVariants as push
+use Rattle.plain_model.specs.declared.policy.Push.TheVariants as push
 use Rattle.expunge_laws.specs.Expunged.{emptied, is_emptied, is_no_merge, ops_left, replaced_event, replaced_events}
 use Rattle.expunge_laws.specs.InLine.{IsInLine, is_cut_off, is_nothing, ops_in_line, parents_in_line}
 use Rattle.expunge_laws.proofs.Changed.{replaced_sound}

@@ -25,8 +25,8 @@ use Rattle.edit_laws.proofs.Sound.{in_parts}
 use Rattle.edit_laws.proofs.Swept.{swept_in_order}
 use Rattle.squash_laws.specs.Removed.{is_removed, left_of, all_left}
 use Rattle.squash_laws.specs.Takings.{anew, is_none, ops_after}
-use Rattle.squash_laws.specs.declared.policy.Lean.TheVariants as lean
-use Rattle.squash_laws.specs.declared.policy.Push.TheVariants as push
+use Rattle.plain_model.specs.declared.policy.Lean.TheVariants as lean
+use Rattle.plain_model.specs.declared.policy.Push.TheVariants as push
 use Rattle.history_laws.specs.FirstParents.{ops_along}
 use Rattle.edit_laws.proofs.Repeats.{distinct_once}
 use Rattle.expunge_laws.specs.Expunged.{emptied, expunged, is_emptied, is_no_merge, ops_left, replaced_event, replaced_events}

@@ -33,7 +33,7 @@ use Rattle.edit_laws.proofs.Edits.{fewer_below}
 use Rattle.edit_laws.proofs.Limits.{limits_hold, not_many}
 use Rattle.edit_laws.proofs.Lists.{own_here}
 use Rattle.squash_laws.specs.Removed.{is_removed}
-use Rattle.squash_laws.specs.declared.policy.Lean.TheVariants as lean
+use Rattle.plain_model.specs.declared.policy.Lean.TheVariants as lean
 use Rattle.expunge_laws.specs.Expunged.{emptied, expunge_of, expunged, is_emptied, replaced_event, replaced_events}
 use Rattle.expunge_laws.specs.PushForward.{unless_limit}
 use Rattle.expunge_laws.specs.Remaining.{LeavesWhere}

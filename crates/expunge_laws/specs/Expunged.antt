@@ -10,7 +10,7 @@ use Rattle.plain_model.specs.Histories.{begun, tree}
 use Rattle.plain_model.specs.Lookups.{id_of}
 use Rattle.plain_model.specs.Paths.{Bytes}
 use Rattle.squash_laws.specs.Takings.{is_none}
-use Rattle.squash_laws.specs.declared.policy.Lean.TheVariants as lean
+use Rattle.plain_model.specs.declared.policy.Lean.TheVariants as lean
 use Rattle.expunge_laws.specs.PushForward.{pushed_forward, unless_limit}
 use Rattle.expunge_laws.specs.Replaced.{replaced_all}
 

@@ -10,7 +10,7 @@ use Rattle.plain_model.specs.Trees.{Tree}
 use Rattle.edit_laws.specs.Removal.{expand_all, once_each}
 use Rattle.squash_laws.specs.Removed.{is_removed}
 use Rattle.squash_laws.specs.Takings.{back_of, is_none, ops_after}
-use Rattle.squash_laws.specs.declared.policy.Push.TheVariants as push
+use Rattle.plain_model.specs.declared.policy.Push.TheVariants as push
 
 abbrev pub is_nothing : Option ℕ → Bool
 is_nothing None = true

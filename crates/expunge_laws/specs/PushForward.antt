@@ -9,8 +9,8 @@ use Rattle.edit_laws.specs.Settling.{settle}
 use Rattle.edit_laws.specs.Sweeping.{swept}
 use Rattle.squash_laws.specs.Removed.{Takings, all_left}
 use Rattle.squash_laws.specs.Takings.{comment_after, ops_after, target_after}
-use Rattle.squash_laws.specs.declared.policy.Lean.{Lean}
-use Rattle.squash_laws.specs.declared.policy.Push.TheVariants as push
+use Rattle.plain_model.specs.declared.policy.Lean.{Lean}
+use Rattle.plain_model.specs.declared.policy.Push.TheVariants as push
 
 -- a comment after those of the removed commits before it, or as it is
 abbrev pub comment_taken : List AnyId → List PlainEvent → Bool → ℕ → List ℕ → Bytes → Bytes

@@ -1,5 +1,20 @@
 //! Laws of a push forward after another edit. Each function's contract is one, and its body is empty.
-ghost use Rattle.std.specs.Prelude.{◌≡◌, ◌≤◌, ◌&&◌, ℕ, Bool, List, Ok, Err, IsOk, if◌then◌else◌, length, nat_lt, not, true};
+ghost use Rattle.std.specs.Prelude.{
+  ◌≡◌,
+  ◌≤◌,
+  ◌&&◌,
+  ℕ,
+  Bool,
+  List,
+  Ok,
+  Err,
+  IsOk,
+  if◌then◌else◌,
+  length,
+  nat_lt,
+  not,
+  true,
+};
 ghost use Rattle.std.specs.List.{AllByRecursion, list_any};
 ghost use Rattle.plain_model.specs.declared.event.PlainEvent.{PlainEvent};
 ghost use Rattle.plain_model.specs.declared.fault.Fault.TheVariants as fault;
@@ -23,8 +38,8 @@ ghost use Rattle.edit_laws.specs.Sweeping.{is_named};
 ghost use Rattle.squash_laws.specs.Squash.{squash_of};
 ghost use Rattle.squash_laws.specs.Remaining.{IsBareOneOf};
 ghost use Rattle.squash_laws.specs.Removed.{is_removed};
-ghost use Rattle.squash_laws.specs.declared.policy.Lean.{Lean};
-ghost use Rattle.squash_laws.specs.declared.policy.Push.TheVariants as push;
+ghost use Rattle.plain_model.specs.declared.policy.Lean.{Lean};
+ghost use Rattle.plain_model.specs.declared.policy.Push.TheVariants as push;
 ghost use Rattle.expunge_laws.specs.PushForward.{push_forward_of, pushed_forward};
 
 /// A push forward of a sound history comes to its end, and what it leaves is sound and within the limits: the commits

@@ -14,7 +14,7 @@ use Rattle.plain_model.specs.declared.operation.FileOp.{FileOp}
 use Rattle.plain_model.specs.declared.event.PlainEvent.{PlainEvent}
 use Rattle.plain_model.specs.declared.event.PlainEvent.TheVariants.{Blob, Commit, Tag, Reset, Pass}
 use Rattle.plain_model.specs.Histories.{IsLinkedPast, Node, Past, begun, folded, knows, past, tree}
-use Rattle.plain_model.specs.Lookups.{event_parents, find_event, id_of, same_id}
+use Rattle.plain_model.specs.Lookups.{event_ops, event_parents, find_event, id_of, same_id}
 use Rattle.plain_model.specs.declared.person.Signed.{Signed}
 use Rattle.plain_model.specs.Paths.{Bytes}
 use Rattle.plain_model.specs.Trees.{Tree}
@@ -27,7 +27,7 @@ use Rattle.edit_laws.specs.Checking.{event_fault, fault_of, first_fault, first_r
 use Rattle.edit_laws.proofs.Checked.{none_refused}
 use Rattle.manifest_cache.specs.Checking.{Applies, Checks, HaveTrees, begun_of}
 use Rattle.manifest_cache.specs.Lines.{line, line_before}
-use Rattle.manifest_cache.specs.Walks.{event_ops, first_parent}
+use Rattle.manifest_cache.specs.Walks.{first_parent}
 use Rattle.manifest_cache.proofs.Lines.{after_found, line_front, line_here, not_again, past-append, tree_along, tree_line, tree_more, unknown, with_commit}
 use Rattle.manifest_cache.proofs.Prefixes.{find_more}
 

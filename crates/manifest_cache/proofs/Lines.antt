@@ -11,7 +11,7 @@ use Rattle.plain_model.specs.declared.operation.FileOp.{FileOp}
 use Rattle.plain_model.specs.declared.event.PlainEvent.{PlainEvent}
 use Rattle.plain_model.specs.declared.event.PlainEvent.TheVariants.{Blob, Commit, Tag, Reset, Pass}
 use Rattle.plain_model.specs.Histories.{Node, Past, begun, folded, knows, nodes, past, tree, tree_in}
-use Rattle.plain_model.specs.Lookups.{event_parents, find_event, id_of, same_id}
+use Rattle.plain_model.specs.Lookups.{event_ops, event_parents, find_event, id_of, same_id}
 use Rattle.plain_model.specs.Trees.{Tree}
 use Rattle.plain_model.proofs.Numbers.{eqb_turned}
 use Rattle.history_laws.proofs.Commits.{nodes_append, unknown_both}
@@ -19,7 +19,6 @@ use Rattle.history_laws.proofs.Ids.{absent-cons, same_id-true}
 use Rattle.history_laws.proofs.LineLaws.{folded_more}
 use Rattle.history_laws.specs.Once.{AreDistinct}
 use Rattle.manifest_cache.specs.Lines.{Line, line, line_before, line_in, ops_of, size}
-use Rattle.manifest_cache.specs.Walks.{event_ops}
 
 -- ---- trees
 

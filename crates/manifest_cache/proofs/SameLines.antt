@@ -8,11 +8,11 @@ use Rattle.plain_model.specs.declared.id.AnyId.TheVariants as any
 use Rattle.plain_model.specs.declared.operation.FileOp.{FileOp}
 use Rattle.plain_model.specs.declared.event.PlainEvent.{PlainEvent}
 use Rattle.plain_model.specs.Histories.{Past, past}
-use Rattle.plain_model.specs.Lookups.{find_event}
+use Rattle.plain_model.specs.Lookups.{event_ops, find_event}
 use Rattle.history_laws.specs.Once.{AreDistinct}
 use Rattle.manifest_cache.specs.Following.{HasSameLine, is_earlier}
 use Rattle.manifest_cache.specs.Lines.{Line, line, line_before, line_in, size}
-use Rattle.manifest_cache.specs.Walks.{event_ops, first_parent}
+use Rattle.manifest_cache.specs.Walks.{first_parent}
 use Rattle.manifest_cache.proofs.Lines.{size_more, with_commit}
 use Rattle.manifest_cache.proofs.Steps.{absent, front, front_earlier, front_later, front_line, step_parent, step_root}
 

@@ -7,13 +7,13 @@ use Rattle.std.proofs.lemmas.Option.{none-some, same_Some}
 use Rattle.plain_model.specs.declared.id.AnyId.{AnyId}
 use Rattle.plain_model.specs.declared.id.AnyId.TheVariants as any
 use Rattle.plain_model.specs.declared.event.PlainEvent.{PlainEvent}
-use Rattle.plain_model.specs.Lookups.{event_parents, find_event, id_of, place_of, same_id}
+use Rattle.plain_model.specs.Lookups.{event_ops, event_parents, find_event, id_of, place_of, same_id}
 use Rattle.history_laws.specs.Once.{AreDistinct}
 use Rattle.event_arena.proofs.OnceLemmas.{distinct-absent}
 use Rattle.history_laws.proofs.Ids.{absent-cons, find-id, same_id-refl}
 use Rattle.manifest_cache.specs.Following.{is_before, is_earlier}
 use Rattle.manifest_cache.specs.Lines.{line, line_before}
-use Rattle.manifest_cache.specs.Walks.{event_ops, first_parent}
+use Rattle.manifest_cache.specs.Walks.{first_parent}
 use Rattle.manifest_cache.proofs.Lines.{after_found, before_there, found_split, line_front, line_here, not_again, with_commit}
 
 -- the first parent, and a root that has none

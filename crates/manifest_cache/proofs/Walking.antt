@@ -11,13 +11,13 @@ use Rattle.plain_model.specs.declared.id.AnyId.TheVariants as any
 use Rattle.plain_model.specs.declared.operation.FileOp.{FileOp}
 use Rattle.plain_model.specs.declared.event.PlainEvent.{PlainEvent}
 use Rattle.plain_model.specs.Histories.{folded, tree}
-use Rattle.plain_model.specs.Lookups.{event_parents, find_event}
+use Rattle.plain_model.specs.Lookups.{event_ops, event_parents, find_event}
 use Rattle.plain_model.specs.Trees.{Tree}
 use Rattle.history_laws.proofs.LineLaws.{folded_more}
 use Rattle.history_laws.specs.Once.{AreDistinct}
 use Rattle.manifest_cache.specs.Kept.{AgreesWith, Kept, after_kept, is_kept, ops_to_fold}
 use Rattle.manifest_cache.specs.Lines.{Line, line, line_before, ops_of, size}
-use Rattle.manifest_cache.specs.Walks.{Leads, event_ops, first_parent, ops_at, ops_back, parent_at}
+use Rattle.manifest_cache.specs.Walks.{Leads, first_parent, ops_at, ops_back, parent_at}
 use Rattle.manifest_cache.proofs.KeptTrees.{kept_is}
 use Rattle.manifest_cache.proofs.Lines.{before_there, line_of_tree, ops_more, size_more, tree_along, tree_line, tree_more, with_commit}
 use Rattle.manifest_cache.proofs.Steps.{event_of, line_step, no_parents, parent_is}

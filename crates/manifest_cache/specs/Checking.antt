@@ -8,10 +8,10 @@ use Rattle.plain_model.specs.declared.fault.Halt.{Halt}
 use Rattle.plain_model.specs.declared.fault.Halt.TheVariants as halt
 use Rattle.plain_model.specs.declared.operation.FileOp.{FileOp}
 use Rattle.plain_model.specs.Histories.{folded, tree}
-use Rattle.plain_model.specs.Lookups.{find_event}
+use Rattle.plain_model.specs.Lookups.{commit_id, event_ops, find_event}
 use Rattle.plain_model.specs.Trees.{Tree}
 use Rattle.edit_laws.specs.Checking.{fault_of, first_fault, first_refused}
-use Rattle.manifest_cache.specs.Walks.{commit_id, event_ops, first_parent}
+use Rattle.manifest_cache.specs.Walks.{first_parent}
 
 -- each of these commits has a tree among the events
 abbrev pub HaveTrees : List PlainEvent → List PlainEvent → Type 0

@@ -4,27 +4,10 @@ use Rattle.std.specs.Option.{option_map_or}
 use Rattle.plain_model.specs.declared.id.AnyId.TheVariants as any
 use Rattle.plain_model.specs.declared.operation.FileOp.{FileOp}
 use Rattle.plain_model.specs.declared.event.PlainEvent.{PlainEvent}
-use Rattle.plain_model.specs.declared.event.PlainEvent.TheVariants.{Blob, Commit, Tag, Reset, Pass}
 use Rattle.plain_model.specs.Histories.{folded, tree}
-use Rattle.plain_model.specs.Lookups.{event_parents, find_event}
+use Rattle.plain_model.specs.Lookups.{event_ops, event_parents, find_event}
 use Rattle.plain_model.specs.Trees.{Tree}
 use Rattle.manifest_cache.specs.Kept.{Kept, ops_to_fold}
-
--- the id of an event, if it is a commit
-abbrev pub commit_id : PlainEvent → Option ℕ
-commit_id (Commit id mark branch author committer encoding comment parents ops aliases) = Some id
-commit_id (Blob id mark bytes) = None
-commit_id (Tag id name target tagger comment mark) = None
-commit_id (Reset id branch target) = None
-commit_id (Pass id line) = None
-
--- the operations of an event, if it is a commit
-abbrev pub event_ops : PlainEvent → List FileOp
-event_ops (Commit id mark branch author committer encoding comment parents ops aliases) = ops
-event_ops (Blob id mark bytes) = []
-event_ops (Tag id name target tagger comment mark) = []
-event_ops (Reset id branch target) = []
-event_ops (Pass id line) = []
 
 -- the operations of the commit with the id
 abbrev pub ops_at : List PlainEvent → ℕ → List FileOp

@@ -3,7 +3,7 @@ ghost use Rattle.std.specs.Prelude.{◌≡◌, ◌≤◌, ◌↔◌, IsTrue, len
 ghost use Rattle.manifest_cache.specs.Checking.{links, own_link};
 
 use crate::equal_ops::same_ops;
-use crate::walk::{commit_id, event_ops, first_parent};
+use crate::walk::first_parent;
 use event_arena::Plan;
 use plain_model::{CommitId, PlainEvent};
 
@@ -21,9 +21,9 @@ fn same_id(one: Option<CommitId>, other: Option<CommitId>) -> bool
 fn is_alike(old: &PlainEvent, new: &PlainEvent) -> bool
     ensures { IsTrue result → own_link old.now ≡ own_link new.now }
 {
-    same_id(commit_id(old), commit_id(new))
+    same_id(old.commit_id(), new.commit_id())
         && same_id(first_parent(old), first_parent(new))
-        && same_ops(event_ops(old), event_ops(new))
+        && same_ops(old.ops(), new.ops())
 }
 
 /// The number of events in front that are alike before and after.

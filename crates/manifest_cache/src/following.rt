@@ -1,12 +1,19 @@
 //! What is kept after a plan: the trees of those commits whose line of first parents is the same.
 ghost use Rattle.std.specs.Prelude.{◌≡◌, ◌∷◌, ◌++◌, ◌↔◌, ℕ, [], IfSome, IsSome, IsTrue};
-ghost use Rattle.manifest_cache.specs.Following.{Follows, HasSameLine, IsKnown, Says, Turns, is_earlier};
+ghost use Rattle.manifest_cache.specs.Following.{
+  Follows,
+  HasSameLine,
+  IsKnown,
+  Says,
+  Turns,
+  is_earlier,
+};
 ghost use Rattle.manifest_cache.specs.Kept.{AgreesWith, Kept};
 ghost use Rattle.manifest_cache.specs.Lines.{line};
 ghost use Rattle.plain_model.specs.Trees.{Tree};
 
 use crate::equal_ops::same_ops;
-use crate::walk::{Trees, event_ops, first_parent};
+use crate::walk::{Trees, first_parent};
 use event_arena::Plan;
 use plain_model::{AnyId, CommitId};
 
@@ -54,7 +61,7 @@ fn step_back(plan: &Plan, commit: CommitId) -> Step
     let Some(new) = plan.event(AnyId::Commit(commit)) else {
         return Step::Other;
     };
-    if !same_ops(event_ops(old), event_ops(new)) {
+    if !same_ops(old.ops(), new.ops()) {
         return Step::Other;
     }
     match (first_parent(old), first_parent(new)) {

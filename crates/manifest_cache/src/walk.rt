@@ -3,7 +3,7 @@ ghost use Rattle.std.specs.Prelude.{◌≡◌, IfOk, IsSome};
 ghost use Rattle.plain_model.specs.Histories.{tree};
 ghost use Rattle.manifest_cache.specs.Kept.{AgreesWith};
 ghost use Rattle.manifest_cache.specs.Listed.{events_of};
-ghost use Rattle.manifest_cache.specs.Walks.{Leads, commit_id, event_ops, first_parent, ops_at, parent_at};
+ghost use Rattle.manifest_cache.specs.Walks.{Leads, first_parent, ops_at, parent_at};
 
 use crate::listed::Listed;
 use lru::LruCache;
@@ -14,16 +14,6 @@ use std::alloc::Global;
 /// Kept trees, by the numbers of their commits' ids.
 pub type Trees = LruCache<u64, PathTree>;
 
-/// The id of an event that is a commit.
-pub fn commit_id(event: &PlainEvent) -> Option<CommitId>
-    ensures { result ≡ commit_id event.now }
-{
-    match event {
-        PlainEvent::Commit { id, .. } => Some(*id),
-        _ => None,
-    }
-}
-
 /// The first parent of an event that is a commit and has parents.
 pub fn first_parent(event: &PlainEvent) -> Option<CommitId>
     ensures { result ≡ first_parent event.now }
@@ -31,16 +21,6 @@ pub fn first_parent(event: &PlainEvent) -> Option<CommitId>
     match event {
         PlainEvent::Commit { parents, .. } => parents.as_slice().first().copied(),
         _ => None,
-    }
-}
-
-/// The operations of an event; none where it is no commit.
-pub fn event_ops(event: &PlainEvent) -> &[FileOp]
-    ensures { result.now ≡ event_ops event.now }
-{
-    match event {
-        PlainEvent::Commit { ops, .. } => ops.as_slice(),
-        _ => &[],
     }
 }
 
@@ -58,7 +38,7 @@ pub fn ops_at<'a>(listed: &'a Listed, commit: CommitId) -> &'a [FileOp]
     ensures { result.now ≡ ops_at (events_of listed.now) commit }
 {
     match listed.event(AnyId::Commit(commit)) {
-        Some(event) => event_ops(event),
+        Some(event) => event.ops(),
         None => &[],
     }
 }

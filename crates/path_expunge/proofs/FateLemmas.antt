@@ -24,7 +24,7 @@ use Rattle.expunge_laws.specs.InLine.{IsInLine, ops_in_line, parents_in_line}
 use Rattle.expunge_laws.proofs.Emptied.{listed_each}
 use Rattle.squash_laws.specs.Removed.{all_left, is_removed, parents_after}
 use Rattle.plan_steps.specs.Leaving.{event_after, goes, staying}
-use Rattle.squash_laws.specs.declared.policy.Lean.TheVariants as lean
+use Rattle.plain_model.specs.declared.policy.Lean.TheVariants as lean
 use Rattle.plan_steps.specs.Targets.{lost_target, moving, target_for}
 use Rattle.plan_steps.proofs.NearLemmas.{kept_on, lost_is}
 use Rattle.plan_steps.proofs.LeavingLemmas.{after_id, left_staying}

@@ -10,7 +10,7 @@ use Rattle.expunge_laws.specs.PushForward.{forward_takes}
 use Rattle.plan_steps.specs.Leaving.{event_after, goes}
 use Rattle.squash_laws.specs.Removed.{Takings, parents_after}
 use Rattle.squash_laws.specs.Takings.{is_none}
-use Rattle.squash_laws.specs.declared.policy.Lean.TheVariants as lean
+use Rattle.plain_model.specs.declared.policy.Lean.TheVariants as lean
 use Rattle.path_expunge.specs.declared.fates.Fate.{Fate}
 use Rattle.path_expunge.specs.declared.fates.Fate.TheVariants.{Same, Linked, Anew, Moved}
 

@@ -10,7 +10,6 @@ ghost use Rattle.plain_model.specs.Paths.{Bytes};
 
 use event_arena::Plan;
 use plain_model::{IdList, NoMemory, PlainEvent};
-use plan_steps::event_ops;
 use std::alloc::Global;
 
 // Whether a commit had an operation, has none left, and is no merge.
@@ -22,7 +21,7 @@ fn is_emptied(old: &PlainEvent, new: &PlainEvent) -> bool
     let PlainEvent::Commit { parents, ops, .. } = old else {
         return false;
     };
-    if ops.as_slice().is_empty() || !event_ops(new).is_empty() {
+    if ops.as_slice().is_empty() || !new.ops().is_empty() {
         return false;
     }
     match parents.as_slice() {

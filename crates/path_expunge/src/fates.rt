@@ -18,7 +18,7 @@ ghost use Rattle.plan_steps.specs.Tables.{IsTable};
 ghost use Rattle.plan_steps.specs.Targets.{AreMoves, moving, target_for};
 ghost use Rattle.plan_steps.specs.Ways.{AreBack};
 ghost use Rattle.squash_laws.specs.Takings.{back_of};
-ghost use Rattle.squash_laws.specs.declared.policy.Lean.TheVariants as lean;
+ghost use Rattle.plain_model.specs.declared.policy.Lean.TheVariants as lean;
 
 use plain_model::{CommitId, NoMemory, ParentList, PlainEvent};
 use plan_steps::{Selected, lost_at, target_at, target_of, way_at};

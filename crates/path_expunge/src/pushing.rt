@@ -10,14 +10,13 @@ ghost use Rattle.plain_model.specs.Soundness.{IsSound};
 ghost use Rattle.plan_steps.specs.Leaving.{goes};
 ghost use Rattle.plan_steps.specs.Tables.{IsTable};
 ghost use Rattle.squash_laws.specs.Removed.{all_left};
-ghost use Rattle.squash_laws.specs.declared.policy.Lean.TheVariants as lean;
+ghost use Rattle.plain_model.specs.declared.policy.Lean.TheVariants as lean;
 
 use crate::fates::{Fate, fates};
 use crate::giving::give_all;
 use event_arena::Plan;
-use plain_model::{AnyId, IdList, NoMemory};
+use plain_model::{AnyId, IdList, Lean, NoMemory};
 use plan_steps::{Leads, Selected, leaving_ids, moved_targets};
-use squash_laws::Lean;
 use std::alloc::Global;
 
 // Which events go, and what becomes of all.

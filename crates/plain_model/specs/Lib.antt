@@ -11,6 +11,7 @@ pub mod Objects
 pub mod Parts
 pub mod Paths
 pub mod People
+pub mod Policies
 pub mod Snapshots
 pub mod Soundness
 pub mod Statuses

@@ -121,6 +121,14 @@ alias_count (Pass id line ∷ events) = alias_count events
 
 -- ---- parents, children and other referents
 
+-- the id of an event, if it is a commit
+abbrev pub commit_id : PlainEvent → Option ℕ
+commit_id (Commit id mark branch author committer encoding comment parents ops aliases) = Some id
+commit_id (Blob id mark bytes) = None
+commit_id (Tag id name target tagger comment mark) = None
+commit_id (Reset id branch target) = None
+commit_id (Pass id line) = None
+
 -- the parents of a commit
 abbrev pub event_parents : PlainEvent → List ℕ
 event_parents (Commit id mark branch author committer encoding comment parents ops aliases) = parents
@@ -128,6 +136,14 @@ event_parents (Blob id mark bytes) = []
 event_parents (Tag id name target tagger comment mark) = []
 event_parents (Reset id branch target) = []
 event_parents (Pass id line) = []
+
+-- the operations of an event, if it is a commit
+abbrev pub event_ops : PlainEvent → List FileOp
+event_ops (Commit id mark branch author committer encoding comment parents ops aliases) = ops
+event_ops (Blob id mark bytes) = []
+event_ops (Tag id name target tagger comment mark) = []
+event_ops (Reset id branch target) = []
+event_ops (Pass id line) = []
 
 -- the event, if it is a commit that has c among its parents
 abbrev pub own_child : ℕ → PlainEvent → List ℕ

@@ -4,7 +4,7 @@ ghost use Rattle.std.specs.Prelude.{◌≡◌, ◌∷◌, ◌++◌, [], IfOk, On
 use crate::id::{AnyId, BlobId, CommitId, PassId, ResetId, TagId};
 use crate::list::{Copied, Items, NoMemory, Text};
 use crate::mark::Mark;
-use crate::operation::OpList;
+use crate::operation::{FileOp, OpList};
 use crate::person::Signed;
 use crate::shared::Shared;
 use std::alloc::Global;
@@ -125,7 +125,7 @@ impl EventList {
 }
 
 impl PlainEvent {
-    ghost use Rattle.plain_model.specs.Lookups.{id_of};
+    ghost use Rattle.plain_model.specs.Lookups.{commit_id, event_ops, event_parents, id_of};
 
     /// The event's id, with its kind.
     pub fn id(&self) -> AnyId
@@ -137,6 +137,36 @@ impl PlainEvent {
             PlainEvent::Tag { id, .. } => AnyId::Tag(*id),
             PlainEvent::Reset { id, .. } => AnyId::Reset(*id),
             PlainEvent::Pass { id, .. } => AnyId::Pass(*id),
+        }
+    }
+
+    /// The id of a commit; none where the event is no commit.
+    pub fn commit_id(&self) -> Option<CommitId>
+        ensures { result ≡ commit_id self.now }
+    {
+        match self {
+            PlainEvent::Commit { id, .. } => Some(*id),
+            _ => None,
+        }
+    }
+
+    /// The parents of a commit; none where the event is no commit.
+    pub fn parents(&self) -> &[CommitId]
+        ensures { result.now ≡ event_parents self.now }
+    {
+        match self {
+            PlainEvent::Commit { parents, .. } => parents.as_slice(),
+            _ => &[],
+        }
+    }
+
+    /// The operations of a commit; none where the event is no commit.
+    pub fn ops(&self) -> &[FileOp]
+        ensures { result.now ≡ event_ops self.now }
+    {
+        match self {
+            PlainEvent::Commit { ops, .. } => ops.as_slice(),
+            _ => &[],
         }
     }
 }

@@ -54,5 +54,8 @@ pub const MAX_PATTERN_BYTES: u64 = 256;
 /// Parentheses, functions and `~` inside one another in a selection.
 pub const MAX_NESTING: u64 = 64;
 
-/// Trees that are kept for a repository.
+/// Trees that are kept for a repository. A reader has a bound of its own.
 pub const MAX_KEPT_TREES: u64 = 64;
+
+/// Commits of a sample.
+pub const MAX_SAMPLE_COMMITS: u64 = 200_000;

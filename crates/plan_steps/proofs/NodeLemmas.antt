@@ -8,7 +8,7 @@ use Rattle.plain_model.specs.declared.id.AnyId.TheVariants as any
 use Rattle.plain_model.specs.declared.event.PlainEvent.{PlainEvent}
 use Rattle.plain_model.specs.declared.event.PlainEvent.TheVariants.{Blob, Commit, Tag, Reset, Pass}
 use Rattle.plain_model.specs.Histories.{Node, node_at, nodes, past}
-use Rattle.plain_model.specs.Lookups.{event_parents, find_event, id_of, place_of}
+use Rattle.plain_model.specs.Lookups.{event_ops, event_parents, find_event, id_of, place_of}
 use Rattle.plain_model.specs.Soundness.{IsCommitOf, IsSound, has_id}
 use Rattle.ancestry_laws.proofs.Pasts.{all_reverse, linked_past}
 use Rattle.history_laws.specs.Once.{AreDistinct}
@@ -17,7 +17,6 @@ use Rattle.edit_laws.specs.Settling.{is_ready}
 use Rattle.edit_laws.proofs.Lists.{OfNodes, all_true, nodes_of_events}
 use Rattle.edit_laws.proofs.Settles.{sound_settles}
 use Rattle.edit_laws.proofs.Trees.{nodes_found}
-use Rattle.manifest_cache.specs.Walks.{event_ops}
 use Rattle.graph_walk.proofs.EarlierLemmas.{is_earlier, parents_before}
 use Rattle.graph_walk.proofs.ParentLemmas.{found_place}
 use Rattle.graph_walk.proofs.PlaceLemmas.{event_placed, place_found}

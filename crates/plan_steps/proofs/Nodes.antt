@@ -11,7 +11,7 @@ use Rattle.plain_model.specs.declared.person.Signed.{Signed}
 use Rattle.plain_model.specs.declared.event.PlainEvent.{PlainEvent}
 use Rattle.plain_model.specs.declared.event.PlainEvent.TheVariants.{Blob, Commit, Tag, Reset, Pass}
 use Rattle.plain_model.specs.Histories.{Node, Past, knows, node_at, past}
-use Rattle.plain_model.specs.Lookups.{event_parents, find_event, id_of, same_id}
+use Rattle.plain_model.specs.Lookups.{event_ops, event_parents, find_event, id_of, same_id}
 use Rattle.plain_model.specs.Snapshots.{commit_mark}
 use Rattle.plain_model.specs.Soundness.{IsSound}
 use Rattle.plain_model.proofs.Numbers.{eqb_turned}
@@ -19,7 +19,6 @@ use Rattle.history_laws.proofs.Ids.{find-id}
 use Rattle.ancestry_laws.proofs.Pasts.{known_past}
 use Rattle.history_laws.proofs.SoundOnce.{has_id-find}
 use Rattle.edit_laws.proofs.Lists.{OfNodes}
-use Rattle.manifest_cache.specs.Walks.{event_ops}
 use Rattle.commit_laws.specs.Selected.{node_of}
 use Rattle.commit_laws.proofs.Given.{IsGiven, IsHere, all_given, parents_here, rank}
 

@@ -5,7 +5,7 @@ use Rattle.std.specs.Prelude.{is_some, option_and_then}
 use Rattle.plain_model.specs.declared.id.AnyId.{AnyId}
 use Rattle.plain_model.specs.declared.event.PlainEvent.{PlainEvent}
 use Rattle.squash_laws.specs.Takings.{moved}
-use Rattle.squash_laws.specs.declared.policy.Lean.{Lean}
+use Rattle.plain_model.specs.declared.policy.Lean.{Lean}
 use Rattle.plan_steps.proofs.Counting.{any_item}
 use Rattle.plan_steps.specs.Tables.{IsTableTo}
 use Rattle.plan_steps.specs.Targets.{AreMoves, lost_target, moving}

@@ -15,7 +15,7 @@ use Rattle.plain_model.specs.declared.person.Signed.{Signed}
 use Rattle.plain_model.specs.declared.event.PlainEvent.{PlainEvent}
 use Rattle.plain_model.specs.declared.event.PlainEvent.TheVariants.{Blob, Commit, Tag, Reset, Pass}
 use Rattle.plain_model.specs.Histories.{Past, knows, node_at, nodes, past}
-use Rattle.plain_model.specs.Lookups.{event_parents, find_event, id_of, is_listed, place_of}
+use Rattle.plain_model.specs.Lookups.{commit_id, event_parents, find_event, id_of, is_listed, place_of}
 use Rattle.plain_model.specs.Paths.{Bytes}
 use Rattle.plain_model.specs.Soundness.{IsCommitOf, IsSound}
 use Rattle.ancestry_laws.proofs.Pasts.{linked_past}
@@ -25,7 +25,6 @@ use Rattle.edit_laws.specs.Removal.{back, forward}
 use Rattle.edit_laws.proofs.Following.{back_at, back_itself}
 use Rattle.graph_walk.proofs.EarlierLemmas.{is_earlier, parents_before}
 use Rattle.graph_walk.proofs.PlaceLemmas.{event_placed, place_found}
-use Rattle.manifest_cache.specs.Walks.{commit_id}
 use Rattle.squash_laws.proofs.Hung.{back_first}
 use Rattle.squash_laws.specs.Removed.{is_removed}
 use Rattle.squash_laws.specs.Takings.{back_of}

@@ -3,9 +3,8 @@ use Rattle.std.specs.Prelude.{ℕ, ◌≡◌, Bool, true, false, ◌||◌, List,
 use Rattle.std.specs.List.{list_any}
 use Rattle.plain_model.specs.declared.id.AnyId.{AnyId}
 use Rattle.plain_model.specs.declared.event.PlainEvent.{PlainEvent}
-use Rattle.plain_model.specs.Lookups.{id_of, is_listed, op_blobs}
+use Rattle.plain_model.specs.Lookups.{event_ops, id_of, is_listed, op_blobs}
 use Rattle.edit_laws.specs.Sweeping.{is_left_over}
-use Rattle.manifest_cache.specs.Walks.{event_ops}
 
 -- the events with these ids get flags, and the others keep theirs
 pub record FlagsAdd (events : List PlainEvent) (ids : List AnyId) (old new : List Bool) : Type 0 where

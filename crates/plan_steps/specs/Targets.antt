@@ -5,7 +5,7 @@ use Rattle.plain_model.specs.declared.event.PlainEvent.{PlainEvent}
 use Rattle.plain_model.specs.declared.event.PlainEvent.TheVariants.{Blob, Commit, Tag, Reset, Pass}
 use Rattle.squash_laws.specs.Removed.{is_removed}
 use Rattle.squash_laws.specs.Takings.{moved}
-use Rattle.squash_laws.specs.declared.policy.Lean.{Lean}
+use Rattle.plain_model.specs.declared.policy.Lean.{Lean}
 
 -- where a tag or a reset goes, from where a commit's go
 abbrev pub target_for : (ℕ → Option ℕ) → PlainEvent → Option ℕ

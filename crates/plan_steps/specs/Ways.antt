@@ -5,8 +5,8 @@ use Rattle.std.specs.List.{list_any}
 use Rattle.plain_model.specs.declared.id.AnyId.{AnyId}
 use Rattle.plain_model.specs.declared.event.PlainEvent.{PlainEvent}
 use Rattle.plain_model.specs.Histories.{nodes}
+use Rattle.plain_model.specs.Lookups.{commit_id}
 use Rattle.edit_laws.specs.Removal.{forward}
-use Rattle.manifest_cache.specs.Walks.{commit_id}
 use Rattle.squash_laws.specs.Removed.{is_removed}
 use Rattle.squash_laws.specs.Takings.{back_of}
 use Rattle.plan_steps.specs.Tables.{IsTable, IsTableTo}

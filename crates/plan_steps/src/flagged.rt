@@ -1,11 +1,21 @@
 //! A history and some of its events, by flags.
-ghost use Rattle.std.specs.Prelude.{◌≡◌, ◌<◌, ◌&&◌, ◌∷◌, [], Some, length, option_to_list, slice_get, IfOk};
+ghost use Rattle.std.specs.Prelude.{
+  ◌≡◌,
+  ◌<◌,
+  ◌&&◌,
+  ◌∷◌,
+  [],
+  Some,
+  length,
+  option_to_list,
+  slice_get,
+  IfOk,
+};
 ghost use Rattle.commit_laws.specs.Selected.{listed};
 ghost use Rattle.plain_model.specs.Lookups.{find_event, id_of, is_listed};
 ghost use Rattle.plain_model.specs.Soundness.{IsSound, has_id};
 ghost use Rattle.plain_model.specs.declared.id.AnyId.TheVariants.{Commit};
 
-use crate::commits::commit_id;
 use event_arena::Events;
 use graph_walk::flags_of;
 use plain_model::{AnyId, CommitId, IdList, Items, NoMemory, PlainEvent};
@@ -92,7 +102,7 @@ impl<'a> Flagged<'a> {
             option_to_list result ≡ listed self.now.set (event ∷ []) }
     {
         if self.has_at(place) {
-            commit_id(self.nth(place))
+            self.nth(place).commit_id()
         } else {
             None
         }

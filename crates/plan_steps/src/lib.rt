@@ -19,7 +19,7 @@ mod targets;
 mod ways;
 
 pub use changing::{give_ops, give_parents};
-pub use commits::{commit_id, event_ops, event_parents, ops_of, parents_of};
+pub use commits::{ops_of, parents_of};
 pub use flagged::{Flagged, listed};
 pub use leaving::leaving_ids;
 pub use limits::{Many, has_many, has_many_events, has_many_parents, limit_passed};

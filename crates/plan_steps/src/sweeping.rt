@@ -23,7 +23,6 @@ ghost use Rattle.edit_laws.specs.Sweeping.{is_left_over, swept};
 ghost use Rattle.plain_model.specs.Lookups.{id_of, is_listed, op_blobs};
 ghost use Rattle.plan_steps.specs.Flags.{AreCandidates, FlagsAdd, FlagsAll, FlagsIds, FlagsNamed, FlagsSome, KeepNames};
 
-use crate::commits::event_ops;
 use crate::selection::Selected;
 use event_arena::Plan;
 use plain_model::{AnyId, Content, FileOp, IdList, NoMemory, PlainEvent};
@@ -63,7 +62,7 @@ fn named_before(alloc: Global, plan: &Plan) -> Result<Vec<bool>, NoMemory>
 {
     let mut flags = vec![in alloc; false; plan.count()]?;
     for place in 0..plan.old_count() {
-        flag_blobs(plan, event_ops(plan.old_nth(place)), &mut flags);
+        flag_blobs(plan, plan.old_nth(place).ops(), &mut flags);
     }
     Ok(flags)
 }
@@ -78,7 +77,7 @@ fn named_by_removed(alloc: Global, removal: &Selected, plan: &Plan) -> Result<Ve
     let mut place = removal.next_near(0);
     while place < count {
         if removal.has_at(place) {
-            flag_blobs(plan, event_ops(removal.nth(place)), &mut flags);
+            flag_blobs(plan, removal.nth(place).ops(), &mut flags);
         }
         place = removal.next_near(place + 1);
     }
@@ -92,7 +91,7 @@ fn flag_event(plan: &Plan, id: AnyId, flags: &mut [bool])
 {
     let _count = plan.count();
     if let Some(event) = plan.event(id) {
-        flag_blobs(plan, event_ops(event), flags);
+        flag_blobs(plan, event.ops(), flags);
     }
 }
 
@@ -137,7 +136,7 @@ fn are_all_flagged(removal: &Selected, plan: &Plan, flags: &[bool]) -> bool
     let count = removal.count();
     let mut place = removal.next_near(0);
     while place < count {
-        if removal.has_at(place) && !are_flagged(plan, event_ops(removal.nth(place)), flags) {
+        if removal.has_at(place) && !are_flagged(plan, removal.nth(place).ops(), flags) {
             return false;
         }
         place = removal.next_near(place + 1);
@@ -151,7 +150,7 @@ fn named_after(alloc: Global, plan: &Plan) -> Result<Vec<bool>, NoMemory>
 {
     let mut flags = vec![in alloc; false; plan.count()]?;
     for place in 0..plan.count() {
-        flag_blobs(plan, event_ops(plan.nth(place)), &mut flags);
+        flag_blobs(plan, plan.nth(place).ops(), &mut flags);
     }
     Ok(flags)
 }

@@ -21,8 +21,7 @@ ghost use Rattle.squash_laws.specs.Takings.{moved, takes};
 
 use crate::selection::Selected;
 use crate::ways::Leads;
-use plain_model::{CommitId, NoMemory, PlainEvent};
-use squash_laws::{Lean, Policy, Push};
+use plain_model::{CommitId, Lean, NoMemory, PlainEvent, Policy, Push};
 use std::alloc::Global;
 
 /// For the place of each tag and reset of a removed commit the commit to which it goes, if there is one. Where it ends,

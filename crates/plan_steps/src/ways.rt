@@ -15,8 +15,7 @@ ghost use Rattle.std.specs.Prelude.{
   IsSome,
 };
 ghost use Rattle.std.specs.List.{AllByRecursion};
-ghost use Rattle.manifest_cache.specs.Walks.{commit_id};
-ghost use Rattle.plain_model.specs.Lookups.{find_event};
+ghost use Rattle.plain_model.specs.Lookups.{commit_id, find_event};
 ghost use Rattle.plain_model.specs.Soundness.{IsCommitOf};
 ghost use Rattle.plain_model.specs.declared.id.AnyId.TheVariants.{Commit};
 ghost use Rattle.plan_steps.specs.Ways.{AreBack, AreBackTo, AreForward, AreForwardFrom, AreLed};
@@ -25,7 +24,6 @@ ghost use Rattle.squash_laws.specs.Takings.{back_of};
 
 use crate::selection::Selected;
 use plain_model::{CommitId, NoMemory, PlainEvent};
-use squash_laws::Lean;
 use std::alloc::Global;
 
 /// For the place of each commit a commit, if there is one.

@@ -28,7 +28,7 @@ use Rattle.history_laws.specs.Counts.{ops_in}
 use Rattle.history_laws.proofs.Commits.{nodes_append}
 use Rattle.history_laws.proofs.Ids.{has_id-append, has_id_after, has_id_step, has_id_still, has_own, ids-below, is_marked-append, same_number}
 use Rattle.sample_history.specs.Sample.{blob_number, blob_of, commit_number, commit_of, file, folder, ops_of, parents_of, path_in, sample, sample_from, signed_at, drawn, stepped}
-use Rattle.sample_history.specs.declared.limit.TheConstants.{MAX_COMMITS}
+use Rattle.plain_model.specs.declared.limit.TheConstants.{MAX_SAMPLE_COMMITS}
 use Rattle.sample_history.proofs.Files.{is_file}
 
 -- ---- the parents and the operations, by cases
@@ -328,32 +328,32 @@ counts_from (suc left) n x =
 
 -- ---- the whole
 
-at_most : (count : ℕ) → min count MAX_COMMITS ≤ 200000
+at_most : (count : ℕ) → min count MAX_SAMPLE_COMMITS ≤ 200000
 at_most count = omega arith
 
 pub sample_sound : (count start : ℕ) → IsSound (sample count start)
 unfolding sample
 sample_sound count start =
     let low = at_most count in record {
-      formed = sound_from (min count MAX_COMMITS) 0 start [] no_events (omega (arith, low));
-      spelled = formed_from (min count MAX_COMMITS) 0 start (omega (arith, low));
-      trees = trees_from (min count MAX_COMMITS) 0 start [] no_events (omega (arith, low));
+      formed = sound_from (min count MAX_SAMPLE_COMMITS) 0 start [] no_events (omega (arith, low));
+      spelled = formed_from (min count MAX_SAMPLE_COMMITS) 0 start (omega (arith, low));
+      trees = trees_from (min count MAX_SAMPLE_COMMITS) 0 start [] no_events (omega (arith, low));
     }
 
 pub sample_low : (count start : ℕ) → AreIdsBelow (2 ^ 62) (sample count start)
 unfolding sample
 sample_low count start =
     let low = at_most count in
-    ids-below (2 ^ 62) (sample count start) (low_from (min count MAX_COMMITS) 0 start (omega (arith, low)))
+    ids-below (2 ^ 62) (sample count start) (low_from (min count MAX_SAMPLE_COMMITS) 0 start (omega (arith, low)))
 
 pub sample_events_few : (count start : ℕ) → length (sample count start) ≤ MAX_EVENTS
 unfolding sample
-sample_events_few count start = omega (arith, at_most count, (counts_from (min count MAX_COMMITS) 1 start).0)
+sample_events_few count start = omega (arith, at_most count, (counts_from (min count MAX_SAMPLE_COMMITS) 1 start).0)
 
 pub sample_ops_few : (count start : ℕ) → ops_in (sample count start) ≤ MAX_OPERATIONS
 unfolding sample
-sample_ops_few count start = omega (arith, at_most count, (counts_from (min count MAX_COMMITS) 1 start).1)
+sample_ops_few count start = omega (arith, at_most count, (counts_from (min count MAX_SAMPLE_COMMITS) 1 start).1)
 
 pub sample_aliases_few : (count start : ℕ) → alias_count (sample count start) ≤ MAX_ALIASES
 unfolding sample
-sample_aliases_few count start = rw (counts_from (min count MAX_COMMITS) 1 start).2 (lit≤ tt)
+sample_aliases_few count start = rw (counts_from (min count MAX_SAMPLE_COMMITS) 1 start).2 (lit≤ tt)

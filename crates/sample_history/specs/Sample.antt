@@ -9,7 +9,7 @@ use Rattle.plain_model.specs.declared.event.PlainEvent.{PlainEvent}
 use Rattle.plain_model.specs.declared.event.PlainEvent.TheVariants.{Blob, Commit}
 use Rattle.plain_model.specs.Paths.{Bytes}
 use Rattle.plain_model.specs.Text.{line}
-use Rattle.sample_history.specs.declared.limit.TheConstants.{MAX_COMMITS}
+use Rattle.plain_model.specs.declared.limit.TheConstants.{MAX_SAMPLE_COMMITS}
 
 -- ---- numbers by chance
 
@@ -78,4 +78,4 @@ sample_from (suc left) i x =
 
 -- as many commits as the count says, up to the most that a sample may have, from the number with which x begins
 unfoldable pub sample : ℕ → ℕ → List PlainEvent
-sample count start = sample_from (min count MAX_COMMITS) 1 start
+sample count start = sample_from (min count MAX_SAMPLE_COMMITS) 1 start

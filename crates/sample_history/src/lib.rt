@@ -2,12 +2,10 @@
 #![tactic(auto)]
 
 mod laws;
-mod limit;
 mod parts;
 mod sample;
 mod worked;
 
 pub use laws::samples_are_lawful;
-pub use limit::MAX_COMMITS;
 pub use sample::sample_events;
 pub use worked::worked_samples;

@@ -4,9 +4,8 @@ ghost use Rattle.plain_model.specs.Lookups.{AreIdsBelow};
 ghost use Rattle.plain_model.specs.Soundness.{IsSound};
 ghost use Rattle.sample_history.specs.Sample.{drawn, sample, stepped};
 
-use crate::limit::MAX_COMMITS;
 use crate::parts::{blob_of, commit_of};
-use plain_model::{EventList, NoMemory};
+use plain_model::{EventList, MAX_SAMPLE_COMMITS, NoMemory};
 use std::alloc::Global;
 
 fn stepped(state: u64) -> u64
@@ -23,7 +22,7 @@ fn drawn(state: u64) -> u64
     state / (1 << 33)
 }
 
-/// A history of so many commits, but no more than `MAX_COMMITS`, each with a blob of its own, on one branch. Some commits have a
+/// A history of so many commits, but no more than `MAX_SAMPLE_COMMITS`, each with a blob of its own, on one branch. Some commits have a
 /// second parent, and some delete a path. The same numbers give the same history. (own)
 #[tactic(auto, unfolding(crate::specs::Sample::sample))]
 pub fn sample_events(alloc: Global, count: u64, start: u64) -> Result<EventList, NoMemory>
@@ -33,7 +32,7 @@ pub fn sample_events(alloc: Global, count: u64, start: u64) -> Result<EventList,
 {
     let mut list = EventList::new(alloc)?;
     let mut state = start;
-    for before in 0..count.min(MAX_COMMITS) {
+    for before in 0..count.min(MAX_SAMPLE_COMMITS) {
         state = stepped(state);
         let drawn = drawn(state);
         list.push(blob_of(alloc, before + 1, drawn)?)?;

@@ -5,8 +5,8 @@ use Rattle.plain_model.specs.declared.fault.Fault.{Fault}
 use Rattle.plain_model.specs.declared.fault.Fault.TheVariants as fault
 use Rattle.plain_model.specs.declared.raw.RawOp.{RawOp}
 use Rattle.plain_model.specs.Paths.{Bytes}
-use Rattle.sample_history.specs.declared.limit.TheConstants.{MAX_COMMITS}
-use Rattle.squash_laws.specs.Squash.{delete_how}
+use Rattle.plain_model.specs.declared.limit.TheConstants.{MAX_SAMPLE_COMMITS}
+use Rattle.plain_model.specs.Policies.{delete_how}
 use Rattle.script_lines.specs.Answering.{◌>>=◌}
 use Rattle.script_lines.specs.Names.{is_repo_name, repo_name}
 use Rattle.script_lines.specs.Redirections.{redirected}
@@ -201,7 +201,7 @@ sample_fits : (words : List Word) → IfAnswered IsSpelledCommand (sample_form w
 unfolding sample_form
 sample_fits [] = tt
 sample_fits (word ∷ words) =
-    bound IsSpelledCommand (or_at_fault word (said_between 1 MAX_COMMITS (whole_in word))) (λ count. sample_start count words) (λ count is. start_fits count words)
+    bound IsSpelledCommand (or_at_fault word (said_between 1 MAX_SAMPLE_COMMITS (whole_in word))) (λ count. sample_start count words) (λ count is. start_fits count words)
 
 expunge_fits : (words : List Word) → IfAnswered IsSpelledCommand (expunge_form words)
 unfolding expunge_form

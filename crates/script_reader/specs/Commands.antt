@@ -4,8 +4,8 @@ use Rattle.plain_model.specs.Paths.{Bytes}
 use Rattle.plain_model.specs.declared.fault.Fault.{Fault}
 use Rattle.plain_model.specs.declared.fault.Fault.TheVariants as fault
 use Rattle.plain_model.specs.declared.raw.RawOp.{RawOp}
-use Rattle.squash_laws.specs.Squash.{delete_how}
-use Rattle.sample_history.specs.declared.limit.TheConstants.{MAX_COMMITS}
+use Rattle.plain_model.specs.Policies.{delete_how}
+use Rattle.plain_model.specs.declared.limit.TheConstants.{MAX_SAMPLE_COMMITS}
 use Rattle.script_lines.specs.Answering.{◌>>=◌}
 use Rattle.script_lines.specs.Names.{repo_name, is_given_name, is_repo_name}
 use Rattle.script_lines.specs.Redirections.{redirected}
@@ -218,7 +218,7 @@ sample_start count (word ∷ words) =
 -- `sample COUNT START`
 unfoldable pub sample_form : List Word → Result Command Fault
 sample_form [] = Err (fault.BadWords (codes "sample"))
-sample_form (word ∷ words) = or_at_fault word (said_between 1 MAX_COMMITS (whole_in word)) >>= λ count. sample_start count words
+sample_form (word ∷ words) = or_at_fault word (said_between 1 MAX_SAMPLE_COMMITS (whole_in word)) >>= λ count. sample_start count words
 
 -- `expunge WORD [WORD ..]`
 unfoldable pub expunge_form : List Word → Result Command Fault

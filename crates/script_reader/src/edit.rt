@@ -1,8 +1,8 @@
 //! Edits of the chosen history.
 use crate::options::Reparenting;
 use crate::spelled::SpelledOp;
+use plain_model::Policy;
 use script_lines::ScriptText;
-use squash_laws::Policy;
 
 /// An edit of selected events as it was read. (reposurgeon manual, the section of each command word)
 #[derive(Drop)]

@@ -21,16 +21,15 @@ ghost use Rattle.script_reader.specs.Numbers.{index_in, seconds_in};
 ghost use Rattle.script_reader.specs.Options.{asked_more, reparenting_more, squash_option};
 ghost use Rattle.script_reader.specs.Spelled.{op_more};
 ghost use Rattle.script_reader.specs.declared.edit.Edit.TheVariants as edit;
-ghost use Rattle.squash_laws.specs.Squash.{delete_how};
+ghost use Rattle.plain_model.specs.Policies.{delete_how};
 
 use crate::cut::Cut;
 use crate::edit::Edit;
 use crate::number::{USUAL_SECONDS, index_in, seconds_in};
 use crate::options::{Asked, Reparenting, SquashOption};
 use crate::spelled::{SaidOp, SpelledOp};
-use plain_model::Halt;
+use plain_model::{Halt, Lean, Policy, Push};
 use script_lines::{ScriptText, Word, at_fault, bad_words, or_at_fault, text_before};
-use squash_laws::{Lean, Policy, Push};
 use std::alloc::Global;
 
 /// An edit after whose command word is no word.

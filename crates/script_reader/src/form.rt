@@ -37,8 +37,7 @@ use crate::edit_words::{add, coalesce, delete, only, remove, reparent, split, sq
 use crate::keyword::{EditWord, Keyword, PlainWord};
 use crate::number::{MAX_START, number_between};
 use crate::selecting::WrittenSelection;
-use plain_model::{Halt, Items, NoMemory, Text};
-use sample_history::MAX_COMMITS;
+use plain_model::{Halt, Items, MAX_SAMPLE_COMMITS, NoMemory, Text};
 use script_lines::{
     Direction, ScriptText, Word, at_fault, bad_words, is_given_name, is_repo_name, name_in,
     or_at_fault, redirected, repo_name, text_before, texts_in,
@@ -270,7 +269,7 @@ fn sample(alloc: Global, words: &[Word]) -> Result<Command, Halt>
     match words {
         [] => Err(bad_words(alloc, b"sample")),
         [word, others @ ..] => {
-            let count = or_at_fault(alloc, word, number_in(word, 1, MAX_COMMITS))?;
+            let count = or_at_fault(alloc, word, number_in(word, 1, MAX_SAMPLE_COMMITS))?;
             sample_start(alloc, count, others)
         }
     }

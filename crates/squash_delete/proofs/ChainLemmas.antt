@@ -12,7 +12,7 @@ use Rattle.plain_model.specs.declared.id.AnyId.TheVariants as any
 use Rattle.plain_model.specs.declared.event.PlainEvent.{PlainEvent}
 use Rattle.plain_model.specs.declared.event.PlainEvent.TheVariants.{Blob, Commit, Tag, Reset, Pass}
 use Rattle.plain_model.specs.Histories.{Node, Past, past}
-use Rattle.plain_model.specs.Lookups.{event_parents, find_event, place_of}
+use Rattle.plain_model.specs.Lookups.{event_ops, event_parents, find_event, place_of}
 use Rattle.plain_model.specs.Paths.{Bytes}
 use Rattle.plain_model.specs.Soundness.{IsCommitOf, IsSound}
 use Rattle.ancestry_laws.proofs.Pasts.{linked_past}
@@ -25,7 +25,7 @@ use Rattle.history_laws.specs.FirstParents.{ops_along}
 use Rattle.history_laws.proofs.LineLaws.{along_more}
 use Rattle.edit_laws.specs.Removal.{chain, expand, expand_all, once_each}
 use Rattle.edit_laws.proofs.Following.{chain_at, chain_none, expand_at, expand_itself}
-use Rattle.manifest_cache.specs.Walks.{event_ops, ops_at}
+use Rattle.manifest_cache.specs.Walks.{ops_at}
 use Rattle.squash_laws.specs.Comments.{comment_of, joined, joined_two}
 use Rattle.squash_laws.specs.Removed.{is_removed}
 use Rattle.squash_laws.specs.Takings.{comments_of, is_from_root, is_none, links}

@@ -14,20 +14,19 @@ use Rattle.plain_model.specs.declared.fault.Fault.TheVariants.{PushbackFork}
 use Rattle.plain_model.specs.declared.event.PlainEvent.{PlainEvent}
 use Rattle.plain_model.specs.declared.event.PlainEvent.TheVariants.{Blob, Commit, Tag, Reset, Pass}
 use Rattle.plain_model.specs.Histories.{Node, nodes}
-use Rattle.plain_model.specs.Lookups.{event_parents, find_event, place_of}
+use Rattle.plain_model.specs.Lookups.{commit_id, event_parents, find_event, place_of}
 use Rattle.plain_model.specs.Soundness.{IsSound}
 use Rattle.history_laws.proofs.Commits.{nodes_append}
 use Rattle.history_laws.specs.Once.{AreDistinct}
 use Rattle.event_arena.proofs.ListLemmas.{drop-item, take-item}
 use Rattle.history_laws.proofs.SoundOnce.{has_id-find, sound-once}
 use Rattle.graph_walk.proofs.PlaceLemmas.{place_found}
-use Rattle.manifest_cache.specs.Walks.{commit_id}
 use Rattle.squash_laws.proofs.Takes.{target_stays}
 use Rattle.squash_laws.specs.Squash.{back_fault, first_back_fault, first_children, is_first}
 use Rattle.squash_laws.specs.Removed.{is_removed}
 use Rattle.squash_laws.specs.Takings.{back_of, forward_of, is_it}
-use Rattle.squash_laws.specs.declared.policy.Lean.TheVariants as lean
-use Rattle.squash_laws.specs.declared.policy.Push.TheVariants as push
+use Rattle.plain_model.specs.declared.policy.Lean.TheVariants as lean
+use Rattle.plain_model.specs.declared.policy.Push.TheVariants as push
 use Rattle.squash_delete.specs.Backing.{AreCountedTo, own_fault}
 use Rattle.squash_delete.specs.Hangings.{AreHungTo, hung}
 use Rattle.plan_steps.proofs.Counting.{more_than}

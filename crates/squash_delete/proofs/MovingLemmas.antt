@@ -14,7 +14,7 @@ use Rattle.plain_model.specs.declared.person.Signed.{Signed}
 use Rattle.plain_model.specs.declared.event.PlainEvent.{PlainEvent}
 use Rattle.plain_model.specs.declared.event.PlainEvent.TheVariants.{Blob, Commit, Tag, Reset, Pass}
 use Rattle.plain_model.specs.Histories.{Node, nodes, past}
-use Rattle.plain_model.specs.Lookups.{event_parents, id_of, is_listed}
+use Rattle.plain_model.specs.Lookups.{commit_id, event_ops, event_parents, id_of, is_listed}
 use Rattle.plain_model.specs.Paths.{Bytes}
 use Rattle.plain_model.specs.Soundness.{IsSound}
 use Rattle.history_laws.specs.FirstParents.{ops_along}
@@ -27,12 +27,12 @@ use Rattle.event_arena.proofs.StepLemmas.{none_left}
 use Rattle.edit_laws.specs.Parts.{tally}
 use Rattle.edit_laws.specs.Removal.{expand_all}
 use Rattle.graph_walk.proofs.PlaceLemmas.{place_found}
-use Rattle.manifest_cache.specs.Walks.{commit_id, event_ops, ops_at}
+use Rattle.manifest_cache.specs.Walks.{ops_at}
 use Rattle.squash_laws.specs.Comments.{comment_of, joined}
 use Rattle.squash_laws.specs.Removed.{Takings, is_removed}
 use Rattle.squash_laws.specs.Takings.{anew, back_of, comment_after, comments_of, hanging, is_from_root, is_it, is_none, links, takes}
-use Rattle.squash_laws.specs.declared.policy.Lean.{Lean}
-use Rattle.squash_laws.specs.declared.policy.Push.TheVariants as push
+use Rattle.plain_model.specs.declared.policy.Lean.{Lean}
+use Rattle.plain_model.specs.declared.policy.Push.TheVariants as push
 use Rattle.squash_delete.specs.Chains.{Carry}
 use Rattle.squash_delete.specs.Hangings.{hung}
 use Rattle.plan_steps.specs.Leaving.{event_after, goes, with_own_parents, with_takings}

@@ -24,9 +24,9 @@ use Rattle.edit_laws.proofs.Sound.{in_parts}
 use Rattle.graph_walk.proofs.TurnLemmas.{all_at}
 use Rattle.squash_laws.specs.Removed.{Takings, all_left, is_removed, left_of, parents_after, without_set}
 use Rattle.squash_laws.specs.Takings.{anew, moved, takes}
-use Rattle.squash_laws.specs.declared.policy.Lean.{Lean}
-use Rattle.squash_laws.specs.declared.policy.Push.{Push}
-use Rattle.squash_laws.specs.declared.policy.Push.TheVariants as push
+use Rattle.plain_model.specs.declared.policy.Lean.{Lean}
+use Rattle.plain_model.specs.declared.policy.Push.{Push}
+use Rattle.plain_model.specs.declared.policy.Push.TheVariants as push
 use Rattle.plan_steps.specs.Leaving.{event_after, goes}
 use Rattle.plan_steps.specs.Near.{AreReadyNear, is_near}
 use Rattle.squash_delete.proofs.ChainLemmas.{no_links}

@@ -4,7 +4,7 @@ use Rattle.plain_model.specs.declared.id.AnyId.{AnyId}
 use Rattle.plain_model.specs.declared.fault.Fault.{Fault}
 use Rattle.plain_model.specs.declared.event.PlainEvent.{PlainEvent}
 use Rattle.plain_model.specs.declared.event.PlainEvent.TheVariants.{Blob, Commit, Tag, Reset, Pass}
-use Rattle.manifest_cache.specs.Walks.{commit_id}
+use Rattle.plain_model.specs.Lookups.{commit_id}
 use Rattle.squash_laws.specs.Squash.{back_fault, first_children}
 use Rattle.squash_laws.specs.Removed.{is_removed}
 use Rattle.plan_steps.specs.Tables.{IsTable}

@@ -8,9 +8,10 @@ use Rattle.plain_model.specs.declared.event.PlainEvent.{PlainEvent}
 use Rattle.plain_model.specs.Histories.{past}
 use Rattle.plain_model.specs.Paths.{Bytes}
 use Rattle.plain_model.specs.Soundness.{IsCommitOf}
+use Rattle.plain_model.specs.Lookups.{commit_id}
 use Rattle.history_laws.specs.FirstParents.{ops_along}
 use Rattle.edit_laws.specs.Removal.{expand}
-use Rattle.manifest_cache.specs.Walks.{commit_id, ops_at}
+use Rattle.manifest_cache.specs.Walks.{ops_at}
 use Rattle.squash_laws.specs.Comments.{comment_of, joined}
 use Rattle.squash_laws.specs.Removed.{is_removed}
 use Rattle.squash_laws.specs.Takings.{comments_of, is_from_root, is_none, links}

@@ -3,7 +3,7 @@ use Rattle.std.specs.Prelude.{ℕ, ◌≡◌, ◌&&◌, List, [], length, filter
 use Rattle.plain_model.specs.declared.id.AnyId.{AnyId}
 use Rattle.plain_model.specs.declared.event.PlainEvent.{PlainEvent}
 use Rattle.plain_model.specs.Histories.{nodes}
-use Rattle.manifest_cache.specs.Walks.{commit_id}
+use Rattle.plain_model.specs.Lookups.{commit_id}
 use Rattle.squash_laws.specs.Removed.{is_removed}
 use Rattle.squash_laws.specs.Takings.{back_of, is_it}
 use Rattle.plan_steps.specs.Tables.{IsTable}

@@ -6,12 +6,12 @@ use Rattle.plain_model.specs.declared.event.PlainEvent.{PlainEvent}
 use Rattle.plain_model.specs.Histories.{nodes}
 use Rattle.event_arena.specs.Graphs.{Change}
 use Rattle.history_laws.specs.FirstParents.{ops_along}
-use Rattle.manifest_cache.specs.Walks.{commit_id}
 use Rattle.squash_laws.specs.Removed.{Takings, is_removed}
 use Rattle.squash_laws.specs.Takings.{takes}
-use Rattle.squash_laws.specs.declared.policy.Lean.{Lean}
-use Rattle.squash_laws.specs.declared.policy.Push.{Push}
-use Rattle.squash_laws.specs.declared.policy.Push.TheVariants as push
+use Rattle.plain_model.specs.declared.policy.Lean.{Lean}
+use Rattle.plain_model.specs.declared.policy.Push.{Push}
+use Rattle.plain_model.specs.Lookups.{commit_id}
+use Rattle.plain_model.specs.declared.policy.Push.TheVariants as push
 use Rattle.squash_delete.specs.Chains.{AreLinks}
 use Rattle.squash_delete.specs.Hangings.{AreHung}
 use Rattle.plan_steps.specs.Leaving.{goes, staying, with_own_parents, with_takings}

@@ -3,9 +3,8 @@ ghost use Rattle.std.specs.Prelude.{◌≡◌, ◌<◌, Some, length, slice_get,
 ghost use Rattle.squash_delete.specs.Backing.{AreCountedTo, own_fault};
 ghost use Rattle.squash_laws.specs.Squash.{fault_before, first_back_fault};
 
-use plain_model::{Fault, NoMemory, PlainEvent};
+use plain_model::{Fault, NoMemory, PlainEvent, Push};
 use plan_steps::Selected;
-use squash_laws::Push;
 use std::alloc::Global;
 
 // Counts the commit at a place as a child of its first parent.

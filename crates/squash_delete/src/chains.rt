@@ -21,12 +21,22 @@ ghost use Rattle.edit_laws.specs.Removal.{expand_all};
 ghost use Rattle.plain_model.specs.Histories.{past};
 ghost use Rattle.plain_model.specs.Soundness.{IsCommitOf};
 ghost use Rattle.plan_steps.specs.Depths.{depth, parents_at};
-ghost use Rattle.squash_delete.specs.Chains.{AreBefore, AreLinks, Carry, IsNearest, LinkIs, Notes, NotesNext, no_link, noted_at};
+ghost use Rattle.squash_delete.specs.Chains.{
+  AreBefore,
+  AreLinks,
+  Carry,
+  IsNearest,
+  LinkIs,
+  Notes,
+  NotesNext,
+  no_link,
+  noted_at,
+};
 ghost use Rattle.squash_laws.specs.Removed.{is_removed};
 ghost use Rattle.squash_laws.specs.Takings.{is_from_root, is_none, links};
 
 use plain_model::{AnyId, CommitId, FileOp, NoMemory, PlainEvent};
-use plan_steps::{Selected, event_parents};
+use plan_steps::Selected;
 use std::alloc::Global;
 use std::marker::Model;
 
@@ -209,7 +219,7 @@ fn link_at(removal: &Selected, table: &LinkTable, place: usize) -> Link
     else {
         return no_link();
     };
-    let parents = event_parents(event);
+    let parents = event.parents();
     let nearest = if is_idle(ops.as_slice(), comment.as_slice()) {
         nearest(removal, table, parents)
     } else {
@@ -251,7 +261,7 @@ fn nearest_before(removal: &Selected, table: &LinkTable, commit: CommitId) -> Op
 {
     let _count = removal.count();
     match removal.list().event(AnyId::Commit(commit)) {
-        Some(event) => nearest(removal, table, event_parents(event)),
+        Some(event) => nearest(removal, table, event.parents()),
         None => None,
     }
 }

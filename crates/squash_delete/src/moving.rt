@@ -1,21 +1,45 @@
 //! What becomes of the events that stay, in a plan: what commits take over, and where tags and resets go.
-ghost use Rattle.std.specs.Prelude.{◌≡◌, ◌<◌, ◌≤◌, length, map, IfOk, IsSome, IsTrue, MatchOption, OnOk};
-ghost use Rattle.event_arena.specs.Changes.{changed, has_target, with_comment, with_ops, with_target};
+ghost use Rattle.std.specs.Prelude.{
+  ◌≡◌,
+  ◌<◌,
+  ◌≤◌,
+  length,
+  map,
+  IfOk,
+  IsSome,
+  IsTrue,
+  MatchOption,
+  OnOk,
+};
+ghost use Rattle.event_arena.specs.Changes.{
+  changed,
+  has_target,
+  with_comment,
+  with_ops,
+  with_target,
+};
 ghost use Rattle.plain_model.specs.Lookups.{find_event, id_of};
 ghost use Rattle.plain_model.specs.declared.id.AnyId.TheVariants.{Commit};
 ghost use Rattle.plan_steps.specs.Leaving.{event_after, staying, with_takings};
-ghost use Rattle.squash_delete.specs.Sources.{AreSources, HasTakenOver, MovesOn, NoneTakes, TakesFrom, TakesOver, push_of};
+ghost use Rattle.squash_delete.specs.Sources.{
+  AreSources,
+  HasTakenOver,
+  MovesOn,
+  NoneTakes,
+  TakesFrom,
+  TakesOver,
+  push_of,
+};
 ghost use Rattle.plan_steps.specs.Targets.{AreMoves};
 ghost use Rattle.squash_laws.specs.Removed.{Takings};
-ghost use Rattle.squash_laws.specs.declared.policy.Push.TheVariants.{Discard};
+ghost use Rattle.plain_model.specs.declared.policy.Push.TheVariants.{Discard};
 
 use crate::chains::{LinkTable, begins_anew, carried, links};
 use crate::hangings::{Hangings, hangings};
 use crate::taking::{Taking, comment_taken, ops_taken};
 use event_arena::Plan;
-use plain_model::{AnyId, CommitId, MAX_OPERATIONS, NoMemory, OpList, PlainEvent, Text};
-use plan_steps::{Selected, event_parents, lost_at, target_at};
-use squash_laws::Push;
+use plain_model::{AnyId, CommitId, MAX_OPERATIONS, NoMemory, OpList, PlainEvent, Push, Text};
+use plan_steps::{Selected, lost_at, target_at};
 use std::alloc::Global;
 
 // Gives a commit that is there other operations and another comment.
@@ -112,7 +136,7 @@ fn take_from(
     }
     match sources {
         Sources::Before(table) => {
-            let parents = event_parents(removal.nth(place));
+            let parents = removal.nth(place).parents();
             let before = carried(alloc, removal, table, parents)?;
             let anew = begins_anew(removal, table, parents);
             take(

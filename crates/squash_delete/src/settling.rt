@@ -1,5 +1,17 @@
 //! The settled order of what is left.
-ghost use Rattle.std.specs.Prelude.{◌≡◌, ◌<◌, Ok, Some, length, slice_get, take, true, IfErr, OnErr, OnOk};
+ghost use Rattle.std.specs.Prelude.{
+  ◌≡◌,
+  ◌<◌,
+  Ok,
+  Some,
+  length,
+  slice_get,
+  take,
+  true,
+  IfErr,
+  OnErr,
+  OnOk,
+};
 ghost use Rattle.edit_laws.specs.Parts.{AreComplete};
 ghost use Rattle.edit_laws.specs.Settling.{is_ready, settle};
 ghost use Rattle.graph_walk.specs.Outcome.{IsCauseOf};
@@ -11,9 +23,8 @@ ghost use Rattle.squash_laws.specs.Takings.{takes};
 use edit_laws::settling_orders;
 use event_arena::Plan;
 use graph_walk::{is_ready_at, settle};
-use plain_model::Halt;
+use plain_model::{Halt, Policy, Push};
 use plan_steps::Selected;
-use squash_laws::{Policy, Push};
 use std::alloc::Global;
 
 // Whether what is left of the event at a place is after all that it refers to.

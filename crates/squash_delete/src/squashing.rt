@@ -21,9 +21,9 @@ use crate::settling::settle_left;
 use event_arena::{Events, Plan};
 use graph_walk::{ParentChanges, parent_changes};
 use manifest_cache::Manifests;
-use plain_model::{AnyId, Halt, IdList, MAX_EVENTS, NoMemory};
+use plain_model::{AnyId, Halt, IdList, MAX_EVENTS, NoMemory, Policy, Push};
 use plan_steps::{Selected, Targets, leaving_ids, sweep_removed, targets_of};
-use squash_laws::{Policy, Push, a_squash_keeps_soundness};
+use squash_laws::a_squash_keeps_soundness;
 use std::alloc::Global;
 
 // The parents that commits get in place of removed ones, unless one gets more than a commit can have.

@@ -6,7 +6,7 @@ ghost use Rattle.squash_laws.specs.Comments.{comment_of, joined, joined_two};
 
 use event_arena::EventTable;
 use plain_model::{AnyId, CommitId, FileOp, NoMemory, OpList, PlainEvent, Text};
-use plan_steps::{event_ops, push_ops};
+use plan_steps::push_ops;
 use std::alloc::Global;
 use std::marker::Model;
 
@@ -35,7 +35,7 @@ fn ops_at(list: &EventTable, commit: CommitId) -> &[FileOp]
     ensures { result.now ≡ ops_at list.now commit }
 {
     match list.event(AnyId::Commit(commit)) {
-        Some(event) => event_ops(event),
+        Some(event) => event.ops(),
         None => &[],
     }
 }

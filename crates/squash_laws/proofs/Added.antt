@@ -23,7 +23,7 @@ use Rattle.squash_laws.specs.Squash.{squash_of}
 use Rattle.squash_laws.specs.Remaining.{IsBareOneOf, bare}
 use Rattle.squash_laws.specs.Removed.{Takings, all_left, is_removed, left_of, parents_after, without_set}
 use Rattle.squash_laws.specs.Takings.{takes}
-use Rattle.squash_laws.specs.declared.policy.Policy.{Policy}
+use Rattle.plain_model.specs.declared.policy.Policy.{Policy}
 use Rattle.squash_laws.proofs.Done.{done_parts}
 use Rattle.squash_laws.proofs.Left.{ids_left, marks_left, one_left, one_moved}
 

@@ -33,9 +33,9 @@ use Rattle.edit_laws.proofs.Trees.{known_later, not_fresh, trees_fit}
 use Rattle.squash_laws.specs.Squash.{back_fault, first_back_fault, first_children, is_first}
 use Rattle.squash_laws.specs.Removed.{is_removed, left_of, all_left, parents_after}
 use Rattle.squash_laws.specs.Takings.{hanging, is_it, last_of, ops_after, takes}
-use Rattle.squash_laws.specs.declared.policy.Lean.{Lean}
-use Rattle.squash_laws.specs.declared.policy.Push.TheVariants as push
-use Rattle.squash_laws.specs.declared.policy.Policy.{Policy}
+use Rattle.plain_model.specs.declared.policy.Lean.{Lean}
+use Rattle.plain_model.specs.declared.policy.Push.TheVariants as push
+use Rattle.plain_model.specs.declared.policy.Policy.{Policy}
 use Rattle.squash_laws.proofs.Hung.{Holds, IsOnlyChild, back_first, back_gone, back_leads, back_other, back_some, has_kid, holds, hung, kids, some_kids}
 use Rattle.squash_laws.proofs.Left.{one_left, one_moved}
 

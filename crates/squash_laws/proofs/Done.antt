@@ -20,10 +20,10 @@ use Rattle.edit_laws.proofs.Checked.{check_finds}
 use Rattle.squash_laws.specs.Squash.{checked_after, fault_before, squash_of, trees_checked}
 use Rattle.squash_laws.specs.Removed.{is_removed, all_left, without_set}
 use Rattle.squash_laws.specs.Takings.{hanging, last_of, squashed, takes}
-use Rattle.squash_laws.specs.declared.policy.Lean.{Lean}
-use Rattle.squash_laws.specs.declared.policy.Push.{Push}
-use Rattle.squash_laws.specs.declared.policy.Push.TheVariants as push
-use Rattle.squash_laws.specs.declared.policy.Policy.{Policy}
+use Rattle.plain_model.specs.declared.policy.Lean.{Lean}
+use Rattle.plain_model.specs.declared.policy.Push.{Push}
+use Rattle.plain_model.specs.declared.policy.Push.TheVariants as push
+use Rattle.plain_model.specs.declared.policy.Policy.{Policy}
 use Rattle.squash_laws.proofs.Back.{pulled_fits, pulled_there, pulled_tree}
 use Rattle.squash_laws.proofs.Squashed.{forward_keeps, forward_sound, squash_commits, squash_ends, squash_settles, squash_sound, was_there}
 

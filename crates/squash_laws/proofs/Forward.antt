@@ -28,8 +28,8 @@ use Rattle.edit_laws.proofs.Sound.{in_parts}
 use Rattle.edit_laws.proofs.Trees.{trees_fit}
 use Rattle.squash_laws.specs.Removed.{Takings, is_removed, left_of, all_left, parents_after}
 use Rattle.squash_laws.specs.Takings.{anew, is_none, links, ops_after, target_after}
-use Rattle.squash_laws.specs.declared.policy.Lean.{Lean}
-use Rattle.squash_laws.specs.declared.policy.Push.TheVariants as push
+use Rattle.plain_model.specs.declared.policy.Lean.{Lean}
+use Rattle.plain_model.specs.declared.policy.Push.TheVariants as push
 use Rattle.squash_laws.proofs.Left.{one_left, one_moved}
 
 -- the operations of a chain and a commit's own, from the tree of the new first parent

@@ -6,7 +6,8 @@ use Rattle.plain_model.specs.Histories.{tree}
 use Rattle.history_laws.specs.Examples.{reset_before_root, root_on_a_tip}
 use Rattle.squash_laws.specs.Comments.{joined}
 use Rattle.squash_laws.specs.Examples.{back_how, commits, each_kind, fork, fork_6_back, fork_without_3, forward_how, renamed, tagged, tags_back_how, two_roots, without_both_roots, without_first, without_last, without_middle, without_one_root}
-use Rattle.squash_laws.specs.Squash.{delete_how, squash_of}
+use Rattle.plain_model.specs.Policies.{delete_how}
+use Rattle.squash_laws.specs.Squash.{squash_of}
 
 pub fork_forward : squash_of forward_how (commits (3 ∷ [])) fork ≡ Ok fork_without_3
 fork_forward = refl

@@ -24,9 +24,9 @@ use Rattle.edit_laws.proofs.Trees.{nodes_found, trees_fit}
 use Rattle.squash_laws.specs.Squash.{squash_of}
 use Rattle.squash_laws.specs.Removed.{Takings, is_removed, left_of, all_left, parents_after, without_set}
 use Rattle.squash_laws.specs.Takings.{last_hanging, takes}
-use Rattle.squash_laws.specs.declared.policy.Lean.{Lean}
-use Rattle.squash_laws.specs.declared.policy.Push.TheVariants as push
-use Rattle.squash_laws.specs.declared.policy.Policy.{Policy}
+use Rattle.plain_model.specs.declared.policy.Lean.{Lean}
+use Rattle.plain_model.specs.declared.policy.Push.TheVariants as push
+use Rattle.plain_model.specs.declared.policy.Policy.{Policy}
 use Rattle.squash_laws.proofs.Done.{back_done_sound, back_trees, done_parts, done_sound, done_trees, forward_done_sound}
 use Rattle.squash_laws.proofs.Left.{one_left, one_moved}
 

@@ -15,9 +15,9 @@ use Rattle.edit_laws.proofs.Settles.{fine_nodes, settled_ids, settled_sound, set
 use Rattle.edit_laws.proofs.Swept.{swept_commit, swept_nodes}
 use Rattle.squash_laws.specs.Removed.{is_removed, all_left, without_set}
 use Rattle.squash_laws.specs.Takings.{comment_after, squashed, takes}
-use Rattle.squash_laws.specs.declared.policy.Lean.{Lean}
-use Rattle.squash_laws.specs.declared.policy.Push.TheVariants as push
-use Rattle.squash_laws.specs.declared.policy.Policy.{Policy}
+use Rattle.plain_model.specs.declared.policy.Lean.{Lean}
+use Rattle.plain_model.specs.declared.policy.Push.TheVariants as push
+use Rattle.plain_model.specs.declared.policy.Policy.{Policy}
 use Rattle.squash_laws.proofs.Forward.{left_fits}
 use Rattle.squash_laws.proofs.Left.{commits_left, without_settles}
 use Rattle.squash_laws.proofs.Takes.{taken_ops, target_stays}

@@ -18,10 +18,10 @@ use Rattle.history_laws.proofs.Lists.{all_join}
 use Rattle.edit_laws.proofs.Lists.{all_filter, all_flat}
 use Rattle.squash_laws.specs.Removed.{is_removed}
 use Rattle.squash_laws.specs.Takings.{anew, back_of, forward_of, hanging, is_from_root, is_it, is_none, links, moved, ops_after, target_after}
-use Rattle.squash_laws.specs.declared.policy.Lean.{Lean}
-use Rattle.squash_laws.specs.declared.policy.Lean.TheVariants as lean
-use Rattle.squash_laws.specs.declared.policy.Push.{Push}
-use Rattle.squash_laws.specs.declared.policy.Push.TheVariants as push
+use Rattle.plain_model.specs.declared.policy.Lean.{Lean}
+use Rattle.plain_model.specs.declared.policy.Lean.TheVariants as lean
+use Rattle.plain_model.specs.declared.policy.Push.{Push}
+use Rattle.plain_model.specs.declared.policy.Push.TheVariants as push
 
 module _ (set : List AnyId) (events : List PlainEvent) where
   -- ---- operations

@@ -8,9 +8,9 @@ use Rattle.plain_model.specs.declared.event.PlainEvent.{PlainEvent}
 use Rattle.plain_model.specs.declared.event.PlainEvent.TheVariants.{Blob, Commit, Tag, Reset, Pass}
 use Rattle.plain_model.specs.Paths.{Bytes}
 use Rattle.history_laws.specs.Examples.{master, put, someone_at}
-use Rattle.squash_laws.specs.declared.policy.Lean.TheVariants as lean
-use Rattle.squash_laws.specs.declared.policy.Push.TheVariants as push
-use Rattle.squash_laws.specs.declared.policy.Policy.{Policy}
+use Rattle.plain_model.specs.declared.policy.Lean.TheVariants as lean
+use Rattle.plain_model.specs.declared.policy.Push.TheVariants as push
+use Rattle.plain_model.specs.declared.policy.Policy.{Policy}
 
 -- ---- words
 

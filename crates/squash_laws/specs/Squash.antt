@@ -11,10 +11,10 @@ use Rattle.edit_laws.specs.Checking.{tree_check}
 use Rattle.edit_laws.specs.Passing.{limit_fault}
 use Rattle.squash_laws.specs.Removed.{is_removed}
 use Rattle.squash_laws.specs.Takings.{squashed}
-use Rattle.squash_laws.specs.declared.policy.Lean.TheVariants as lean
-use Rattle.squash_laws.specs.declared.policy.Push.{Push}
-use Rattle.squash_laws.specs.declared.policy.Push.TheVariants as push
-use Rattle.squash_laws.specs.declared.policy.Policy.{Policy}
+use Rattle.plain_model.specs.declared.policy.Lean.TheVariants as lean
+use Rattle.plain_model.specs.declared.policy.Push.{Push}
+use Rattle.plain_model.specs.declared.policy.Push.TheVariants as push
+use Rattle.plain_model.specs.declared.policy.Policy.{Policy}
 
 -- the first parent is this commit
 abbrev pub is_first : ℕ → List ℕ → Bool
@@ -56,10 +56,6 @@ trees_checked push.Back new = Ok tt
 -- the limits come before the trees
 abbrev pub checked_after : Push → List PlainEvent → Result (Unit {0}) Fault
 checked_after to new = elim (limit_fault new) [ Some why ↦ Err why | None ↦ trees_checked to new ]
-
--- how `delete` goes: where tags lean doesn't count
-abbrev pub delete_how : Policy
-delete_how = record { push = push.Discard; tags = lean.Forward }
 
 -- the history after a squash, or the first fault; settling always comes to its end
 abbrev pub squash_of : Policy → List AnyId → List PlainEvent → Result (List PlainEvent) Fault

@@ -12,11 +12,11 @@ use Rattle.edit_laws.specs.Removal.{back, chain, expand_all, forward}
 use Rattle.edit_laws.specs.Settling.{settle}
 use Rattle.squash_laws.specs.Comments.{comment_of, joined}
 use Rattle.squash_laws.specs.Removed.{Takings, is_removed, without_set}
-use Rattle.squash_laws.specs.declared.policy.Lean.{Lean}
-use Rattle.squash_laws.specs.declared.policy.Lean.TheVariants as lean
-use Rattle.squash_laws.specs.declared.policy.Push.{Push}
-use Rattle.squash_laws.specs.declared.policy.Push.TheVariants as push
-use Rattle.squash_laws.specs.declared.policy.Policy.{Policy}
+use Rattle.plain_model.specs.declared.policy.Lean.{Lean}
+use Rattle.plain_model.specs.declared.policy.Lean.TheVariants as lean
+use Rattle.plain_model.specs.declared.policy.Push.{Push}
+use Rattle.plain_model.specs.declared.policy.Push.TheVariants as push
+use Rattle.plain_model.specs.declared.policy.Policy.{Policy}
 
 abbrev pub is_none : {X : Type 0} → List X → Bool
 is_none [] = true

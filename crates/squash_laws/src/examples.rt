@@ -23,7 +23,8 @@ ghost use Rattle.squash_laws.specs.Examples.{
   without_middle,
   without_one_root,
 };
-ghost use Rattle.squash_laws.specs.Squash.{delete_how, squash_of};
+ghost use Rattle.plain_model.specs.Policies.{delete_how};
+ghost use Rattle.squash_laws.specs.Squash.{squash_of};
 
 /// Both children of a removed commit do first what it did, and have its comment before their own.
 pub fn a_fork_takes_twice()

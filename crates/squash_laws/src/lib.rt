@@ -4,7 +4,6 @@
 
 mod examples;
 mod laws;
-mod policy;
 
 pub use examples::{
     a_fork_takes_twice, a_root_goes, a_source_is_missing, an_empty_set_changes_nothing,
@@ -16,4 +15,3 @@ pub use laws::{
     a_squash_keeps_the_limits, a_squash_removes_its_commits, nothing_is_added,
     what_stays_is_as_it_was,
 };
-pub use policy::{Lean, Policy, Push};

@@ -2,8 +2,7 @@ use Rattle.std.proofs.Common.{◌≡◌, ◌∙◌, Some, None, true, false, get
 use Rattle.std.specs.Prelude.{slice_get}
 use Rattle.std.proofs.lemmas.Option.{none-some, same_Some}
 use Rattle.plain_model.specs.declared.id.AnyId.TheVariants as any
-use Rattle.plain_model.specs.Lookups.{children_of, is_listed, place_of}
-use Rattle.manifest_cache.specs.Walks.{commit_id}
+use Rattle.plain_model.specs.Lookups.{children_of, commit_id, is_listed, place_of}
 use Rattle.squash_laws.specs.Removed.{is_removed}
 use Rattle.coalesce_simplify.proofs.Leading.{end_here, end_on, next}
 use Rattle.coalesce_simplify.proofs.ends.end_at.Goals as goal

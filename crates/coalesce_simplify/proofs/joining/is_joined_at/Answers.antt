@@ -2,9 +2,8 @@ use Rattle.std.proofs.Common.{◌≡◌, ◌∙◌, List, Some, None, sym, ap}
 use Rattle.std.proofs.lemmas.Option.{same_Some}
 use Rattle.plain_model.specs.declared.event.PlainEvent.{PlainEvent}
 use Rattle.plain_model.specs.declared.id.AnyId.TheVariants as any
-use Rattle.plain_model.specs.Lookups.{children_of, find_event, id_of}
+use Rattle.plain_model.specs.Lookups.{children_of, commit_id, find_event, id_of}
 use Rattle.history_laws.proofs.Ids.{find-id}
-use Rattle.manifest_cache.specs.Walks.{commit_id}
 use Rattle.plan_steps.proofs.WayLemmas.{commit_own, no_id}
 use Rattle.coalesce_simplify.specs.Joining.{only_of}
 use Rattle.coalesce_simplify.proofs.Joins.{by_child, lost_child, no_child, others_stay, passes, unselected}

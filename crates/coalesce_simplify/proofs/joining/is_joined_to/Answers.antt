@@ -1,7 +1,6 @@
 use Rattle.std.proofs.Common.{◌∙◌, sym, ap}
 use Rattle.std.specs.Prelude.{◌&&◌}
-use Rattle.plain_model.specs.Lookups.{event_parents}
-use Rattle.manifest_cache.specs.Walks.{commit_id}
+use Rattle.plain_model.specs.Lookups.{commit_id, event_parents}
 use Rattle.coalesce_simplify.specs.Joining.{agree}
 use Rattle.coalesce_simplify.proofs.Joins.{linked_agree}
 use Rattle.coalesce_simplify.proofs.joining.is_joined_to.Goals as goal

@@ -3,11 +3,10 @@ use Rattle.std.specs.Prelude.{IfSome, IsSome, is_some}
 use Rattle.lru.specs.LruCache.{LruCache}
 use Rattle.plain_model.specs.declared.operation.FileOp.{FileOp}
 use Rattle.plain_model.specs.Histories.{folded, tree}
-use Rattle.plain_model.specs.Lookups.{id_of}
+use Rattle.plain_model.specs.Lookups.{event_ops, id_of}
 use Rattle.plain_model.specs.Trees.{Tree}
 use Rattle.manifest_cache.specs.Checking.{Applies}
 use Rattle.manifest_cache.specs.Kept.{AgreesWith}
-use Rattle.manifest_cache.specs.Walks.{event_ops}
 use Rattle.manifest_cache.proofs.Checked.{IsMarked, made_here, no_commit, one_more, parent_tree, refused_checks}
 use Rattle.manifest_cache.proofs.KeptTrees.{agrees_put}
 use Rattle.manifest_cache.proofs.checking.check_event.Goals as goal

@@ -17,7 +17,7 @@ returns-then-not-same_ops c =
     let after = c.args.plan.now.after in
     let at = c.args.commit in
     other_ops before after at c.requires c.old_count.ensures.once c.count.ensures.once c.in-Some.old.now c.in-Some-event.new.now (sym c.in-Some.ensures) (sym c.in-Some-event.ensures)
-    (λ same. true≢false (sym (c.same_ops.ensures.1 (c.event_ops.ensures ∙ same ∙ sym c.event_ops-2.ensures)) ∙ c.if-not-same_ops.true))
+    (λ same. true≢false (sym (c.same_ops.ensures.1 (c.ops.ensures ∙ same ∙ sym c.ops-2.ensures)) ∙ c.if-not-same_ops.true))
 
 pub returns-then-number : goal.returns-then-number
 returns-then-number c =
@@ -44,7 +44,7 @@ returns-in-None-None c =
     let at = c.args.commit in
     same_root before after at c.requires c.old_count.ensures.once c.count.ensures.once c.in-Some.old.now c.in-Some-event.new.now (sym c.in-Some.ensures) (sym c.in-Some-event.ensures)
     (sym c.in-None-None.is-0 ∙ c.first_parent.ensures) (sym c.in-None-None.is-1 ∙ c.first_parent-2.ensures)
-    (sym c.event_ops.ensures ∙ c.same_ops.ensures.0 c.if-not-same_ops.false ∙ c.event_ops-2.ensures)
+    (sym c.ops.ensures ∙ c.same_ops.ensures.0 c.if-not-same_ops.false ∙ c.ops-2.ensures)
 
 pub returns-in-None-Some : goal.returns-in-None-Some
 returns-in-None-Some c =
@@ -69,5 +69,5 @@ returns-else-not-is_earlier c =
     let at = c.args.commit in
     goes_on before after at c.requires c.old_count.ensures.once c.count.ensures.once c.in-Some.old.now c.in-Some-event.new.now (sym c.in-Some.ensures) (sym c.in-Some-event.ensures)
     c.in-Some-Some.parent (sym c.in-Some-Some.is-0 ∙ c.first_parent.ensures) c.in-Some-Some.other (sym c.in-Some-Some.is-1 ∙ c.first_parent-2.ensures)
-    (sym c.event_ops.ensures ∙ c.same_ops.ensures.0 c.if-not-same_ops.false ∙ c.event_ops-2.ensures)
+    (sym c.ops.ensures ∙ c.same_ops.ensures.0 c.if-not-same_ops.false ∙ c.ops-2.ensures)
     (sym c.number.ensures ∙ c.if-number.false ∙ c.number-in-Some-Some.ensures) (sym c.is_earlier.ensures ∙ c.if-not-is_earlier.false)

@@ -11,7 +11,7 @@ use Rattle.expunge_laws.specs.InLine.{IsInLine}
 use Rattle.graph_walk.proofs.FlagLemmas.{if_ok}
 use Rattle.graph_walk.proofs.TurnLemmas.{all_at}
 use Rattle.squash_laws.specs.Removed.{is_removed}
-use Rattle.squash_laws.specs.declared.policy.Lean.TheVariants as lean
+use Rattle.plain_model.specs.declared.policy.Lean.TheVariants as lean
 use Rattle.plan_steps.specs.Targets.{moving, target_for}
 use Rattle.plan_steps.proofs.NodeLemmas.{parents_there}
 use Rattle.path_expunge.specs.declared.fates.Fate.{Fate}

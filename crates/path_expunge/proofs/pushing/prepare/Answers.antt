@@ -4,7 +4,7 @@ use Rattle.plain_model.specs.declared.event.PlainEvent.{PlainEvent}
 use Rattle.plain_model.specs.Lookups.{id_of}
 use Rattle.plan_steps.specs.Leaving.{goes}
 use Rattle.plan_steps.specs.Targets.{AreMoves, moving}
-use Rattle.squash_laws.specs.declared.policy.Lean.TheVariants as lean
+use Rattle.plain_model.specs.declared.policy.Lean.TheVariants as lean
 use Rattle.path_expunge.specs.Fates.{taken}
 use Rattle.path_expunge.proofs.pushing.prepare.Goals as goal
 

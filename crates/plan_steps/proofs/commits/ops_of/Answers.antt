@@ -1,16 +1,16 @@
 use Rattle.std.proofs.Common.{◌∙◌, [], sym, ap}
 use Rattle.std.specs.Option.{option_map_or}
 use Rattle.plain_model.specs.Histories.{Node}
-use Rattle.manifest_cache.specs.Walks.{event_ops}
+use Rattle.plain_model.specs.Lookups.{event_ops}
 use Rattle.plan_steps.proofs.Nodes.{absent_node, found_node}
 use Rattle.plan_steps.proofs.commits.ops_of.Goals as goal
 
 pub returns-in-Some-clause-found : goal.returns-in-Some-clause-found
-returns-in-Some-clause-found c = c.event_ops.ensures ∙ ap (λ o. option_map_or event_ops o []) c.in-Some.ensures
+returns-in-Some-clause-found c = c.ops.ensures ∙ ap (λ o. option_map_or event_ops o []) c.in-Some.ensures
 
 pub returns-in-Some-clause-node : goal.returns-in-Some-clause-node
 returns-in-Some-clause-node c =
-    c.event_ops.ensures ∙ ap (λ (n : Node). n.ops) (sym (found_node c.args.events.now.list c.count-count.ensures.sound c.args.commit c.in-Some.event.now (sym c.in-Some.ensures)))
+    c.ops.ensures ∙ ap (λ (n : Node). n.ops) (sym (found_node c.args.events.now.list c.count-count.ensures.sound c.args.commit c.in-Some.event.now (sym c.in-Some.ensures)))
 
 pub returns-in-None-clause-found : goal.returns-in-None-clause-found
 returns-in-None-clause-found c = ap (λ o. option_map_or event_ops o []) c.in-None.ensures

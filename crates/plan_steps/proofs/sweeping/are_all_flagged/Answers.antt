@@ -33,7 +33,7 @@ loop-place-preserved c =
           let e = w.nth.result.now in
           let gone : is_listed (id_of e) set ≡ true = sym (c.has_at.ensures e w.nth.ensures.event) ∙ w.if-has_at.true in
           let own : FlagsIds after (event_blobs e) flags =
-          subst (λ (ops : List FileOp). FlagsIds after (flat_map op_blobs ops) flags) w.event_ops.ensures (w.are_flagged.ensures w.if-not-are_flagged.false) in
+          subst (λ (ops : List FileOp). FlagsIds after (flat_map op_blobs ops) flags) w.ops.ensures (w.are_flagged.ensures w.if-not-are_flagged.false) in
           subst (λ (es : List PlainEvent). FlagsAll after es flags) (sym (filter_in (λ x. is_listed (id_of x) set) events place e w.nth.ensures.event gone))
           (flags_push after (filter (λ x. is_listed (id_of x) set) (take place events)) e flags c.loop-place.invariant.flagged own)
       | else-has_at-via-else-has_at w ↦

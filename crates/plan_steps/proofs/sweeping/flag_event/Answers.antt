@@ -11,4 +11,4 @@ returns-in-Some c =
     let old = c.args.flags.now in
     let new = c.flag_blobs.new.flags in
     some_more after c.args.id c.in-Some.event.now old new (sym c.in-Some.ensures) c.requires
-    (subst (λ (ops : List FileOp). FlagsAdd after (flat_map op_blobs ops) old new) c.event_ops.ensures c.flag_blobs.ensures)
+    (subst (λ (ops : List FileOp). FlagsAdd after (flat_map op_blobs ops) old new) c.ops.ensures c.flag_blobs.ensures)

@@ -15,8 +15,8 @@ loop-place-preserved c =
     let new = c.flag_blobs.new.flags in
     let e = c.nth.result.now in
     let adds : FlagsAdd events (event_blobs e) old new =
-    subst (λ (ops : List FileOp). FlagsAdd events (flat_map op_blobs ops) old new) c.event_ops.ensures
-    (subst (λ (fs : List Bool). FlagsAdd events (flat_map op_blobs c.event_ops.result.now) fs new) c.deref_mut.ensures.value c.flag_blobs.ensures) in
+    subst (λ (ops : List FileOp). FlagsAdd events (flat_map op_blobs ops) old new) c.ops.ensures
+    (subst (λ (fs : List Bool). FlagsAdd events (flat_map op_blobs c.ops.result.now) fs new) c.deref_mut.ensures.value c.flag_blobs.ensures) in
     let more = names_more events named place e old new c.nth.ensures.event c.loop-place.invariant adds in
     let old_count : length old ≡ c.loop-place.flags.len = ap length (sym c.deref_mut.ensures.value) ∙ c.deref_mut.ensures.len in
     rw add-one (subst (FlagsNamed events (take (suc place) named)) (sym (refilled c.loop-place.flags.len new old (adds.count ∙ old_count) old_count)) more)

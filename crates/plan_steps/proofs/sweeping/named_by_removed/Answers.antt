@@ -35,8 +35,8 @@ loop-place-preserved c =
           let e = w.nth.result.now in
           let new = w.flag_blobs.new.flags in
           let adds : FlagsAdd after (event_blobs e) old new =
-          subst (λ (ops : List FileOp). FlagsAdd after (flat_map op_blobs ops) old new) w.event_ops.ensures
-          (subst (λ (fs : List Bool). FlagsAdd after (flat_map op_blobs w.event_ops.result.now) fs new) w.deref_mut.ensures.value w.flag_blobs.ensures) in
+          subst (λ (ops : List FileOp). FlagsAdd after (flat_map op_blobs ops) old new) w.ops.ensures
+          (subst (λ (fs : List Bool). FlagsAdd after (flat_map op_blobs w.ops.result.now) fs new) w.deref_mut.ensures.value w.flag_blobs.ensures) in
           let gone : is_listed (id_of e) set ≡ true = sym (c.has_at.ensures e w.nth.ensures.event) ∙ w.if-has_at.true in
           let more = filtered_more (λ x. is_listed (id_of x) set) after events place e old new w.nth.ensures.event gone c.loop-place.invariant.named adds in
           let old_count : length old ≡ c.loop-place.flags.len = ap length (sym w.deref_mut.ensures.value) ∙ w.deref_mut.ensures.len in

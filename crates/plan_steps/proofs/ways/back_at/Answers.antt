@@ -3,9 +3,8 @@ use Rattle.std.proofs.lemmas.Option.{same_Some}
 use Rattle.std.specs.Prelude.{option_and_then, slice_get}
 use Rattle.plain_model.specs.declared.event.PlainEvent.{PlainEvent}
 use Rattle.plain_model.specs.declared.id.AnyId.TheVariants as any
-use Rattle.plain_model.specs.Lookups.{event_parents, find_event, id_of}
+use Rattle.plain_model.specs.Lookups.{commit_id, event_parents, find_event, id_of}
 use Rattle.plain_model.specs.Soundness.{IsCommitOf}
-use Rattle.manifest_cache.specs.Walks.{commit_id}
 use Rattle.squash_laws.specs.Takings.{back_of}
 use Rattle.plan_steps.proofs.WayLemmas.{back_parent, back_root, back_stays, first_known, removed_at}
 use Rattle.plan_steps.proofs.ways.back_at.Goals as goal

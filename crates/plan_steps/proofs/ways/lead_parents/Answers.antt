@@ -2,8 +2,7 @@ use Rattle.std.proofs.Common.{◌≡◌, ◌∙◌, Some, ap, subst, sym}
 use Rattle.std.specs.List.{AllByRecursion}
 use Rattle.std.specs.Prelude.{IsSome}
 use Rattle.plain_model.specs.declared.id.AnyId.TheVariants as any
-use Rattle.plain_model.specs.Lookups.{event_parents, find_event}
-use Rattle.manifest_cache.specs.Walks.{commit_id}
+use Rattle.plain_model.specs.Lookups.{commit_id, event_parents, find_event}
 use Rattle.plan_steps.specs.Ways.{AreLed}
 use Rattle.plan_steps.proofs.NodeLemmas.{parents_there}
 use Rattle.plan_steps.proofs.WayLemmas.{led_all, led_by_none, no_id}

@@ -5,7 +5,7 @@ use Rattle.plain_model.specs.declared.operation.FileOp.{FileOp}
 use Rattle.plain_model.specs.declared.event.PlainEvent.{PlainEvent}
 use Rattle.plain_model.specs.declared.event.PlainEvent.TheVariants.{Commit}
 use Rattle.plain_model.specs.Histories.{Node}
-use Rattle.plain_model.specs.Lookups.{find_event, id_of}
+use Rattle.plain_model.specs.Lookups.{event_ops, find_event, id_of}
 use Rattle.history_laws.proofs.Ids.{find-id}
 use Rattle.event_arena.specs.declared.field.Field.TheVariants as field
 use Rattle.event_arena.specs.Changes.{changed, put_after, with_ops}
@@ -13,7 +13,6 @@ use Rattle.event_arena.specs.Graphs.{Change}
 use Rattle.event_arena.proofs.ChangeLemmas.{id-with_field}
 use Rattle.event_arena.proofs.SpentLemmas.{adds-changed}
 use Rattle.graph_walk.proofs.TurnLemmas.{on_ok}
-use Rattle.manifest_cache.specs.Walks.{event_ops}
 use Rattle.split_reorder.specs.Copies.{put_onto}
 use Rattle.split_reorder.proofs.Halving.{cut_found, onto_id}
 use Rattle.plan_steps.proofs.Nodes.{found_node, only_commits}

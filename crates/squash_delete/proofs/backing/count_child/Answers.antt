@@ -1,7 +1,6 @@
 use Rattle.std.proofs.Common.{◌∙◌, ℕ, List, take, arith, ap, sym}
 use Rattle.std.specs.Prelude.{slice_get}
-use Rattle.plain_model.specs.Lookups.{event_parents}
-use Rattle.manifest_cache.specs.Walks.{commit_id}
+use Rattle.plain_model.specs.Lookups.{commit_id, event_parents}
 use Rattle.squash_delete.proofs.HangLemmas.{counted_more, counted_same, few_children, no_parents, take_short}
 use Rattle.plan_steps.proofs.NodeLemmas.{earlier_there}
 use Rattle.plan_steps.proofs.WayLemmas.{first_known, is_placed, no_id}

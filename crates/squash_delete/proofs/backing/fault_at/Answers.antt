@@ -3,9 +3,8 @@ use Rattle.std.proofs.lemmas.Bool.{cond-true}
 use Rattle.std.proofs.lemmas.Option.{same_Some}
 use Rattle.std.specs.Prelude.{slice_get}
 use Rattle.plain_model.specs.declared.event.PlainEvent.{PlainEvent}
-use Rattle.plain_model.specs.Lookups.{event_parents}
+use Rattle.plain_model.specs.Lookups.{commit_id, event_parents}
 use Rattle.event_arena.proofs.ListLemmas.{take-all}
-use Rattle.manifest_cache.specs.Walks.{commit_id}
 use Rattle.squash_laws.specs.Squash.{back_fault, first_children}
 use Rattle.squash_laws.specs.Removed.{is_removed}
 use Rattle.squash_delete.specs.Backing.{own_fault}

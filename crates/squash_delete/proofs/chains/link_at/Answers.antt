@@ -2,12 +2,11 @@ use Rattle.std.proofs.Common.{◌≡◌, ◌∙◌, ◌&&◌, ◌||◌, ◌⊎�
 use Rattle.std.proofs.lemmas.Option.{same_Some}
 use Rattle.std.specs.Option.{option_map_or}
 use Rattle.plain_model.specs.declared.id.AnyId.TheVariants as any
-use Rattle.plain_model.specs.Lookups.{event_parents, find_event, place_of}
+use Rattle.plain_model.specs.Lookups.{commit_id, event_ops, event_parents, find_event, place_of}
 use Rattle.edit_laws.specs.Removal.{expand_all}
 use Rattle.plain_model.specs.Histories.{past}
 use Rattle.history_laws.proofs.SoundOnce.{sound-once}
 use Rattle.graph_walk.proofs.PlaceLemmas.{place_found}
-use Rattle.manifest_cache.specs.Walks.{commit_id, event_ops}
 use Rattle.squash_laws.specs.Comments.{comment_of}
 use Rattle.squash_laws.specs.Removed.{is_removed}
 use Rattle.squash_laws.specs.Takings.{is_from_root, is_none, links}
@@ -27,15 +26,15 @@ returns-then-not-has_at c event at own is =
 
 pub nearest-nearest-requires-clause-before : goal.nearest-nearest-requires-clause-before
 nearest-nearest-requires-clause-before c =
-    own_before c.args.removal.now.events c.count-count.ensures.sound c.args.place _ c.nth-event.result.now _ c.nth-event.ensures.event c.requires.next c.event_parents-parents.ensures
+    own_before c.args.removal.now.events c.count-count.ensures.sound c.args.place _ c.nth-event.result.now _ c.nth-event.ensures.event c.requires.next c.parents-parents.ensures
 
 pub ends_at_root-requires-clause-before : goal.ends_at_root-requires-clause-before
 ends_at_root-requires-clause-before c =
-    own_before c.args.removal.now.events c.count-count.ensures.sound c.args.place _ c.nth-event.result.now _ c.nth-event.ensures.event c.requires.next c.event_parents-parents.ensures
+    own_before c.args.removal.now.events c.count-count.ensures.sound c.args.place _ c.nth-event.result.now _ c.nth-event.ensures.event c.requires.next c.parents-parents.ensures
 
 pub are_over-requires-clause-before : goal.are_over-requires-clause-before
 are_over-requires-clause-before c =
-    own_before c.args.removal.now.events c.count-count.ensures.sound c.args.place _ c.nth-event.result.now _ c.nth-event.ensures.event c.requires.next c.event_parents-parents.ensures
+    own_before c.args.removal.now.events c.count-count.ensures.sound c.args.place _ c.nth-event.result.now _ c.nth-event.ensures.event c.requires.next c.parents-parents.ensures
 
 pub returns : goal.returns
 returns c event at own is =
@@ -58,10 +57,10 @@ returns c event at own is =
       | then-is_idle w ↦ inl (
         sym idle ∙ w.if-is_idle.true,
         subst (IsNearest set events place (event_parents e)) (sym w.nearest-is)
-            (subst (λ ps. IsNearest set events place ps w.nearest-nearest.result) c.event_parents-parents.ensures (w.nearest-nearest.ensures place (own_before events sound place place e _ here refl c.event_parents-parents.ensures))),
+            (subst (λ ps. IsNearest set events place ps w.nearest-nearest.result) c.parents-parents.ensures (w.nearest-nearest.ensures place (own_before events sound place place e _ here refl c.parents-parents.ensures))),
       )
       | else-is_idle w ↦ inr (w.nearest-is ∙ sym (ap commit_id c.in-Commit.is) ∙ own_e)
     ] in
     notes_gone set events sound own place e c.if-is_idle.nearest c.ends_at_root.result c.are_over.result here found there gone how
-    (c.ends_at_root.ensures ∙ ap (λ ps. is_none ps || is_from_root (links set events ps)) c.event_parents-parents.ensures)
-    (c.are_over.ensures ∙ ap (λ ps. is_none (expand_all (is_removed set) (past events) ps)) c.event_parents-parents.ensures)
+    (c.ends_at_root.ensures ∙ ap (λ ps. is_none ps || is_from_root (links set events ps)) c.parents-parents.ensures)
+    (c.are_over.ensures ∙ ap (λ ps. is_none (expand_all (is_removed set) (past events) ps)) c.parents-parents.ensures)

@@ -20,8 +20,8 @@ nearest-requires-clause-before c =
     let e = c.in-Some.event.now in
     let found : find_event (any.Commit c.args.commit) events ≡ Some e = sym (c.in-Some.ensures ∙ ap (find_event (any.Commit c.args.commit)) c.list.ensures) in
     let a = found_at events sound c.args.commit e found in
-    all_before events c.args.table.now.count (let count = c.requires.count in omega arith) c.event_parents.result.now
-    (subst (AllByRecursion (λ p. IsSome (find_event (any.Commit p) events))) (sym c.event_parents.ensures) (parents_there events sound a.place e a.at))
+    all_before events c.args.table.now.count (let count = c.requires.count in omega arith) c.parents.result.now
+    (subst (AllByRecursion (λ p. IsSome (find_event (any.Commit p) events))) (sym c.parents.ensures) (parents_there events sound a.place e a.at))
 
 pub returns-in-Some : goal.returns-in-Some
 returns-in-Some c =
@@ -34,10 +34,10 @@ returns-in-Some c =
     let there : place_of (any.Commit c.args.commit) events ≡ Some a.place = ap (λ id. place_of id events) a.own ∙ (place_found events a.place e a.at (sound-once events sound).ids).0 in
     let deep = depth_at events c.args.commit a.place there in
     let most : a.place ≡ depth events c.args.commit - 1 = omega arith in
-    let parents : c.event_parents.result.now ≡ parents_at events c.args.commit = c.event_parents.ensures ∙ sym (ap (λ o. option_map_or event_parents o []) found) in
+    let parents : c.parents.result.now ≡ parents_at events c.args.commit = c.parents.ensures ∙ sym (ap (λ o. option_map_or event_parents o []) found) in
     subst (λ m. IsNearest set events m (parents_at events c.args.commit) c.nearest.result) most
     (subst (λ ps. IsNearest set events a.place ps c.nearest.result) parents
-    (c.nearest.ensures a.place (own_before events sound a.place a.place e c.event_parents.result.now a.at refl c.event_parents.ensures)))
+    (c.nearest.ensures a.place (own_before events sound a.place a.place e c.parents.result.now a.at refl c.parents.ensures)))
 
 pub returns-in-None : goal.returns-in-None
 returns-in-None c =

@@ -4,8 +4,7 @@ use Rattle.std.proofs.lemmas.Option.{none-some}
 use Rattle.std.specs.Prelude.{option_and_then}
 use Rattle.plain_model.specs.declared.event.PlainEvent.{PlainEvent}
 use Rattle.plain_model.specs.declared.id.AnyId.TheVariants as any
-use Rattle.plain_model.specs.Lookups.{find_event, id_of}
-use Rattle.manifest_cache.specs.Walks.{commit_id}
+use Rattle.plain_model.specs.Lookups.{commit_id, find_event, id_of}
 use Rattle.squash_laws.specs.Removed.{is_removed}
 use Rattle.squash_laws.specs.Takings.{back_of, is_it}
 use Rattle.squash_delete.specs.Hangings.{AreHungTo}

@@ -1,6 +1,6 @@
 use Rattle.std.proofs.Common.{◌≡◌, ◌∙◌, refl, subst, sym}
 use Rattle.squash_laws.specs.Takings.{takes}
-use Rattle.squash_laws.specs.declared.policy.Push.TheVariants as push
+use Rattle.plain_model.specs.declared.policy.Push.TheVariants as push
 use Rattle.plan_steps.specs.Passes.{taken_to}
 use Rattle.squash_delete.specs.Sources.{NoneTakes, push_of}
 use Rattle.squash_delete.specs.declared.moving.Sources.{Sources}

@@ -2,10 +2,10 @@ use Rattle.std.proofs.Common.{◌≡◌, ◌∙◌, List, Some, length, ap, subs
 use Rattle.std.proofs.lemmas.Option.{same_Some}
 use Rattle.plain_model.specs.declared.event.PlainEvent.{PlainEvent}
 use Rattle.plain_model.specs.declared.event.PlainEvent.TheVariants.{Commit}
+use Rattle.plain_model.specs.Lookups.{commit_id}
 use Rattle.plain_model.specs.declared.id.AnyId.TheVariants as any
 use Rattle.event_arena.specs.Changes.{changed, with_comment, with_ops}
 use Rattle.event_arena.specs.Graphs.{Change}
-use Rattle.manifest_cache.specs.Walks.{commit_id}
 use Rattle.squash_delete.specs.Taking.{IsTakenBy, comment_taken, ops_taken}
 use Rattle.squash_delete.proofs.MovingLemmas.{commit_taken, le_is, none_taken, own_count, same_taken}
 use Rattle.plan_steps.proofs.WayLemmas.{no_id}

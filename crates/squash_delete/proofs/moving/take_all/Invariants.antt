@@ -2,7 +2,7 @@ use Rattle.std.proofs.Common.{◌≡◌, ◌≤◌, ◌-◌, ℕ, List, true, fi
 use Rattle.plain_model.specs.declared.limit.TheConstants.{MAX_OPERATIONS}
 use Rattle.event_arena.specs.Graphs.{Change}
 use Rattle.squash_laws.specs.Takings.{takes}
-use Rattle.squash_laws.specs.declared.policy.Lean.{Lean}
+use Rattle.plain_model.specs.declared.policy.Lean.{Lean}
 use Rattle.plan_steps.specs.Leaving.{goes, staying, with_own_parents, with_takings}
 use Rattle.plan_steps.specs.Passes.{taken_to}
 use Rattle.squash_delete.specs.Sources.{count_ops, push_of}

@@ -9,7 +9,7 @@ use Rattle.plain_model.specs.Lookups.{event_parents, find_event}
 use Rattle.history_laws.proofs.SoundOnce.{sound-once}
 use Rattle.graph_walk.proofs.FlagLemmas.{if_ok}
 use Rattle.squash_laws.specs.Takings.{takes}
-use Rattle.squash_laws.specs.declared.policy.Push.TheVariants as push
+use Rattle.plain_model.specs.declared.policy.Push.TheVariants as push
 use Rattle.squash_delete.specs.Sources.{AreSources, TakesFrom, push_of}
 use Rattle.squash_delete.specs.declared.moving.Sources.{Sources}
 use Rattle.squash_delete.proofs.ChainLemmas.{all_before}
@@ -30,16 +30,16 @@ carried-requires-clause-before c =
     let events = c.args.removal.now.events in
     let src = subst (AreSources c.args.removal.now.set events) c.in-Before.is c.requires.sources in
     let whole = src.0 in
-    all_before events c.in-Before.table.count (omega arith) c.event_parents-parents.result.now
-    (subst (AllByRecursion (λ p. IsSome (find_event (any.Commit p) events))) (sym c.event_parents-parents.ensures) (parents_there events c.count-count.ensures.sound c.args.place c.nth.result.now c.nth.ensures.event))
+    all_before events c.in-Before.table.count (omega arith) c.parents-parents.result.now
+    (subst (AllByRecursion (λ p. IsSome (find_event (any.Commit p) events))) (sym c.parents-parents.ensures) (parents_there events c.count-count.ensures.sound c.args.place c.nth.result.now c.nth.ensures.event))
 
 pub begins_anew-anew-requires-clause-before : goal.begins_anew-anew-requires-clause-before
 begins_anew-anew-requires-clause-before c =
     let events = c.args.removal.now.events in
     let src = subst (AreSources c.args.removal.now.set events) c.in-Before.is c.requires.sources in
     let whole = src.0 in
-    all_before events c.in-Before.table.count (omega arith) c.event_parents-parents.result.now
-    (subst (AllByRecursion (λ p. IsSome (find_event (any.Commit p) events))) (sym c.event_parents-parents.ensures) (parents_there events c.count-count.ensures.sound c.args.place c.nth.result.now c.nth.ensures.event))
+    all_before events c.in-Before.table.count (omega arith) c.parents-parents.result.now
+    (subst (AllByRecursion (λ p. IsSome (find_event (any.Commit p) events))) (sym c.parents-parents.ensures) (parents_there events c.count-count.ensures.sound c.args.place c.nth.result.now c.nth.ensures.event))
 
 pub returns-in_ok-before-in-Before : goal.returns-in_ok-before-in-Before
 returns-in_ok-before-in-Before c =
@@ -51,8 +51,8 @@ returns-in_ok-before-in-Before c =
     let same : event ≡ c.nth.result.now = same_Some event c.nth.result.now (sym at ∙ c.nth.ensures.event) in
     over par (takes set events (record { push = push.Forward; tags = tags })) event at
     (λ own is. sym (removed_at set own event c.has_at.result is (c.has_at.ensures event at)) ∙ c.if-has_at.false)
-    (forward_taken set events tags c.new.result event c.in_ok-before-in-Before.before.items c.event_parents-parents.result.now c.begins_anew-anew.result
-    c.in_ok-before-in-Before.ensures c.begins_anew-anew.ensures (c.event_parents-parents.ensures ∙ ap event_parents (sym same))
+    (forward_taken set events tags c.new.result event c.in_ok-before-in-Before.before.items c.parents-parents.result.now c.begins_anew-anew.result
+    c.in_ok-before-in-Before.ensures c.begins_anew-anew.ensures (c.parents-parents.ensures ∙ ap event_parents (sym same))
     c.new.ensures.anew (c.new.ensures.before ∙ c.deref.ensures.value) c.new.ensures.after)
     start was)) c.take.ensures
 

@@ -1,7 +1,7 @@
 use Rattle.std.proofs.Common.{◌≡◌, ◌∙◌, ◌⊎◌, inl, inr, [], sym, subst, true≢false}
 use Rattle.edit_laws.specs.Parts.{AreComplete, AreInOrder}
-use Rattle.squash_laws.specs.declared.policy.Push.{Push}
-use Rattle.squash_laws.specs.declared.policy.Push.TheVariants as push
+use Rattle.plain_model.specs.declared.policy.Push.{Push}
+use Rattle.plain_model.specs.declared.policy.Push.TheVariants as push
 use Rattle.plan_steps.specs.Near.{AreReadyNear}
 use Rattle.squash_delete.proofs.SettlingLemmas.{squash_settled}
 use Rattle.squash_delete.proofs.settling.settle_left.Goals as goal
