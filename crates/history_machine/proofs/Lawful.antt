@@ -42,14 +42,14 @@ use Rattle.script_lines.specs.declared.script.ScriptLine.{ScriptLine}
 use Rattle.script_lines.specs.declared.script.ScriptLine.TheVariants.{Define, Plain}
 use Rattle.history_machine.specs.Lawful.{AreNameBytes, IsLawful, IsLawfulRepo}
 use Rattle.history_machine.specs.Loading.{loaded, over, read_of}
-use Rattle.history_machine.specs.Machine.{Turn}
+use Rattle.history_machine.specs.Machine.{Effect}
 use Rattle.history_machine.specs.Sessions.{Repo, Session, Subject, after_assign, after_choose, after_drop, after_drop_chosen, after_edit, after_read, after_renumber, after_sample, calling, carried, changes, chosen, edited, find_repo, line_step, ordered, read_repo, ready, remade, reports, room, sample_name, step, there, unassigned, unless, unused, with_remade, with_repo, without_paths, without_repo}
 use Rattle.history_machine.proofs.LoadList.{changed_well, chosen_well, forgotten_well, loaded_well}
 use Rattle.history_machine.proofs.Ready.{LiveIn, chosen_lawful, ready_live, ready_once}
 use Rattle.history_machine.proofs.Selections.{live_once, names_more, selection_of}
 
 -- a command that is done leaves such a session
-abbrev GoesWell : Result (Turn Session) Fault → Type 0
+abbrev GoesWell : Result (Effect Session) Fault → Type 0
 GoesWell (Ok t) = IsLawful t.session
 GoesWell (Err why) = Unit {0}
 
@@ -267,10 +267,10 @@ module _ (laws : Laws) where
       go (Ok what) is = ordered_well denial s files depth what h (λ step e. laws.spelled text step (is ∙ ap Ok e))
       go (Err why) is = tt
 
-  pub step_keeps : (denial : Option Denial) (s : Session) (files : Files) (what : Command) (t : Turn Session) → step denial s files what ≡ Ok t → IsLawful s → IsSpelledCommand what
+  pub step_keeps : (denial : Option Denial) (s : Session) (files : Files) (what : Command) (t : Effect Session) → step denial s files what ≡ Ok t → IsLawful s → IsSpelledCommand what
       → IsLawful t.session
   step_keeps denial s files what t is h fits = subst GoesWell is (step_well denial s files what h fits)
 
-  pub line_keeps : (denial : Option Denial) (s : Session) (files : Files) (depth : ℕ) (what : ScriptLine) (t : Turn Session) → line_step denial s files depth what ≡ Ok t
+  pub line_keeps : (denial : Option Denial) (s : Session) (files : Files) (depth : ℕ) (what : ScriptLine) (t : Effect Session) → line_step denial s files depth what ≡ Ok t
       → IsLawful s → IsLawful t.session
   line_keeps denial s files depth what t is h = subst GoesWell is (line_well denial s files depth what h)

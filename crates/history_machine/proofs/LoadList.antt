@@ -19,8 +19,8 @@ not_not : (b : Bool) → not b ≡ true → b ≡ false
 not_not true h = absurd cc
 not_not false h = refl
 
-turned : (a b : Bytes) → bytes_eq a b ≡ false → bytes_eq b a ≡ false
-turned a b no_it =
+line_end : (a b : Bytes) → bytes_eq a b ≡ false → bytes_eq b a ≡ false
+line_end a b no_it =
     false_from_ne_true (bytes_eq b a) (λ it. true≢false (sym ((bytes_eq-Decides a b).1 (sym ((bytes_eq-Decides b a).0 it))) ∙ no_it))
 
 -- without the first name that is this one
@@ -90,7 +90,7 @@ more_apart new (n ∷ names) h none =
     let nones = or_parts (bytes_eq new n) (is_named names new) none in
     let apart : is_named (names ++ new ∷ []) n ≡ false =
     list_any-append (bytes_eq n) names (new ∷ [])
-    ∙ or_from (is_named names n) (is_named (new ∷ []) n) (not_not (is_named names n) parts.0) (or_from (bytes_eq n new) false (turned new n nones.0) refl) in
+    ∙ or_from (is_named names n) (is_named (new ∷ []) n) (not_not (is_named names n) parts.0) (or_from (bytes_eq n new) false (line_end new n nones.0) refl) in
     and_from (not (is_named (names ++ new ∷ []) n)) (are_names_apart (names ++ new ∷ [])) (not_from_false (is_named (names ++ new ∷ []) n) apart) (more_apart new names parts.1 nones.1)
 
 last_named : (new : Bytes) (names : List Bytes) → is_named (names ++ new ∷ []) new ≡ true

@@ -47,7 +47,7 @@ use Rattle.reparent_laws.specs.Operations.{add_of, remove_of}
 use Rattle.reparent_laws.specs.Reparent.{reparent_of}
 use Rattle.reparent_laws.specs.declared.removal.Removal.TheVariants.{Index, At}
 use Rattle.history_machine.specs.Loading.{loaded}
-use Rattle.history_machine.specs.Machine.{Turn}
+use Rattle.history_machine.specs.Machine.{Effect}
 use Rattle.history_machine.specs.PathWords.{matches_of, said_path}
 
 -- ---- what a session holds
@@ -278,23 +278,23 @@ shown listing.Manifest ids repo = manifest_text repo.history ids
 -- ---- one command
 
 -- the session is another, and nothing is sent
-abbrev pub quiet : Session → Turn Session
+abbrev pub quiet : Session → Effect Session
 quiet s = record { session = s; to = None; bytes = []; calls = [] }
 
 -- a text is printed, or is the whole of a file, and the session is the same
-abbrev pub sends : Session → Option Bytes → Bytes → Turn Session
+abbrev pub sends : Session → Option Bytes → Bytes → Effect Session
 sends s to bytes = record { session = s; to = to; bytes = bytes; calls = [] }
 
 -- a change of the session
-abbrev pub changes : Result Session Fault → Result (Turn Session) Fault
+abbrev pub changes : Result Session Fault → Result (Effect Session) Fault
 changes expected = expected >>= λ after. Ok (quiet after)
 
 -- a text that is sent
-abbrev pub reports : Session → Option Bytes → Result Bytes Fault → Result (Turn Session) Fault
+abbrev pub reports : Session → Option Bytes → Result Bytes Fault → Result (Effect Session) Fault
 reports s to expected = expected >>= λ bytes. Ok (sends s to bytes)
 
 -- what a command does with what it speaks of
-unfoldable pub carried : Session → Files → Subject → Command → Result (Turn Session) Fault
+unfoldable pub carried : Session → Files → Subject → Command → Result (Effect Session) Fault
 carried s files subject (command.Read file name) = changes (after_read s files file name)
 carried s files subject (command.Write to) = reports s to (of_chosen s (λ repo. text repo.history))
 carried s files subject (command.Choose name) = changes (after_choose s name)
@@ -311,13 +311,13 @@ carried s files subject (command.Names to) = reports s to (of_chosen s (λ repo.
 carried s files subject (command.Summary to) = reports s to (of_chosen s (λ repo. summary_text repo.name repo.history))
 
 -- a command, of whose patterns one may be refused that the grammar reads
-unfoldable pub step : Option Denial → Session → Files → Command → Result (Turn Session) Fault
+unfoldable pub step : Option Denial → Session → Files → Command → Result (Effect Session) Fault
 step denial s files what = under denial (ready s what) >>= λ subject. carried s files subject what
 
 -- ---- one line
 
 -- the session is the same, and these lines are run next
-abbrev pub calling : Session → List Bytes → Turn Session
+abbrev pub calling : Session → List Bytes → Effect Session
 calling s lines = record { session = s; to = None; bytes = []; calls = lines }
 
 -- `define NAME BODY`
@@ -325,11 +325,11 @@ abbrev pub defining : Session → Bytes → List Bytes → Session
 defining s name body = record s { macros = with_macro name body s.macros }
 
 -- an order, inside so many macros: the body of one more is one deeper
-abbrev pub ordered : Option Denial → Session → Files → ℕ → Order → Result (Turn Session) Fault
+abbrev pub ordered : Option Denial → Session → Files → ℕ → Order → Result (Effect Session) Fault
 ordered denial s files depth (order.Step what) = step denial s files what
 ordered denial s files depth (order.Do call) = called s.macros call (depth + 1) >>= λ lines. Ok (calling s lines)
 
 -- one line that is run, inside so many macros: a definition, or its order, or why it is none
-unfoldable pub line_step : Option Denial → Session → Files → ℕ → ScriptLine → Result (Turn Session) Fault
+unfoldable pub line_step : Option Denial → Session → Files → ℕ → ScriptLine → Result (Effect Session) Fault
 line_step denial s files depth (Define name body) = Ok (quiet (defining s name body))
 line_step denial s files depth (Plain text) = order_of text >>= ordered denial s files depth

@@ -16,9 +16,9 @@ ghost use Rattle.script_reader.specs.declared.command.Command.{Command};
 ghost use Rattle.script_reader.specs.declared.edit.Edit.TheVariants as edit;
 ghost use Rattle.script_reader.specs.declared.edit.Edit.{Edit};
 ghost use Rattle.script_lines.specs.declared.script.ScriptLine.{ScriptLine};
-ghost use Rattle.squash_laws.specs.declared.policy.Lean.{Lean};
+ghost use Rattle.plain_model.specs.declared.policy.Lean.{Lean};
 ghost use Rattle.stream_grammar.specs.Limits.{stream_of};
-ghost use Rattle.squash_laws.specs.declared.policy.Push.TheVariants as push;
+ghost use Rattle.plain_model.specs.declared.policy.Push.TheVariants as push;
 ghost use Rattle.expunge_laws.specs.Matching.{Matches, matched_by};
 ghost use Rattle.history_machine.specs.Kept.{
   Each,
@@ -28,9 +28,17 @@ ghost use Rattle.history_machine.specs.Kept.{
   LosesPaths,
 };
 ghost use Rattle.history_machine.specs.Lawful.{IsLawful};
-ghost use Rattle.history_machine.specs.Machine.{Turn, turn_of};
+ghost use Rattle.history_machine.specs.Machine.{Effect, effect_of};
 ghost use Rattle.history_machine.specs.PathWords.{matches_of};
-ghost use Rattle.history_machine.specs.Sessions.{Repo, Session, chosen, line_step, remade, sends, step};
+ghost use Rattle.history_machine.specs.Sessions.{
+  Repo,
+  Session,
+  chosen,
+  line_step,
+  remade,
+  sends,
+  step,
+};
 ghost use Rattle.history_machine.specs.Several.{
   IsDivision,
   IsJoining,
@@ -61,19 +69,19 @@ use squash_laws::{a_push_forward_keeps_trees, a_squash_is_an_edit, nothing_is_ad
 /// A line that is refused leaves the session and the files as they were, one line is printed, and nothing is run in its place.
 pub fn a_refused_line_changes_nothing()
     ensures session { (s : Session) (line : ℕ) (fault : Fault) →
-        (turn_of s line (Err fault)).session ≡ s }
+        (effect_of s line (Err fault)).session ≡ s }
     ensures no_file { (s : Session) (line : ℕ) (fault : Fault) →
-        (turn_of s line (Err fault)).to ≡ None }
+        (effect_of s line (Err fault)).to ≡ None }
     ensures printed { (s : Session) (line : ℕ) (fault : Fault) →
-        (turn_of s line (Err fault)).bytes ≡ refusal line fault }
+        (effect_of s line (Err fault)).bytes ≡ refusal line fault }
     ensures calls { (s : Session) (line : ℕ) (fault : Fault) →
-        (turn_of s line (Err fault)).calls ≡ [] }
+        (effect_of s line (Err fault)).calls ≡ [] }
 {}
 
 /// A `write` is done where a repository is chosen. It sends the text of that history, and changes nothing else.
 pub fn a_write_sends_the_stream()
     ensures sent { (denial : Option Denial) (s : Session) (files : Files) (to : Option (List ℕ))
-        (t : Turn Session) → step denial s files (command.Write to) ≡ Ok t →
+        (t : Effect Session) → step denial s files (command.Write to) ≡ Ok t →
         (repo : Repo) × (chosen s ≡ Ok repo) × (t ≡ sends s to (text repo.history)) }
     ensures done { (denial : Option Denial) (s : Session) (files : Files) (to : Option (List ℕ))
         (repo : Repo) → chosen s ≡ Ok repo →
@@ -83,7 +91,7 @@ pub fn a_write_sends_the_stream()
 /// A `renumber` that is done leaves every loaded repository its name and the names in it, and each of its commits its id and
 /// its tree.
 pub fn a_renumber_keeps_trees()
-    ensures { (denial : Option Denial) (s : Session) (files : Files) (t : Turn Session) →
+    ensures { (denial : Option Denial) (s : Session) (files : Files) (t : Effect Session) →
         step denial s files command.Renumber ≡ Ok t → Each KeepsTrees s.repos t.session.repos }
 {
     ids_stay();
@@ -93,7 +101,7 @@ pub fn a_renumber_keeps_trees()
 /// A squash that pushes forward leaves every loaded repository its name, and each commit that is still there its tree.
 pub fn a_squash_forward_keeps_trees()
     ensures { (denial : Option Denial) (s : Session) (files : Files) (selection : Option (List ℕ))
-        (tags : Lean) (t : Turn Session) →
+        (tags : Lean) (t : Effect Session) →
         step denial s files (command.Edit selection (edit.Squash (record {
           push = push.Forward;
           tags = tags;
@@ -107,17 +115,17 @@ pub fn a_squash_forward_keeps_trees()
 /// with its tree.
 pub fn new_parents_keep_trees()
     ensures reparent { (denial : Option Denial) (s : Session) (files : Files)
-        (selection : Option (List ℕ)) (use_order : Bool) (t : Turn Session) →
+        (selection : Option (List ℕ)) (use_order : Bool) (t : Effect Session) →
         step denial s files (command.Edit selection (edit.Reparent (record {
           use_order = use_order;
           rebase = false;
         }))) ≡ Ok t → IsLawful s → Each KeepsEveryTree s.repos t.session.repos }
     ensures merge { (denial : Option Denial) (s : Session) (files : Files)
-        (selection : Option (List ℕ)) (t : Turn Session) →
+        (selection : Option (List ℕ)) (t : Effect Session) →
         step denial s files (command.Edit selection edit.Merge) ≡ Ok t → IsLawful s →
         Each KeepsEveryTree s.repos t.session.repos }
     ensures unmerge { (denial : Option Denial) (s : Session) (files : Files)
-        (selection : Option (List ℕ)) (t : Turn Session) →
+        (selection : Option (List ℕ)) (t : Effect Session) →
         step denial s files (command.Edit selection edit.Unmerge) ≡ Ok t → IsLawful s →
         Each KeepsEveryTree s.repos t.session.repos }
 {
@@ -131,7 +139,7 @@ pub fn new_parents_keep_trees()
 /// A coalesce leaves every loaded repository its name, and each commit that is still there its tree.
 pub fn a_coalesce_keeps_trees()
     ensures { (denial : Option Denial) (s : Session) (files : Files)
-        (selection : Option (List ℕ)) (seconds : ℕ) (t : Turn Session) →
+        (selection : Option (List ℕ)) (seconds : ℕ) (t : Effect Session) →
         step denial s files (command.Edit selection (edit.Coalesce seconds)) ≡ Ok t →
         IsLawful s → Each KeepsTreesOfRest s.repos t.session.repos }
 {
@@ -142,7 +150,7 @@ pub fn a_coalesce_keeps_trees()
 /// A simplify leaves every loaded repository its name, and all its commits, each with its tree.
 pub fn a_simplify_keeps_trees()
     ensures { (denial : Option Denial) (s : Session) (files : Files)
-        (selection : Option (List ℕ)) (t : Turn Session) →
+        (selection : Option (List ℕ)) (t : Effect Session) →
         step denial s files (command.Edit selection edit.Simplify) ≡ Ok t → IsLawful s →
         Each KeepsEveryTree s.repos t.session.repos }
 {
@@ -155,7 +163,7 @@ pub fn a_simplify_keeps_trees()
 /// there has the tree that it had, without them. All else stays.
 pub fn an_expunge_takes_paths_out_of_trees()
     ensures { (denial : Option Denial) (s : Session) (files : Files) (words : List (List ℕ))
-        (t : Turn Session) → step denial s files (command.Expunge words) ≡ Ok t → IsLawful s →
+        (t : Effect Session) → step denial s files (command.Expunge words) ≡ Ok t → IsLawful s →
         (matchers : List Matches) × ((matches_of words).value ≡ Ok matchers)
         × LosesPaths (matched_by matchers) s t.session }
 {
@@ -197,10 +205,10 @@ pub fn every_edit_is_one()
 /// can spell it. So it does by every line.
 pub fn a_step_keeps_it()
     ensures command { (denial : Option Denial) (s : Session) (files : Files) (what : Command)
-        (t : Turn Session) → step denial s files what ≡ Ok t → IsLawful s →
+        (t : Effect Session) → step denial s files what ≡ Ok t → IsLawful s →
         IsSpelledCommand what → IsLawful t.session }
     ensures line { (denial : Option Denial) (s : Session) (files : Files) (depth : ℕ)
-        (what : ScriptLine) (t : Turn Session) → line_step denial s files depth what ≡ Ok t →
+        (what : ScriptLine) (t : Effect Session) → line_step denial s files depth what ≡ Ok t →
         IsLawful s → IsLawful t.session }
 {
     what_is_read_is_lawful();

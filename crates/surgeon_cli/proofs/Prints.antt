@@ -29,7 +29,7 @@ session_aside run status.BadScript s s' w now h = h.1
 
 -- a run that hasn't begun
 pub not_begun : {X : Type 0} (run : Run X) (r : Status) (w : World) → IsBreak r → EndsAs run r w w
-not_begun run r w b = ends_broken run r w w b (zero, breaks_here run.turns w)
+not_begun run r w b = ends_broken run r w w b (zero, breaks_here run.effects w)
 
 -- the world before a run that hasn't begun is that after it
 pub not_begun_worlds : {X : Type 0} (run : World → Run X) (r : Status) (v : Option World) → IsBreak r → IfSome v (λ w. IfSome v (λ now. EndsAs (run w) r w now))

@@ -18,7 +18,7 @@ use Rattle.script_reader.specs.declared.command.Command.TheVariants as command
 use Rattle.script_lines.specs.declared.script.ScriptLine.{ScriptLine}
 use Rattle.script_lines.specs.declared.script.ScriptLine.TheVariants.{Define, Plain}
 use Rattle.history_machine.specs.Sessions.{Repo, Session, chosen}
-use Rattle.history_machine.specs.Machine.{Completes, EndsAs, Turn}
+use Rattle.history_machine.specs.Machine.{Completes, EndsAs, Effect}
 use Rattle.history_machine.specs.Whole.{Denials, run}
 use Rattle.history_machine.specs.Words.{asked}
 use Rattle.surgeon_session.specs.Calls.{NoFaults, world}
@@ -49,28 +49,28 @@ AreShown repos = AllByRecursion (λ r. IsShownBy (text r.history) r.history) rep
 
 -- that is so after each command of the run, whether it is done or refused, whatever is refused of its patterns
 abbrev pub ShowsHistories : List Bytes → Files → Type 0
-ShowsHistories words files = (denials : Denials) → AllByRecursion (λ t. AreShown t.session.repos) (run denials words files).turns
+ShowsHistories words files = (denials : Denials) → AllByRecursion (λ t. AreShown t.session.repos) (run denials words files).effects
 
 -- Where a repository is chosen, a `write` line sends the text of its history to the file that it names, or prints it; and
 -- by that text the history is shown.
-abbrev pub IsShownWrite : Result Order Fault → Turn Session → Type 0
+abbrev pub IsShownWrite : Result Order Fault → Effect Session → Type 0
 IsShownWrite (Ok (order.Step (command.Write to))) t =
     (repo : Repo) → chosen t.session ≡ Ok repo → (t.to ≡ to) × (t.bytes ≡ text repo.history) × IsShownBy t.bytes repo.history
 IsShownWrite other t = Unit {0}
 
 -- a definition writes nothing
-abbrev pub IsShownLine : ScriptLine → Turn Session → Type 0
+abbrev pub IsShownLine : ScriptLine → Effect Session → Type 0
 IsShownLine (Plain line) t = IsShownWrite (order_of line) t
 IsShownLine (Define name body) t = Unit {0}
 
 -- that is so of each line that was carried out
-abbrev pub AreShownWrites : List ScriptLine → List (Turn Session) → Type 0
-AreShownWrites (what ∷ ran) (t ∷ turns) = IsShownLine what t × AreShownWrites ran turns
-AreShownWrites ran turns = Unit {0}
+abbrev pub AreShownWrites : List ScriptLine → List (Effect Session) → Type 0
+AreShownWrites (what ∷ ran) (t ∷ effects) = IsShownLine what t × AreShownWrites ran effects
+AreShownWrites ran effects = Unit {0}
 
 -- and so of each line that the run carries out, those of macros included
 abbrev pub ShowsWrites : List Bytes → Files → Type 0
-ShowsWrites words files = (denials : Denials) → AreShownWrites (run denials words files).ran (run denials words files).turns
+ShowsWrites words files = (denials : Denials) → AreShownWrites (run denials words files).ran (run denials words files).effects
 
 -- how a run ends that tells how the program is called: so, or a fault of printing or out of memory broke it off
 abbrev pub IsUsageEnd : Status → Type 0

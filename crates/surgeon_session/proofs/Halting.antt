@@ -13,7 +13,7 @@ use Rattle.surgeon_store.specs.WholeFiles.{ReturnsOrBreaks}
 use Rattle.surgeon_store.specs.declared.whole_files.ReadEnd.{ReadEnd}
 use Rattle.surgeon_store.specs.declared.whole_files.ReadEnd.TheVariants as read
 use Rattle.script_lines.specs.Answering.{◌>>=◌}
-use Rattle.history_machine.specs.Machine.{World, Turn}
+use Rattle.history_machine.specs.Machine.{World, Effect}
 use Rattle.history_machine.specs.Sessions.{Session, after_read, changes}
 use Rattle.surgeon_session.specs.Calls.{Outcome, world, world_of}
 use Rattle.surgeon_session.specs.Commands.{Agrees, CarriesOut, PartOf, Steps, no_calls}
@@ -41,11 +41,11 @@ halts_after halt.Memory r f is = tt
 
 -- ---- commands
 
-part_none : {X : Type 0} (w : World) (specified : Result (Turn X) Fault) → PartOf w specified w
+part_none : {X : Type 0} (w : World) (specified : Result (Effect X) Fault) → PartOf w specified w
 part_none w (Ok t) = no_part t.to t.bytes w
 part_none w (Err fault) = refl
 
-module _ {X Y : Type 0} (calls : Y → List Bytes) (s : StoreState) (k : SinkState) (old new : X) (specified : Files → Result (Turn X) Fault) (same : new ≡ old) where
+module _ {X Y : Type 0} (calls : Y → List Bytes) (s : StoreState) (k : SinkState) (old new : X) (specified : Files → Result (Effect X) Fault) (same : new ≡ old) where
   by_halt : (h : Halt) → ((files : Files) → Halts h (specified files))
       → Outcome (λ w now. Steps calls (Err (of_halt h)) old w (specified w.files) new now) s k (status_of {X = Y} (Err (of_halt h))) s k
   by_halt (halt.Refused fault) halts = record {
@@ -79,7 +79,7 @@ module _ {X Y : Type 0} (calls : Y → List Bytes) (s : StoreState) (k : SinkSta
   halted_keeps (Err e) = same
 
 -- a command or a line that meets nothing outside
-pub halted_alone : {Y : Type 0} (calls : Y → List Bytes) (s : StoreState) (k : SinkState) (old new : Session) (reads_no_file : Type 0) (specified : Files → Result (Turn Session) Fault) (h : Halt)
+pub halted_alone : {Y : Type 0} (calls : Y → List Bytes) (s : StoreState) (k : SinkState) (old new : Session) (reads_no_file : Type 0) (specified : Files → Result (Effect Session) Fault) (h : Halt)
     (r : Result Y Halted) → IsErrAnd r (λ e. e ≡ of_halt h) → ((files : Files) → Halts h (specified files)) → new ≡ old
     → CarriesOut calls s k old reads_no_file specified r new s k
 halted_alone calls s k old new reads_no_file specified h r is halts same = record {

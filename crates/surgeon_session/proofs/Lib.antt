@@ -3,8 +3,10 @@ mod Pieces
 mod Halting
 mod Ids
 mod PathWords
+mod Places
 mod Changing
 mod Denying
+mod ListChanges
 mod Readying
 pub mod Rounds
 pub mod SessionRounds

@@ -15,11 +15,11 @@ use Rattle.script_reader.specs.declared.command.Command.TheVariants as command
 use Rattle.script_reader.specs.declared.command.Order.{Order}
 use Rattle.script_lines.specs.declared.script.ScriptLine.TheVariants.{Plain}
 use Rattle.surgeon_store.specs.Outside.{StoreState, SinkState}
-use Rattle.history_machine.specs.Machine.{World, Turn, PartSent, sent, turn_of}
+use Rattle.history_machine.specs.Machine.{World, Effect, PartSent, sent, effect_of}
 use Rattle.history_machine.specs.Sessions.{Session, Subject, carried, line_step, of_events, ordered, ready, step}
 use Rattle.history_machine.proofs.Steps.{nothing_built}
 use Rattle.surgeon_session.specs.Calls.{world}
-use Rattle.surgeon_session.specs.Commands.{Carries, CarriesOut, Leaves, LineReadsNoFile, OrderReadsNoFile, PartOf, PartTurned, ReadsNoFile, Steps, no_calls}
+use Rattle.surgeon_session.specs.Commands.{Carries, CarriesOut, Leaves, LineReadsNoFile, OrderReadsNoFile, PartOf, PartOfLine, ReadsNoFile, Steps, no_calls}
 use Rattle.surgeon_session.specs.Denials.{Under}
 use Rattle.surgeon_session.specs.Ends.{of_halt}
 use Rattle.surgeon_session.specs.Pieces.{StopsNear, bytes_read, refused}
@@ -38,18 +38,18 @@ quiet_world : (w : World) → w ≡ sent None [] w
 quiet_world w = λ i. record { files = w.files; printed = sym (append-nil w.printed) i }
 
 -- what is done without a word to the outside
-pub done_alone : {Y : Type 0} (calls : Y → List Bytes) (s : StoreState) (k : SinkState) (old new : Session) (reads_no_file : Type 0) (specified : Files → Result (Turn Session) Fault) (y : Y)
+pub done_alone : {Y : Type 0} (calls : Y → List Bytes) (s : StoreState) (k : SinkState) (old new : Session) (reads_no_file : Type 0) (specified : Files → Result (Effect Session) Fault) (y : Y)
     → ((files : Files) → specified files ≡ Ok (record { session = new; to = None; bytes = []; calls = calls y })) → CarriesOut calls s k old reads_no_file specified (Ok y) new s k
 done_alone calls s k old new reads_no_file specified y is =
-    let done : Turn Session = record { session = new; to = None; bytes = []; calls = calls y } in
+    let done : Effect Session = record { session = new; to = None; bytes = []; calls = calls y } in
     record {
       outcome = record {
         prescribed = same_world (λ w now. Steps calls (Ok y) old w (specified w.files) new now) (world s k)
-            (λ w. subst (λ (r : Result (Turn Session) Fault). Carries (calls y) w r new w) (sym (is w.files)) (refl, quiet_world w, refl));
+            (λ w. subst (λ (r : Result (Effect Session) Fault). Carries (calls y) w r new w) (sym (is w.files)) (refl, quiet_world w, refl));
         caused = tt;
         later = same_later s k;
       };
-      exact = λ _ files. subst (λ (r : Result (Turn Session) Fault). Leaves r new) (sym (is files)) refl;
+      exact = λ _ files. subst (λ (r : Result (Effect Session) Fault). Leaves r new) (sym (is files)) refl;
       kept = tt;
     }
 
@@ -83,7 +83,7 @@ module _ (before now : ℕ) where
       → Under before now (λ denial. CarriesOut no_calls s k old (ReadsNoFile what) (λ files. step denial old files what) r new s' k')
   is_ready s s' k k' old mid new what subject r is same h =
       undenied before now (λ denial. CarriesOut no_calls s k old (ReadsNoFile what) (λ files. step denial old files what) r new s' k')
-      (subst (λ (f : Files → Result (Turn Session) Fault). CarriesOut no_calls s k old (ReadsNoFile what) f r new s' k') (λ i. λ files. with_subject old files what subject is i)
+      (subst (λ (f : Files → Result (Effect Session) Fault). CarriesOut no_calls s k old (ReadsNoFile what) f r new s' k') (λ i. λ files. with_subject old files what subject is i)
       (subst (λ (x : Session). CarriesOut no_calls s k x (ReadsNoFile what) (λ files. carried x files subject what) r new s' k') same h))
 
   never_both : {A : Type 0} {x : A} {why : Fault} → Ok x ≡ Err why → ⊥
@@ -122,7 +122,7 @@ module _ (before now : ℕ) where
 -- ---- the order of a line
 
 -- a command that isn't done, as a line: nothing is run next
-pub as_line : (s s' : StoreState) (k k' : SinkState) (old new : Session) (reads_no_file : Type 0) (specified : Files → Result (Turn Session) Fault) (e : Halted)
+pub as_line : (s s' : StoreState) (k k' : SinkState) (old new : Session) (reads_no_file : Type 0) (specified : Files → Result (Effect Session) Fault) (e : Halted)
     → CarriesOut {Y = Unit {0}} no_calls s k old reads_no_file specified (Err e) new s' k'
     → CarriesOut {Y = List Bytes} (λ calls. calls) s k old reads_no_file specified (Err e) new s' k'
 as_line s s' k k' old new reads_no_file specified (halted.Refused why) h =
@@ -135,7 +135,7 @@ as_line s s' k k' old new reads_no_file specified halted.Memory h =
     record { outcome = record { prescribed = h.outcome.prescribed; caused = h.outcome.caused; later = h.outcome.later }; exact = h.exact; kept = h.kept }
 
 -- a command that is done, as a line
-pub as_done_line : (s s' : StoreState) (k k' : SinkState) (old new : Session) (reads_no_file : Type 0) (specified : Files → Result (Turn Session) Fault) (calls : List Bytes) → calls ≡ []
+pub as_done_line : (s s' : StoreState) (k k' : SinkState) (old new : Session) (reads_no_file : Type 0) (specified : Files → Result (Effect Session) Fault) (calls : List Bytes) → calls ≡ []
     → CarriesOut {Y = Unit {0}} no_calls s k old reads_no_file specified (Ok tt) new s' k'
     → CarriesOut {Y = List Bytes} (λ calls. calls) s k old reads_no_file specified (Ok calls) new s' k'
 as_done_line s s' k k' old new reads_no_file specified calls none h =
@@ -155,18 +155,18 @@ of_order calls before now s s' k k' old new depth text order r is h = (
   h.0,
   h.1,
   subst (λ (o : Result Order Fault). CarriesOut calls s k old (OrderReadsNoFile o) (λ files. line_step h.0 old files depth (Plain text)) r new s' k') (sym is)
-      (subst (λ (f : Files → Result (Turn Session) Fault). CarriesOut calls s k old (OrderReadsNoFile (Ok order)) f r new s' k') (λ i. λ files. has_order h.0 old files depth text order is i) h.2),
+      (subst (λ (f : Files → Result (Effect Session) Fault). CarriesOut calls s k old (OrderReadsNoFile (Ok order)) f r new s' k') (λ i. λ files. has_order h.0 old files depth text order is i) h.2),
 )
 
 -- ---- a line that is broken off
 
-broken_part : {X : Type 0} (s : X) (w now : World) (line : ℕ) (specified : Result (Turn X) Fault) → PartOf w specified now
-    → PartSent (turn_of s line specified).to (turn_of s line specified).bytes w now
+broken_part : {X : Type 0} (s : X) (w now : World) (line : ℕ) (specified : Result (Effect X) Fault) → PartOf w specified now
+    → PartSent (effect_of s line specified).to (effect_of s line specified).bytes w now
 broken_part s w now line (Ok t) h = h
 broken_part s w now line (Err why) h = subst (PartSent None (refusal line why) w) (sym h) (no_part None (refusal line why) w)
 
 -- a part of what it sends is sent, or of the line of its refusal
-pub broken_turn : {X : Type 0} (old new : X) (line : ℕ) (specified : Files → Result (Turn X) Fault) (v v' : Option World)
+pub broken_turn : {X : Type 0} (old new : X) (line : ℕ) (specified : Files → Result (Effect X) Fault) (v v' : Option World)
     → IfSome v (λ w. IfSome v' (λ now. (new ≡ old) × PartOf w (specified w.files) now))
-    → IfSome v (λ w. IfSome v' (λ now. PartTurned old w line (specified w.files) new now))
+    → IfSome v (λ w. IfSome v' (λ now. PartOfLine old w line (specified w.files) new now))
 broken_turn old new line specified v v' h = mapped v v' (λ w now part. (part.0, broken_part old w now line (specified w.files) part.1)) h

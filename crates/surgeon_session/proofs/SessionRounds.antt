@@ -3,7 +3,7 @@ use Rattle.std.proofs.Common.{◌≡◌, ℕ, zero, suc, ◌+◌, ◌≤◌, Lis
 use Rattle.std.specs.Prelude.{◌&&◌, ◌||◌, not, map, if◌then◌else◌}
 use Rattle.plain_model.specs.Files.{Files}
 use Rattle.plain_model.specs.Paths.{Bytes}
-use Rattle.history_machine.specs.Machine.{World, Turn, Run, after, BreaksAfter, PartSent, SessionBreaks, SessionEndsAs, called_by, ended, passes_limit, turn_of, goes_on, status_after, with_first, run_on, files_after}
+use Rattle.history_machine.specs.Machine.{World, Effect, Run, after, BreaksAfter, PartSent, SessionBreaks, SessionEndsAs, called_by, ended, passes_limit, effect_of, goes_on, status_after, with_first, run_on, files_after}
 use Rattle.history_machine.specs.declared.waiting.Waiting.{Waiting}
 use Rattle.plain_model.specs.declared.fault.Fault.{Fault}
 use Rattle.plain_model.specs.declared.status.Status.{Status}
@@ -13,15 +13,15 @@ use Rattle.script_lines.specs.declared.script.ScriptLine.{ScriptLine}
 use Rattle.history_machine.specs.Whole.{waiting_of}
 use Rattle.history_machine.proofs.Runs.{IsBreak}
 use Rattle.surgeon_session.specs.Calls.{Caused}
-use Rattle.surgeon_session.specs.Commands.{Carries, Refuses, status_of_turn}
-use Rattle.surgeon_session.specs.declared.turned.Broken.{Broken}
-use Rattle.surgeon_session.specs.declared.turned.Broken.TheVariants as broken
-use Rattle.surgeon_session.specs.declared.turned.Turned.TheVariants as turned
+use Rattle.surgeon_session.specs.Commands.{Carries, Refuses, status_of_line}
+use Rattle.surgeon_session.specs.declared.line_end.Broken.{Broken}
+use Rattle.surgeon_session.specs.declared.line_end.Broken.TheVariants as broken
+use Rattle.surgeon_session.specs.declared.line_end.LineEnd.TheVariants as line_end
 use Rattle.surgeon_session.specs.Waits.{AreWithin, EndsPast}
 use Rattle.surgeon_session.proofs.Rounds.{no_part}
 use Rattle.surgeon_store.specs.Outside.{StoreState, SinkState}
 
-session_first : {X : Type 0} (what : ScriptLine) (t : Turn X) (run : Run X) (r : Status) (s s' : X) (w now : World)
+session_first : {X : Type 0} (what : ScriptLine) (t : Effect X) (run : Run X) (r : Status) (s s' : X) (w now : World)
     → SessionEndsAs run r t.session (after w t) s' now → SessionEndsAs (with_first what t run) r s w s' now
 session_first what t run status.SourceFault s s' w now h = (suc h.0, h.1, h.2)
 session_first what t run status.SinkFault s s' w now h = (suc h.0, h.1, h.2)
@@ -75,7 +75,7 @@ caused_quiet s s' k k' status.NoScript q = absurd q
 caused_quiet s s' k k' status.BadScript q = absurd q
 
 -- nothing of what comes next is sent
-pub breaks_here : {X : Type 0} (ts : List (Turn X)) (w : World) → BreaksAfter zero ts w w
+pub breaks_here : {X : Type 0} (ts : List (Effect X)) (w : World) → BreaksAfter zero ts w w
 breaks_here [] w = refl
 breaks_here (t ∷ ts) w = no_part t.to t.bytes w
 
@@ -86,17 +86,17 @@ off_refused true true is_last same stop = refl
 off_refused true false true same stop = absurd cc
 off_refused true false false same stop = absurd cc
 
--- A run from here on, of which a first line is taken out that this befalls, where so many more may be run.
-module _ {X C : Type 0} (step : Option C → X → Files → ℕ → ScriptLine → Result (Turn X) Fault) (keep : Bool) (left : ℕ) (here : Option C) (more : List (Option C)) (so_far : Status) (s s' : X) (w now : World)
+-- A run from here on, of which a first line is taken out to which this comes, where so many more may be run.
+module _ {X C : Type 0} (step : Option C → X → Files → ℕ → ScriptLine → Result (Effect X) Fault) (keep : Bool) (left : ℕ) (here : Option C) (more : List (Option C)) (so_far : Status) (s s' : X) (w now : World)
     (next : Waiting) (lines : List Waiting)
   where
-    abbrev does : Result (Turn X) Fault
+    abbrev does : Result (Effect X) Fault
     does = step here s w.files next.depth next.what
 
     -- the run, by what the first line does
-    abbrev from : Result (Turn X) Fault → Run X
+    abbrev from : Result (Effect X) Fault → Run X
     from specified =
-        let t = turn_of s next.line specified in
+        let t = effect_of s next.line specified in
         with_first next.what t (
         if goes_on keep specified
         then run_on step keep left more (status_after so_far specified) t.session (files_after t.to t.bytes w.files) (called_by next.line (next.depth + 1) t.calls ++ lines)
@@ -112,7 +112,7 @@ module _ {X C : Type 0} (step : Option C → X → Files → ℕ → ScriptLine 
         → SessionEndsAs whole r s w s'' last
     done_goes_on calls carried r s'' last h = at does refl carried
       where
-        at : (specified : Result (Turn X) Fault) → does ≡ specified → Carries calls w specified s' now → SessionEndsAs whole r s w s'' last
+        at : (specified : Result (Effect X) Fault) → does ≡ specified → Carries calls w specified s' now → SessionEndsAs whole r s w s'' last
         at (Ok t) e c =
             let rest : List Bytes → List Waiting = λ texts. called_by next.line (next.depth + 1) texts ++ lines in
             subst (λ specified. SessionEndsAs (from specified) r s w s'' last) (sym e)
@@ -135,10 +135,10 @@ module _ {X C : Type 0} (step : Option C → X → Files → ℕ → ScriptLine 
         on false true limit g e = absurd cc
         on false false limit g e = absurd cc
 
-        at : (specified : Result (Turn X) Fault) → does ≡ specified → Refuses w next.line is_last specified now → SessionEndsAs whole r s w s'' last
+        at : (specified : Result (Effect X) Fault) → does ≡ specified → Refuses w next.line is_last specified now → SessionEndsAs whole r s w s'' last
         at (Ok t) e c = absurd c
         at (Err fault) e c =
-            let t = turn_of s next.line (Err fault) in
+            let t = effect_of s next.line (Err fault) in
             subst (λ specified. SessionEndsAs (from specified) r s w s'' last) (sym e)
             (subst (λ b. SessionEndsAs (with_first next.what t (if b then run_on step keep left more status.Refused s w.files lines else ended status.Refused)) r s w s'' last) (sym (on keep is_last (passes_limit fault) goes c.0))
             (session_first next.what t (run_on step keep left more status.Refused s w.files lines) r s s'' w last
@@ -150,16 +150,16 @@ module _ {X C : Type 0} (step : Option C → X → Files → ℕ → ScriptLine 
         → SessionEndsAs whole status.Refused s w s' now
     refused_stops is_last stop refused = at does refl refused.1
       where
-        at : (specified : Result (Turn X) Fault) → does ≡ specified → Refuses w next.line is_last specified now → SessionEndsAs whole status.Refused s w s' now
+        at : (specified : Result (Effect X) Fault) → does ≡ specified → Refuses w next.line is_last specified now → SessionEndsAs whole status.Refused s w s' now
         at (Ok t) e c = absurd c
         at (Err fault) e c =
-            let t = turn_of s next.line (Err fault) in
+            let t = effect_of s next.line (Err fault) in
             subst (λ specified. SessionEndsAs (from specified) status.Refused s w s' now) (sym e)
             (subst (λ b. SessionEndsAs (with_first next.what t (if b then run_on step keep left more status.Refused s w.files lines else ended status.Refused)) status.Refused s w s' now) (sym (off_refused keep (passes_limit fault) is_last c.0 stop))
             (refused.0, (refl, c.1)))
 
     -- it breaks off in the line
-    pub line_breaks : (r : Status) → IsBreak r → (s' ≡ s) × PartSent (turn_of s next.line does).to (turn_of s next.line does).bytes w now
+    pub line_breaks : (r : Status) → IsBreak r → (s' ≡ s) × PartSent (effect_of s next.line does).to (effect_of s next.line does).bytes w now
         → SessionEndsAs whole r s w s' now
     line_breaks r b h = session_broken whole r s s' w now b (zero, h.0, h.1)
 
@@ -167,13 +167,13 @@ module _ {X C : Type 0} (step : Option C → X → Files → ℕ → ScriptLine 
     pub memory_after : (calls : List Bytes) → Carries calls w does s' now → SessionEndsAs whole status.Memory s w s' now
     memory_after calls carried = at does refl carried
       where
-        at : (specified : Result (Turn X) Fault) → does ≡ specified → Carries calls w specified s' now → SessionEndsAs whole status.Memory s w s' now
+        at : (specified : Result (Effect X) Fault) → does ≡ specified → Carries calls w specified s' now → SessionEndsAs whole status.Memory s w s' now
         at (Ok t) e c =
             subst (λ specified. SessionEndsAs (from specified) status.Memory s w s' now) (sym e) (
               suc zero,
               c.0,
-              subst (BreaksAfter zero (run_on step keep left more so_far t.session (after w t).files (called_by next.line (next.depth + 1) t.calls ++ lines)).turns (after w t)) (sym c.1)
-                  (breaks_here (run_on step keep left more so_far t.session (after w t).files (called_by next.line (next.depth + 1) t.calls ++ lines)).turns (after w t)),
+              subst (BreaksAfter zero (run_on step keep left more so_far t.session (after w t).files (called_by next.line (next.depth + 1) t.calls ++ lines)).effects (after w t)) (sym c.1)
+                  (breaks_here (run_on step keep left more so_far t.session (after w t).files (called_by next.line (next.depth + 1) t.calls ++ lines)).effects (after w t)),
             )
         at (Err fault) e c = absurd c
 
@@ -189,7 +189,7 @@ module _ {X C : Type 0} (step : Option C → X → Files → ℕ → ScriptLine 
     past_ends status.BadScript h = absurd h
 
 -- what breaks a line off breaks the run off
-pub breaks_run : (how : Broken) → IsBreak (status_of_turn (turned.Broken how))
+pub breaks_run : (how : Broken) → IsBreak (status_of_line (line_end.Broken how))
 breaks_run broken.SourceFault = tt
 breaks_run broken.SinkFault = tt
 breaks_run broken.Memory = tt

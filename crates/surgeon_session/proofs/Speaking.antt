@@ -1,5 +1,5 @@
 -- The events of which a command speaks are of the chosen repository, each once.
-use Rattle.std.proofs.Common.{◌≡◌, ℕ, List, Some, Result, Ok, Err, subst}
+use Rattle.std.proofs.Common.{◌≡◌, ℕ, List, Result, Ok, Err, subst}
 use Rattle.std.specs.Prelude.{IfOk}
 use Rattle.std.specs.Result.{IsErrAnd}
 use Rattle.plain_model.specs.Paths.{Bytes}
@@ -13,8 +13,9 @@ use Rattle.selection_eval.specs.Given.{GivesLive, GivesOnce}
 use Rattle.selection_parser.specs.Reading.{selection_at}
 use Rattle.expunge_laws.specs.Matching.{Matches}
 use Rattle.history_machine.specs.PathWords.{matches_of}
-use Rattle.history_machine.specs.Sessions.{Repo, Session, Subject, chosen, find_repo, in_scope, of_events, of_paths, said_paths, selected, stands_for}
-use Rattle.surgeon_session.specs.Entries.{AreLiveIn, Loaded, found_repo, repo_under, selected_in}
+use Rattle.script_reader.specs.Macros.{Macro}
+use Rattle.history_machine.specs.Sessions.{Repo, Subject, chosen, in_scope, of_events, of_paths, said_paths, selected, stands_for}
+use Rattle.surgeon_session.specs.LoadLists.{LoadList, chosen_in, selected_in, session_of}
 
 -- ---- what a selection stands for
 
@@ -29,31 +30,21 @@ module _ (before now : ℕ) (judged : Judged Ids) where
 
 -- ---- what is refused
 
-module _ (before now : ℕ) (s : Session) (ended : Halt) (r : Result Subject Halt) (is : IsErrAnd r (λ e. e ≡ ended)) where
+module _ (before now : ℕ) (list : LoadList) (macros : List Macro) (ended : Halt) (r : Result Subject Halt) (is : IsErrAnd r (λ e. e ≡ ended)) where
   -- a selection
-  pub events_refused : (text : Bytes) → Judges {X = Ids} (λ ids. ids) before now (Err ended) (selected_in text s) → Judges {X = Subject} (λ subject. subject) before now r (in_scope s (selected text))
+  pub events_refused : (text : Bytes) → Judges {X = Ids} (λ ids. ids) before now (Err ended) (selected_in text list)
+      → Judges {X = Subject} (λ subject. subject) before now r (in_scope (session_of list macros) (selected text))
+  unfolding chosen
   events_refused text h =
-      passed_on (λ subject. subject) before now ended r (in_scope s (selected text)) is
+      passed_on (λ subject. subject) before now ended r (in_scope (session_of list macros) (selected text)) is
       (subst (Judges {X = Subject} (λ subject. subject) before now (Err ended))
-      (one_by_one (plainly (chosen s)) (λ repo. stands_for repo (selection_at text)) (λ ids. plainly (Ok (of_events ids))))
-      (stopped (λ ids. ids) (λ subject. subject) before now ended (selected_in text s) (λ ids. plainly (Ok (of_events ids))) h))
+      (one_by_one (plainly (chosen_in list)) (λ repo. stands_for repo (selection_at text)) (λ ids. plainly (Ok (of_events ids))))
+      (stopped (λ ids. ids) (λ subject. subject) before now ended (selected_in text list) (λ ids. plainly (Ok (of_events ids))) h))
 
   -- a word of an expunge
-  pub paths_refused : (repo : Repo) (words : List Bytes) → chosen s ≡ Ok repo → Judges {X = List Matches} (λ matchers. matchers) before now (Err ended) (matches_of words)
-      → Judges {X = Subject} (λ subject. subject) before now r (in_scope s (said_paths words))
+  pub paths_refused : (repo : Repo) (words : List Bytes) → chosen_in list ≡ Ok repo → Judges {X = List Matches} (λ matchers. matchers) before now (Err ended) (matches_of words)
+      → Judges {X = Subject} (λ subject. subject) before now r (in_scope (session_of list macros) (said_paths words))
+  unfolding chosen
   paths_refused repo words chosen_is h =
-      passed_on (λ subject. subject) before now ended r (in_scope s (said_paths words)) is
+      passed_on (λ subject. subject) before now ended r (in_scope (session_of list macros) (said_paths words)) is
       (rw chosen_is (stopped (λ matchers. matchers) (λ subject. subject) before now ended (matches_of words) (λ matchers. plainly (Ok (of_paths matchers))) h))
-
--- ---- the repository of a name
-
--- events of what is loaded under it
-pub live_under : (name : Bytes) (repos : List Repo) (old : Loaded) (ids : Ids) → find_repo name repos ≡ Some (repo_under name old) → AreLive old.history ids → AreLiveIn (found_repo name repos) ids
-live_under name repos old ids found lives = rw found lives
-
-pub of_loaded : (name : Bytes) (repos : List Repo) (old : Loaded) (ids : Ids) → find_repo name repos ≡ Some (repo_under name old) → AreLiveIn (found_repo name repos) ids → AreLive old.history ids
-of_loaded name repos old ids found lives = rw found at lives
-
-pub all_under : (name : Bytes) (repos : List Repo) (old : Loaded) (r : Result Ids Halt) → find_repo name repos ≡ Some (repo_under name old) → IfOk r (AreLive old.history) → IfOk r (AreLiveIn (found_repo name repos))
-all_under name repos old (Ok ids) found lives = live_under name repos old ids found lives
-all_under name repos old (Err why) found lives = tt

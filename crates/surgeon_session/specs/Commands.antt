@@ -14,15 +14,15 @@ use Rattle.script_lines.specs.declared.script.ScriptLine.{ScriptLine}
 use Rattle.script_lines.specs.declared.script.ScriptLine.TheVariants.{Define, Plain}
 use Rattle.script_reader.specs.Commands.{order_of}
 use Rattle.surgeon_store.specs.Outside.{StoreState, SinkState}
-use Rattle.history_machine.specs.Machine.{World, Turn, PartSent, after, passes_limit, sent, turn_of}
+use Rattle.history_machine.specs.Machine.{World, Effect, PartSent, after, passes_limit, sent, effect_of}
 use Rattle.history_machine.specs.Sessions.{Session}
 use Rattle.surgeon_session.specs.Calls.{Outcome}
 use Rattle.surgeon_session.specs.Ends.{status_of}
 use Rattle.surgeon_session.specs.declared.halted.Halted.{Halted}
 use Rattle.surgeon_session.specs.declared.halted.Halted.TheVariants as halted
-use Rattle.surgeon_session.specs.declared.turned.Broken.TheVariants as broken
-use Rattle.surgeon_session.specs.declared.turned.Turned.{Turned}
-use Rattle.surgeon_session.specs.declared.turned.Turned.TheVariants as turned
+use Rattle.surgeon_session.specs.declared.line_end.Broken.TheVariants as broken
+use Rattle.surgeon_session.specs.declared.line_end.LineEnd.{LineEnd}
+use Rattle.surgeon_session.specs.declared.line_end.LineEnd.TheVariants as line_end
 
 -- ---- bytes that are sent
 
@@ -35,18 +35,18 @@ Sends (Err other) to bytes w now = PartSent to bytes w now
 -- ---- one command, where the world is reported
 
 -- a first part of what is specified is sent, and of a refusal nothing
-abbrev pub PartOf : {X : Type 0} → World → Result (Turn X) Fault → World → Type 0
+abbrev pub PartOf : {X : Type 0} → World → Result (Effect X) Fault → World → Type 0
 PartOf w (Ok t) now = PartSent t.to t.bytes w now
 PartOf w (Err fault) now = now ≡ w
 
 -- what is specified is done, in the session and in the world, and these lines are run next
-abbrev pub Carries : {X : Type 0} → List Bytes → World → Result (Turn X) Fault → X → World → Type 0
+abbrev pub Carries : {X : Type 0} → List Bytes → World → Result (Effect X) Fault → X → World → Type 0
 Carries calls w (Ok t) s' now = (s' ≡ t.session) × (now ≡ after w t) × (t.calls ≡ calls)
 Carries calls w (Err fault) s' now = ⊥
 
 -- a line is carried out, or refused as is specified and nothing changed, or a first part of its bytes is sent and the session
 -- is as it was; what is answered says which lines are run next
-abbrev pub Steps : {X Y : Type 0} → (Y → List Bytes) → Result Y Halted → X → World → Result (Turn X) Fault → X → World → Type 0
+abbrev pub Steps : {X Y : Type 0} → (Y → List Bytes) → Result Y Halted → X → World → Result (Effect X) Fault → X → World → Type 0
 Steps calls (Ok y) s w specified s' now = Carries (calls y) w specified s' now
 Steps calls (Err (halted.Refused fault)) s w specified s' now = (specified ≡ Err fault) × (s' ≡ s) × (now ≡ w)
 Steps calls (Err other) s w specified s' now = (s' ≡ s) × PartOf w specified now
@@ -63,19 +63,19 @@ ReadsNoFile (command.Read file name) = ⊥
 ReadsNoFile other = Unit {0}
 
 -- what is specified is done, in the session
-abbrev pub Leaves : {X : Type 0} → Result (Turn X) Fault → X → Type 0
+abbrev pub Leaves : {X : Type 0} → Result (Effect X) Fault → X → Type 0
 Leaves (Ok t) s' = s' ≡ t.session
 Leaves (Err fault) s' = ⊥
 
 -- a command is done or refused as is specified, whatever is reported of the outside
-abbrev pub Agrees : {X Y : Type 0} → Result Y Halted → Result (Turn X) Fault → X → Type 0
+abbrev pub Agrees : {X Y : Type 0} → Result Y Halted → Result (Effect X) Fault → X → Type 0
 Agrees (Ok y) specified s' = Leaves specified s'
 Agrees (Err (halted.Refused fault)) specified s' = specified ≡ Err fault
 Agrees (Err other) specified s' = Unit {0}
 
 -- What a command or a line does that ends so, where this is what is specified among files. Where the world is reported: that. Of every
 -- store and sink: it is done or refused as is specified, unless it reads a file; and if it isn't done, the session is as it was.
-pub record CarriesOut {Y : Type 0} (calls : Y → List Bytes) (s : StoreState) (k : SinkState) (old : Session) (reads_no_file : Type 0) (specified : Files → Result (Turn Session) Fault)
+pub record CarriesOut {Y : Type 0} (calls : Y → List Bytes) (s : StoreState) (k : SinkState) (old : Session) (reads_no_file : Type 0) (specified : Files → Result (Effect Session) Fault)
     (result : Result Y Halted) (new : Session) (s' : StoreState) (k' : SinkState) : Type 0 where
   pub outcome : Outcome (λ w now. Steps calls result old w (specified w.files) new now) s k (status_of result) s' k'
   pub exact : reads_no_file → (files : Files) → Agrees result (specified files) new
@@ -84,27 +84,27 @@ pub record CarriesOut {Y : Type 0} (calls : Y → List Bytes) (s : StoreState) (
 -- ---- one line of a run
 
 -- a refusal is specified, it ends the run whatever was asked for or not, and its line is printed
-abbrev pub Refuses : {X : Type 0} → World → ℕ → Bool → Result (Turn X) Fault → World → Type 0
+abbrev pub Refuses : {X : Type 0} → World → ℕ → Bool → Result (Effect X) Fault → World → Type 0
 Refuses w line is_last (Ok t) now = ⊥
 Refuses w line is_last (Err fault) now = (is_last ≡ passes_limit fault) × (now ≡ sent None (refusal line fault) w)
 
 -- a first part of what the line sends, or of the line of its refusal, is sent, and the session is as it was
-abbrev pub PartTurned : {X : Type 0} → X → World → ℕ → Result (Turn X) Fault → X → World → Type 0
-PartTurned s w line specified s' now = (s' ≡ s) × PartSent (turn_of s line specified).to (turn_of s line specified).bytes w now
+abbrev pub PartOfLine : {X : Type 0} → X → World → ℕ → Result (Effect X) Fault → X → World → Type 0
+PartOfLine s w line specified s' now = (s' ≡ s) × PartSent (effect_of s line specified).to (effect_of s line specified).bytes w now
 
 -- a line of a run is carried out, or refused with its printed line, or a first part of what it sends is sent
-abbrev pub Turns : {X : Type 0} → Turned → X → World → ℕ → Result (Turn X) Fault → X → World → Type 0
-Turns (turned.Done calls) s w line specified s' now = Carries calls w specified s' now
-Turns (turned.Refused is_last) s w line specified s' now = (s' ≡ s) × Refuses w line is_last specified now
-Turns (turned.Broken how) s w line specified s' now = PartTurned s w line specified s' now
+abbrev pub EndsLine : {X : Type 0} → LineEnd → X → World → ℕ → Result (Effect X) Fault → X → World → Type 0
+EndsLine (line_end.Done calls) s w line specified s' now = Carries calls w specified s' now
+EndsLine (line_end.Refused is_last) s w line specified s' now = (s' ≡ s) × Refuses w line is_last specified now
+EndsLine (line_end.Broken how) s w line specified s' now = PartOfLine s w line specified s' now
 
 -- the status of a run that ends with a line that ended so
-abbrev pub status_of_turn : Turned → Status
-status_of_turn (turned.Done calls) = status.Done
-status_of_turn (turned.Refused is_last) = status.Refused
-status_of_turn (turned.Broken broken.SourceFault) = status.SourceFault
-status_of_turn (turned.Broken broken.SinkFault) = status.SinkFault
-status_of_turn (turned.Broken broken.Memory) = status.Memory
+abbrev pub status_of_line : LineEnd → Status
+status_of_line (line_end.Done calls) = status.Done
+status_of_line (line_end.Refused is_last) = status.Refused
+status_of_line (line_end.Broken broken.SourceFault) = status.SourceFault
+status_of_line (line_end.Broken broken.SinkFault) = status.SinkFault
+status_of_line (line_end.Broken broken.Memory) = status.Memory
 
 -- the command of a line, if it has one, is not `read`
 abbrev pub OrderReadsNoFile : Result Order Fault → Type 0

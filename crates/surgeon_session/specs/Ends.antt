@@ -19,6 +19,11 @@ abbrev pub of_halt : Halt → Halted
 of_halt (halt.Refused fault) = halted.Refused fault
 of_halt halt.Memory = halted.Memory
 
+-- the same of its answer
+abbrev pub of_answer : {X : Type 0} → Result X Halt → Result X Halted
+of_answer (Ok x) = Ok x
+of_answer (Err why) = Err (of_halt why)
+
 -- the end of a call that reads
 abbrev pub of_read_end : ReadEnd → Halted
 of_read_end (read.Refused fault) = halted.Refused fault

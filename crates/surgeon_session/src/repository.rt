@@ -274,14 +274,14 @@ impl Repository {
     }
 
     /// Gives a list of events a name, unless another has it.
-    pub fn assign(&mut self, name: &[u8], ids: &[AnyId]) -> Result<(), Halt>
+    pub fn assign(&mut self, given: &[u8], ids: &[AnyId]) -> Result<(), Halt>
         requires { IsOnce ids.now }
-        ensures returns { Returns (λ _. self.new) result
-            (with_given name.now ids.now self.old) }
+        ensures returns { (name : _) → Returns (λ _. repo_under name self.new) result
+            (with_given given.now ids.now (repo_under name self.old)) }
         ensures err { OnErr result (self.new ≡ self.old) }
     {
-        let text = Items::of(self.alloc, name)?;
-        if self.names.get(name).is_some() {
+        let text = Items::of(self.alloc, given)?;
+        if self.names.get(given).is_some() {
             return Err(Halt::Refused(Fault::NameAssigned { name: text }));
         }
         let list = Items::of(self.alloc, ids)?;

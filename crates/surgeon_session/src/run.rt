@@ -11,18 +11,18 @@ ghost use Rattle.surgeon_session.specs.Commands.{
   CarriesOut,
   LineReadsNoFile,
   OrderReadsNoFile,
-  Turns,
-  status_of_turn,
+  EndsLine,
+  status_of_line,
 };
 ghost use Rattle.surgeon_session.specs.Denials.{Under, UnderAll};
 ghost use Rattle.surgeon_session.specs.Ends.{IsEnd};
 ghost use Rattle.surgeon_session.specs.Waits.{AreWithin, EndsPast};
-ghost use Rattle.surgeon_session.specs.declared.turned.Turned.TheVariants as turned;
+ghost use Rattle.surgeon_session.specs.declared.line_end.LineEnd.TheVariants as line_end;
 ghost use Rattle.surgeon_store.specs.Outside.{Puts, PutsSome, StoreState};
 
 use crate::halted::Halted;
 use crate::session::Session;
-use crate::turned::{Broken, Turned};
+use crate::line_end::{Broken, LineEnd};
 use crate::worklist::Worklist;
 use byte_patterns::Patterns;
 use history_machine::Waiting;
@@ -119,36 +119,36 @@ fn passes_limit(fault: &Fault) -> bool
 }
 
 // Carries out a line, or prints its refusal.
-fn turn<S: Store, T: Sink, P: Patterns>(
+fn run_line<S: Store, T: Sink, P: Patterns>(
     alloc: Global,
     session: &mut Session,
     next: Waiting,
     store: &mut S,
     out: &mut T,
     patterns: &mut P,
-) -> Turned
+) -> LineEnd
     requires { next.depth ≤ MAX_COMMANDS }
     ensures outcome { Under (P.sizes patterns.old) (P.sizes patterns.new)
         (λ denial. Outcome
-        (λ w now. Turns result session.old w next.line
+        (λ w now. EndsLine result session.old w next.line
         (line_step denial session.old w.files next.depth next.what) session.new now)
-        (S.state store.old) (T.state out.old) (status_of_turn result)
+        (S.state store.old) (T.state out.old) (status_of_line result)
         (S.state store.new) (T.state out.new)) }
     ensures grows { P.sizes patterns.old ≤ P.sizes patterns.new }
 {
     let line = next.line;
     match carry_out(alloc, session, next.depth, next.what, store, out, patterns) {
-        Ok(calls) => Turned::Done(calls),
+        Ok(calls) => LineEnd::Done(calls),
         Err(Halted::Refused(fault)) => match print_refusal(alloc, out, line, &fault) {
-            Ok(()) => Turned::Refused {
+            Ok(()) => LineEnd::Refused {
                 is_last: passes_limit(&fault),
             },
-            Err(WriteEnd::SinkFault) => Turned::Broken(Broken::SinkFault),
-            Err(WriteEnd::Memory) => Turned::Broken(Broken::Memory),
+            Err(WriteEnd::SinkFault) => LineEnd::Broken(Broken::SinkFault),
+            Err(WriteEnd::Memory) => LineEnd::Broken(Broken::Memory),
         },
-        Err(Halted::SourceFault) => Turned::Broken(Broken::SourceFault),
-        Err(Halted::SinkFault) => Turned::Broken(Broken::SinkFault),
-        Err(Halted::Memory) => Turned::Broken(Broken::Memory),
+        Err(Halted::SourceFault) => LineEnd::Broken(Broken::SourceFault),
+        Err(Halted::SinkFault) => LineEnd::Broken(Broken::SinkFault),
+        Err(Halted::Memory) => LineEnd::Broken(Broken::Memory),
     }
 }
 
@@ -183,7 +183,7 @@ fn refuse_past<T: Sink>(alloc: Global, out: &mut T, next: &Waiting) -> Status
 
 // The status of a run that breaks off so.
 fn broken_status(how: Broken) -> Status
-    ensures { result ≡ status_of_turn (turned.Broken how) }
+    ensures { result ≡ status_of_line (line_end.Broken how) }
 {
     match how {
         Broken::SourceFault => Status::SourceFault,
@@ -228,18 +228,18 @@ fn run_lines<S: Store, T: Sink, P: Patterns>(
         left -= 1;
         let line = next.line;
         let depth = next.depth + 1;
-        match turn(alloc, session, next, store, out, patterns) {
-            Turned::Done(calls) => match lines.call(line, depth, calls) {
+        match run_line(alloc, session, next, store, out, patterns) {
+            LineEnd::Done(calls) => match lines.call(line, depth, calls) {
                 Ok(()) => {}
                 Err(NoMemory) => return Status::Memory,
             },
-            Turned::Refused { is_last } => {
+            LineEnd::Refused { is_last } => {
                 if is_stop(keep_going, is_last) {
                     return Status::Refused;
                 }
                 so_far = Status::Refused;
             }
-            Turned::Broken(how) => return broken_status(how),
+            LineEnd::Broken(how) => return broken_status(how),
         }
     }
     so_far

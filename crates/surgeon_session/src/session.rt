@@ -1,5 +1,5 @@
-//! What a session holds, and one command. The parts: `loading` reads and makes histories, `choosing` chooses and forgets them,
-//! `changing` edits them, `showing` makes the texts that are written and listed.
+//! What a session holds, and one command. What changes the load list alone is a call of it. The parts: `loading` reads and makes
+//! histories, `showing` makes the texts that are written and listed.
 ghost use Rattle.std.specs.Prelude.{◌≡◌, ◌≤◌, IfOk, OnErr, OnOk};
 ghost use Rattle.byte_patterns.specs.Judging.{Judges};
 ghost use Rattle.event_sets.specs.Once.{IsOnce};
@@ -17,22 +17,20 @@ ghost use Rattle.script_reader.specs.Macros.{called};
 ghost use Rattle.surgeon_session.specs.Commands.{CarriesOut, ReadsNoFile, no_calls};
 ghost use Rattle.surgeon_session.specs.Denials.{Under};
 ghost use Rattle.plain_model.specs.Faults.{Returns};
-ghost use Rattle.surgeon_session.specs.Entries.{AreLiveIn, all_in, repo_under, selected_in};
+ghost use Rattle.surgeon_session.specs.Entries.{AreLiveIn};
+ghost use Rattle.surgeon_session.specs.LoadLists.{all_in};
 ghost use Rattle.surgeon_session.specs.Pieces.{StopsNear, bytes_read, refused};
 
-mod changing;
-mod choosing;
 mod loading;
 mod showing;
 
-use crate::halted::Halted;
+use crate::halted::{Halted, of_answer};
+use crate::load_list::LoadList;
 use crate::path_words::matchers_of;
-use crate::repositories::Repositories;
-use crate::repository::Repository;
 use crate::subject::Subject;
 use byte_patterns::Patterns;
 use listing::all;
-use plain_model::{Fault, Halt, IdList, Items, NoMemory, Text};
+use plain_model::{Halt, Items, NoMemory, Text};
 use script_lines::{LineList, ScriptText};
 use script_reader::{Call, Command, Macros, WrittenSelection};
 use selection_eval::sound_histories_are_such;
@@ -40,12 +38,11 @@ use std::alloc::Global;
 use std::marker::Model;
 use surgeon_store::{Sink, Store};
 
-/// The loaded histories under their names, which of them is chosen, and the macros. (own)
+/// The load list and the macros. (own)
 #[derive(Drop)]
 pub struct Session {
     alloc: Global,
-    repositories: Repositories,
-    choice: Option<Text>,
+    list: LoadList,
     macros: Macros,
 }
 
@@ -54,7 +51,9 @@ impl Model for Session {
 
     ghost Value = { Session };
 
-    ghost view = { λ s. record { repos = s.repositories; choice = s.choice; macros = s.macros } };
+    ghost use Rattle.surgeon_session.specs.LoadLists.{session_of};
+
+    ghost view = { λ s. session_of s.list s.macros };
 }
 
 impl Session {
@@ -64,8 +63,7 @@ impl Session {
     {
         Ok(Session {
             alloc,
-            repositories: Repositories::new(alloc),
-            choice: None,
+            list: LoadList::new(alloc),
             macros: Macros::new(alloc),
         })
     }
@@ -89,27 +87,14 @@ impl Session {
         self.macros.expand(call, depth)
     }
 
-    // The name of the chosen repository, and what is loaded under it.
-    #[tactic(auto, unfolding(history_machine::specs::Sessions::chosen))]
-    fn chosen(&self) -> Result<(&[u8], &Repository), Halt>
-        ensures { Returns (λ found. repo_under found.0.now found.1.now) result (chosen self.now) }
-    {
-        match &self.choice {
-            Some(name) => match self.repositories.repository(name.as_slice()) {
-                Some(repository) => Ok((name.as_slice(), repository)),
-                None => Err(Halt::Refused(Fault::NoRepo)),
-            },
-            None => Err(Halt::Refused(Fault::NoRepo)),
-        }
-    }
-
     // All events of the chosen history, each once.
+    #[tactic(auto, unfolding(history_machine::specs::Sessions::chosen))]
     fn all_events(&self) -> Result<Subject, Halt>
         ensures returns { Returns (λ subject. subject) result (all_in self.now) }
         ensures once { IfOk result (λ subject. IsOnce subject.ids) }
         ensures live { IfOk result (λ subject. AreLiveIn (chosen self.now) subject.ids) }
     {
-        let (_, repository) = self.chosen()?;
+        let (_, repository) = self.list.chosen()?;
         let _count = repository.events().count();
         sound_histories_are_such();
         let ids = all(self.alloc, repository.events())?;
@@ -118,27 +103,6 @@ impl Session {
 
     // The events of the chosen history for which a selection stands.
     #[tactic(auto, unfolding(history_machine::specs::Sessions::chosen))]
-    fn selected<P: Patterns>(
-        &mut self,
-        selection: &WrittenSelection,
-        patterns: &mut P,
-    ) -> Result<IdList, Halt>
-        ensures judged { Judges (λ ids. ids) (P.sizes patterns.old) (P.sizes patterns.new) result
-            (selected_in selection.now self.old) }
-        ensures once { IfOk result IsOnce }
-        ensures live { IfOk result (AreLiveIn (chosen self.old)) }
-        ensures same { self.new ≡ self.old }
-        ensures grows { P.sizes patterns.old ≤ P.sizes patterns.new }
-    {
-        match &self.choice {
-            Some(name) => self
-                .repositories
-                .denoted(name.as_slice(), selection, patterns),
-            None => Err(Halt::Refused(Fault::NoRepo)),
-        }
-    }
-
-    // The same, as what a command speaks of.
     fn selected_events<P: Patterns>(
         &mut self,
         selection: &WrittenSelection,
@@ -151,11 +115,12 @@ impl Session {
         ensures same { self.new ≡ self.old }
         ensures grows { P.sizes patterns.old ≤ P.sizes patterns.new }
     {
-        let ids = self.selected(selection, patterns)?;
+        let ids = self.list.denoted(selection, patterns)?;
         Ok(Subject::of_events(self.alloc, ids))
     }
 
     // The paths that words say, where a repository is chosen.
+    #[tactic(auto, unfolding(history_machine::specs::Sessions::chosen))]
     fn said_paths<P: Patterns>(
         &self,
         words: &[ScriptText],
@@ -167,7 +132,7 @@ impl Session {
         ensures live { IfOk result (λ subject. AreLiveIn (chosen self.now) subject.ids) }
         ensures grows { P.sizes patterns.old ≤ P.sizes patterns.new }
     {
-        let _ = self.chosen()?;
+        let _ = self.list.chosen()?;
         let matchers = matchers_of(self.alloc, words, patterns)?;
         Ok(Subject::of_paths(self.alloc, matchers))
     }
@@ -225,15 +190,17 @@ impl Session {
         match command {
             Command::Read { file, name } => Ok(self.read(store, file, name)?),
             Command::Write { to } => self.write(store, out, to),
-            Command::Choose { name } => Ok(self.choose(name.as_slice())?),
+            Command::Choose { name } => of_answer(self.list.choose(name.as_slice())),
             Command::ShowRepos => self.show_repositories(store, out),
-            Command::Drop { name } => Ok(self.forget(name.as_slice())?),
-            Command::DropChosen => Ok(self.forget_chosen()?),
-            Command::Renumber => Ok(self.renumber()?),
+            Command::Drop { name } => of_answer(self.list.forget(name.as_slice())),
+            Command::DropChosen => of_answer(self.list.forget_chosen()),
+            Command::Renumber => of_answer(self.list.renumber()),
             Command::Show { what, to, .. } => self.show(*what, subject.ids(), store, out, to),
-            Command::Assign { name, .. } => Ok(self.assign(subject.ids(), name.as_slice())?),
-            Command::Edit { what, .. } => Ok(self.edit(what, subject.ids())?),
-            Command::Expunge { .. } => Ok(self.expunge(subject.matchers())?),
+            Command::Assign { name, .. } => {
+                of_answer(self.list.assign(subject.ids(), name.as_slice()))
+            }
+            Command::Edit { what, .. } => of_answer(self.list.edit(what, subject.ids())),
+            Command::Expunge { .. } => of_answer(self.list.expunge(subject.matchers())),
             Command::Sample { count, start } => Ok(self.sample(*count, *start)?),
             Command::Names { to } => self.names(store, out, to),
             Command::Summary { to } => self.summary(store, out, to),

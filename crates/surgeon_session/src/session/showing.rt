@@ -11,7 +11,7 @@ use super::Session;
 use crate::halted::Halted;
 use crate::sending::send;
 use listing::{names, summary};
-use plain_model::{AnyId, Fault, Halt, Items, NoMemory, Text};
+use plain_model::{AnyId, Halt, Items, NoMemory, Text};
 use script_lines::ScriptText;
 use script_reader::Listing;
 use stream_writer::Stream;
@@ -36,43 +36,34 @@ fn push_repository(out: &mut Text, choice: &Option<Text>, name: &[u8]) -> Result
 
 impl Session {
     // The stream of the chosen history.
+    #[tactic(auto, unfolding(history_machine::specs::Sessions::chosen))]
     fn stream(&self) -> Result<Stream<'_>, Halt>
         ensures { Returns (λ bytes. bytes) result
             (of_chosen self.now (λ repo. text repo.history)) }
     {
-        let (_, repository) = self.chosen()?;
+        let (_, repository) = self.list.chosen()?;
         Ok(Stream::of(self.alloc, repository.events()))
     }
 
-    // A text of some events of the chosen history.
-    #[tactic(auto, unfolding(history_machine::specs::Sessions::chosen))]
-    fn shown(&mut self, what: Listing, ids: &[AnyId]) -> Result<Text, Halt>
-        ensures text { Returns (λ bytes. bytes) result (of_chosen self.old (shown what ids.now)) }
-        ensures same { self.new ≡ self.old }
-    {
-        match &self.choice {
-            Some(name) => self.repositories.shown(name.as_slice(), what, ids),
-            None => Err(Halt::Refused(Fault::NoRepo)),
-        }
-    }
-
     // The branches and tags of the chosen history.
+    #[tactic(auto, unfolding(history_machine::specs::Sessions::chosen))]
     fn named(&self) -> Result<Text, Halt>
         ensures { Returns (λ bytes. bytes) result
             (of_chosen self.now (λ repo. names_text repo.history)) }
     {
-        let (_, repository) = self.chosen()?;
+        let (_, repository) = self.list.chosen()?;
         let mut text = Items::new(self.alloc)?;
         names(repository.events(), &mut text)?;
         Ok(text)
     }
 
     // The counts of the events of the chosen history.
+    #[tactic(auto, unfolding(history_machine::specs::Sessions::chosen))]
     fn summed(&self) -> Result<Text, Halt>
         ensures { Returns (λ bytes. bytes) result
             (of_chosen self.now (λ repo. summary_text repo.name repo.history)) }
     {
-        let (name, repository) = self.chosen()?;
+        let (name, repository) = self.list.chosen()?;
         let mut text = Items::new(self.alloc)?;
         summary(name, repository.events(), &mut text)?;
         Ok(text)
@@ -80,12 +71,12 @@ impl Session {
 
     // The load list.
     #[tactic(auto, unfolding(history_machine::specs::Sessions::repos_text))]
-    fn loaded(&self) -> Result<Text, NoMemory>
+    fn load_list_text(&self) -> Result<Text, NoMemory>
         ensures { IfOk result (λ bytes. bytes ≡ repos_text self.now) }
     {
         let mut text = Items::new(self.alloc)?;
-        for place in 0..self.repositories.count() {
-            push_repository(&mut text, &self.choice, self.repositories.name(place))?;
+        for place in 0..self.list.count() {
+            push_repository(&mut text, self.list.choice(), self.list.name(place))?;
         }
         Ok(text)
     }
@@ -106,6 +97,7 @@ impl Session {
     }
 
     // `[sel] list [>FILE]`, and so on
+    #[tactic(auto, unfolding(history_machine::specs::Sessions::chosen))]
     pub(super) fn show<S: Store, T: Sink>(
         &mut self,
         what: Listing,
@@ -118,7 +110,7 @@ impl Session {
             (λ _. reports self.old to.now (of_chosen self.old (shown what ids.now)))
             result self.new (S.state store.new) (T.state out.new) }
     {
-        let text = self.shown(what, ids)?;
+        let text = self.list.shown(what, ids)?;
         send(store, out, to, &text)
     }
 
@@ -162,7 +154,7 @@ impl Session {
             (λ _. reports self.now None (Ok (repos_text self.now)))
             result self.now (S.state store.new) (T.state out.new) }
     {
-        let text = self.loaded()?;
+        let text = self.load_list_text()?;
         send(store, out, &None, &text)
     }
 }

@@ -6,9 +6,9 @@ use Rattle.byte_patterns.specs.Judging.{Denial}
 use Rattle.history_machine.specs.Machine.{SessionEndsAs, World, run_on}
 use Rattle.history_machine.specs.Sessions.{Session, line_step}
 use Rattle.surgeon_session.specs.Calls.{world}
-use Rattle.surgeon_session.specs.Commands.{status_of_turn}
+use Rattle.surgeon_session.specs.Commands.{status_of_line}
 use Rattle.surgeon_session.specs.Waits.{AreWithin}
-use Rattle.surgeon_session.specs.declared.turned.Turned.TheVariants as turned
+use Rattle.surgeon_session.specs.declared.line_end.LineEnd.TheVariants as line_end
 use Rattle.surgeon_session.proofs.Denying.{counted_more, no_more, one_by_one}
 use Rattle.surgeon_session.proofs.Rounds.{caused_later, joined, later_later, mapped, same_later, same_world}
 use Rattle.surgeon_session.proofs.SessionRounds.{breaks_run, caused_quiet, done_goes_on, line_breaks, memory_after, no_lines, past_ends, refused_goes_on, refused_stops, within_after, within_rest}
@@ -72,12 +72,12 @@ returns-in-Err-clause-outcome g c =
     let more : c.loop-next.left ≡ suc (c.loop-next.left - 1) = omega (arith, c.if-left-eq0.false) in
     let keep = c.args.keep_going in
     let old = c.loop-next.session in
-    let new = c.turn.new.session in
+    let new = c.run_line.new.session in
     let v0 = world (s c.args.store.now) (k c.args.out.now) in
     let v1 = world (s c.loop-next.store) (k c.loop-next.out) in
-    let v2 = world (s c.turn.new.store) (k c.turn.new.out) in
-    let later = later_later (s c.args.store.now) (s c.loop-next.store) (s c.turn.new.store) (k c.args.out.now) (k c.loop-next.out) (k c.turn.new.out) known.later q.2.later in
-    let counted = counted_more (n c.args.patterns.now) (n c.loop-next.patterns) (n c.turn.new.patterns) p.0 q.0 known.grows c.turn.ensures.grows p.1 q.1 in (
+    let v2 = world (s c.run_line.new.store) (k c.run_line.new.out) in
+    let later = later_later (s c.args.store.now) (s c.loop-next.store) (s c.run_line.new.store) (k c.args.out.now) (k c.loop-next.out) (k c.run_line.new.out) known.later q.2.later in
+    let counted = counted_more (n c.args.patterns.now) (n c.loop-next.patterns) (n c.run_line.new.patterns) p.0 q.0 known.grows c.run_line.ensures.grows p.1 q.1 in (
       p.0 ++ q.0 ∷ [],
       counted,
       record {
@@ -103,15 +103,15 @@ loop-next-preserved-in-Ok g c =
     let more : c.loop-next.left ≡ suc (c.loop-next.left - 1) = omega (arith, c.if-left-eq0.false) in
     let keep = c.args.keep_going in
     let old = c.loop-next.session in
-    let new = c.turn.new.session in
+    let new = c.run_line.new.session in
     let v0 = world (s c.args.store.now) (k c.args.out.now) in
     let v1 = world (s c.loop-next.store) (k c.loop-next.out) in
-    let v2 = world (s c.turn.new.store) (k c.turn.new.out) in
-    let later = later_later (s c.args.store.now) (s c.loop-next.store) (s c.turn.new.store) (k c.args.out.now) (k c.loop-next.out) (k c.turn.new.out) known.later q.2.later in
-    let counted = counted_more (n c.args.patterns.now) (n c.loop-next.patterns) (n c.turn.new.patterns) p.0 q.0 known.grows c.turn.ensures.grows p.1 q.1 in
+    let v2 = world (s c.run_line.new.store) (k c.run_line.new.out) in
+    let later = later_later (s c.args.store.now) (s c.loop-next.store) (s c.run_line.new.store) (k c.args.out.now) (k c.loop-next.out) (k c.run_line.new.out) known.later q.2.later in
+    let counted = counted_more (n c.args.patterns.now) (n c.loop-next.patterns) (n c.run_line.new.patterns) p.0 q.0 known.grows c.run_line.ensures.grows p.1 q.1 in
     record {
       later = later;
-      grows = omega (arith, known.grows, c.turn.ensures.grows);
+      grows = omega (arith, known.grows, c.run_line.ensures.grows);
       quiet = known.quiet;
       within = rw c.in-Ok.ensures (within_after MAX_COMMANDS (c.loop-next.left - 1) next c.in-Done.calls rest (subst (λ n. AreWithin MAX_COMMANDS n (next ∷ rest)) more (subst (AreWithin MAX_COMMANDS c.loop-next.left) cut known.within)));
       prescribed = (
@@ -139,12 +139,12 @@ returns-then-is_stop-clause-outcome g c =
     let more : c.loop-next.left ≡ suc (c.loop-next.left - 1) = omega (arith, c.if-left-eq0.false) in
     let keep = c.args.keep_going in
     let old = c.loop-next.session in
-    let new = c.turn.new.session in
+    let new = c.run_line.new.session in
     let v0 = world (s c.args.store.now) (k c.args.out.now) in
     let v1 = world (s c.loop-next.store) (k c.loop-next.out) in
-    let v2 = world (s c.turn.new.store) (k c.turn.new.out) in
-    let later = later_later (s c.args.store.now) (s c.loop-next.store) (s c.turn.new.store) (k c.args.out.now) (k c.loop-next.out) (k c.turn.new.out) known.later q.2.later in
-    let counted = counted_more (n c.args.patterns.now) (n c.loop-next.patterns) (n c.turn.new.patterns) p.0 q.0 known.grows c.turn.ensures.grows p.1 q.1 in
+    let v2 = world (s c.run_line.new.store) (k c.run_line.new.out) in
+    let later = later_later (s c.args.store.now) (s c.loop-next.store) (s c.run_line.new.store) (k c.args.out.now) (k c.loop-next.out) (k c.run_line.new.out) known.later q.2.later in
+    let counted = counted_more (n c.args.patterns.now) (n c.loop-next.patterns) (n c.run_line.new.patterns) p.0 q.0 known.grows c.run_line.ensures.grows p.1 q.1 in
     let stop : (c.in-Refused.is_last || not keep) ≡ true = sym c.is_stop.ensures ∙ c.if-is_stop.true in (
       p.0 ++ q.0 ∷ [],
       counted,
@@ -171,16 +171,16 @@ loop-next-preserved g c =
     let more : c.loop-next.left ≡ suc (c.loop-next.left - 1) = omega (arith, c.if-left-eq0.false) in
     let keep = c.args.keep_going in
     let old = c.loop-next.session in
-    let new = c.turn.new.session in
+    let new = c.run_line.new.session in
     let v0 = world (s c.args.store.now) (k c.args.out.now) in
     let v1 = world (s c.loop-next.store) (k c.loop-next.out) in
-    let v2 = world (s c.turn.new.store) (k c.turn.new.out) in
-    let later = later_later (s c.args.store.now) (s c.loop-next.store) (s c.turn.new.store) (k c.args.out.now) (k c.loop-next.out) (k c.turn.new.out) known.later q.2.later in
-    let counted = counted_more (n c.args.patterns.now) (n c.loop-next.patterns) (n c.turn.new.patterns) p.0 q.0 known.grows c.turn.ensures.grows p.1 q.1 in
+    let v2 = world (s c.run_line.new.store) (k c.run_line.new.out) in
+    let later = later_later (s c.args.store.now) (s c.loop-next.store) (s c.run_line.new.store) (k c.args.out.now) (k c.loop-next.out) (k c.run_line.new.out) known.later q.2.later in
+    let counted = counted_more (n c.args.patterns.now) (n c.loop-next.patterns) (n c.run_line.new.patterns) p.0 q.0 known.grows c.run_line.ensures.grows p.1 q.1 in
     let goes : (c.in-Refused.is_last || not keep) ≡ false = sym c.is_stop.ensures ∙ c.if-is_stop.false in
     record {
       later = later;
-      grows = omega (arith, known.grows, c.turn.ensures.grows);
+      grows = omega (arith, known.grows, c.run_line.ensures.grows);
       quiet = tt;
       within = within_rest MAX_COMMANDS (c.loop-next.left - 1) next rest (subst (λ n. AreWithin MAX_COMMANDS n (next ∷ rest)) more (subst (AreWithin MAX_COMMANDS c.loop-next.left) cut known.within));
       prescribed = (
@@ -208,20 +208,20 @@ returns-in-Broken-clause-outcome g c =
     let more : c.loop-next.left ≡ suc (c.loop-next.left - 1) = omega (arith, c.if-left-eq0.false) in
     let keep = c.args.keep_going in
     let old = c.loop-next.session in
-    let new = c.turn.new.session in
+    let new = c.run_line.new.session in
     let v0 = world (s c.args.store.now) (k c.args.out.now) in
     let v1 = world (s c.loop-next.store) (k c.loop-next.out) in
-    let v2 = world (s c.turn.new.store) (k c.turn.new.out) in
-    let later = later_later (s c.args.store.now) (s c.loop-next.store) (s c.turn.new.store) (k c.args.out.now) (k c.loop-next.out) (k c.turn.new.out) known.later q.2.later in
-    let counted = counted_more (n c.args.patterns.now) (n c.loop-next.patterns) (n c.turn.new.patterns) p.0 q.0 known.grows c.turn.ensures.grows p.1 q.1 in
+    let v2 = world (s c.run_line.new.store) (k c.run_line.new.out) in
+    let later = later_later (s c.args.store.now) (s c.loop-next.store) (s c.run_line.new.store) (k c.args.out.now) (k c.loop-next.out) (k c.run_line.new.out) known.later q.2.later in
+    let counted = counted_more (n c.args.patterns.now) (n c.loop-next.patterns) (n c.run_line.new.patterns) p.0 q.0 known.grows c.run_line.ensures.grows p.1 q.1 in
     let how = c.in-Broken.how in
     rw c.broken_status.ensures (
       p.0 ++ q.0 ∷ [],
       counted,
       record {
         prescribed = joined v0 v1 v2 known.later.reports p.2 q.2.prescribed
-            (λ a b d before here. before (q.0 ∷ []) (status_of_turn (turned.Broken how)) new d (rw (cut, more) (line_breaks line_step keep (c.loop-next.left - 1) q.0 [] so_far old new b d next rest (status_of_turn (turned.Broken how)) (breaks_run how) here)));
-        caused = caused_later (s c.args.store.now) (s c.loop-next.store) (s c.turn.new.store) (k c.args.out.now) (k c.loop-next.out) (k c.turn.new.out) (status_of_turn (turned.Broken how)) known.later q.2.caused;
+            (λ a b d before here. before (q.0 ∷ []) (status_of_line (line_end.Broken how)) new d (rw (cut, more) (line_breaks line_step keep (c.loop-next.left - 1) q.0 [] so_far old new b d next rest (status_of_line (line_end.Broken how)) (breaks_run how) here)));
+        caused = caused_later (s c.args.store.now) (s c.loop-next.store) (s c.run_line.new.store) (k c.args.out.now) (k c.loop-next.out) (k c.run_line.new.out) (status_of_line (line_end.Broken how)) known.later q.2.caused;
         later = later;
       },
     )

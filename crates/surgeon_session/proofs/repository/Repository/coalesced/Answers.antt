@@ -8,7 +8,7 @@ use Rattle.surgeon_session.proofs.repository.Repository.coalesced.Goals as goal
 
 pub returns-in-Ok-clause-plans : goal.returns-in-Ok-clause-plans
 returns-in-Ok-clause-plans c =
-    ap (λ (l : Loaded). made (coalesce_of c.args.seconds c.args.ids.now l.history) l.next) (sym c.self.view_is) ∙ (λ i. made (sym c.in-Ok.ensures.answer i) (sym c.in-Ok.ensures.next i))
+    ap (λ (l : Loaded). made (coalesce_of c.args.seconds c.args.ids.now l.history) l.next) (sym c.self.view_is) ∙ (λ i. made (sym c.in-Ok.ensures.after i) (sym c.in-Ok.ensures.plan.next i))
   where
     made : List PlainEvent → ℕ → Result Remade Fault
     made history next = Ok (record { history = history; next = next })

@@ -1,6 +1,7 @@
-use Rattle.history_machine.specs.Sessions.{Session, carried}
+use Rattle.history_machine.specs.Sessions.{Session, after_assign, after_choose, after_drop, after_drop_chosen, after_edit, after_renumber, carried, chosen, remade, without_paths}
 use Rattle.surgeon_session.specs.Commands.{no_calls}
 use Rattle.surgeon_session.proofs.Halting.{halted_alone, halted_read, halts_after, returned}
+use Rattle.surgeon_session.proofs.ListChanges.{list_changed}
 use Rattle.surgeon_session.proofs.session.Session.carry.Goals as goal
 
 pub returns-in_err-read-in-Read-clause-carries : goal.returns-in_err-read-in-Read-clause-carries
@@ -10,61 +11,58 @@ returns-in_err-read-in-Read-clause-carries g c =
     rw c.in-Read.is
     (halted_read _ _ _ c.args.self.now c.read.new.self _ _ failed.ensures.kept failed.ensures.frame failed.field-0.0 c.from_residual.result c.from_residual.ensures.1 failed.ensures.returns failed.ensures.failed)
 
-pub returns-in_err-choose-in-Choose-clause-carries : goal.returns-in_err-choose-in-Choose-clause-carries
+pub returns-in-Choose-clause-carries : goal.returns-in-Choose-clause-carries
 unfolding carried
-returns-in_err-choose-in-Choose-clause-carries g c =
-    let failed = c.in_err-choose-in-Choose in
-    rw c.in-Choose.is
-    (halted_alone no_calls _ _ c.args.self.now c.choose.new.self _ _ failed.field-0.0 _ c.from_residual-in_err-choose-in-Choose.ensures.1
-    (λ files. halts_after failed.field-0.0 _ _ (returned (λ (b : Session). b) failed.field-0.0 _ (rw c.as_slice.ensures at failed.ensures.returns))) failed.ensures.kept)
+returns-in-Choose-clause-carries g c =
+    rw (c.in-Choose.is, ← c.self.view_is)
+    (list_changed _ _ c.self.inside.list c.choose.new.self c.self.inside.macros _ (λ s. after_choose s c.in-Choose.name) c.choose.result _
+    c.of_answer.ensures (rw c.as_slice.ensures at c.choose.ensures.changes) c.choose.ensures.kept)
 
-pub returns-in_err-forget-in-Drop-clause-carries : goal.returns-in_err-forget-in-Drop-clause-carries
+pub returns-in-Drop-clause-carries : goal.returns-in-Drop-clause-carries
 unfolding carried
-returns-in_err-forget-in-Drop-clause-carries g c =
-    let failed = c.in_err-forget-in-Drop in
-    rw c.in-Drop.is
-    (halted_alone no_calls _ _ c.args.self.now c.forget.new.self _ _ failed.field-0.0 _ c.from_residual-in_err-forget-in-Drop.ensures.1
-    (λ files. halts_after failed.field-0.0 _ _ (returned (λ (b : Session). b) failed.field-0.0 _ (rw c.as_slice-in-Drop.ensures at failed.ensures.returns))) failed.ensures.kept)
+returns-in-Drop-clause-carries g c =
+    rw (c.in-Drop.is, ← c.self-in-Drop.view_is)
+    (list_changed _ _ c.self-in-Drop.inside.list c.forget.new.self c.self-in-Drop.inside.macros _ (λ s. after_drop s c.in-Drop.name) c.forget.result _
+    c.of_answer-in-Drop.ensures (rw c.as_slice-in-Drop.ensures at c.forget.ensures.changes) c.forget.ensures.kept)
 
-pub returns-in_err-forget_chosen-in-DropChosen-clause-carries : goal.returns-in_err-forget_chosen-in-DropChosen-clause-carries
+pub returns-in-DropChosen-clause-carries : goal.returns-in-DropChosen-clause-carries
 unfolding carried
-returns-in_err-forget_chosen-in-DropChosen-clause-carries g c =
-    let failed = c.in_err-forget_chosen-in-DropChosen in
-    rw c.in-DropChosen.is
-    (halted_alone no_calls _ _ c.args.self.now c.forget_chosen.new.self _ _ failed.field-0.0 _ c.from_residual-in_err-forget_chosen-in-DropChosen.ensures.1
-    (λ files. halts_after failed.field-0.0 _ _ (returned (λ (b : Session). b) failed.field-0.0 _ failed.ensures.returns)) failed.ensures.kept)
+returns-in-DropChosen-clause-carries g c =
+    rw (c.in-DropChosen.is, ← c.self-in-DropChosen.view_is)
+    (list_changed _ _ c.self-in-DropChosen.inside.list c.forget_chosen.new.self c.self-in-DropChosen.inside.macros _ after_drop_chosen c.forget_chosen.result _
+    c.of_answer-in-DropChosen.ensures c.forget_chosen.ensures.changes c.forget_chosen.ensures.kept)
 
-pub returns-in_err-renumber-in-Renumber-clause-carries : goal.returns-in_err-renumber-in-Renumber-clause-carries
+pub returns-in-Renumber-clause-carries : goal.returns-in-Renumber-clause-carries
 unfolding carried
-returns-in_err-renumber-in-Renumber-clause-carries g c =
-    let failed = c.in_err-renumber-in-Renumber in
-    rw c.in-Renumber.is
-    (halted_alone no_calls _ _ c.args.self.now c.renumber.new.self _ _ failed.field-0.0 _ c.from_residual-in_err-renumber-in-Renumber.ensures.1
-    (λ files. halts_after failed.field-0.0 _ _ (returned (λ (b : Session). b) failed.field-0.0 _ failed.ensures.returns)) failed.ensures.kept)
+returns-in-Renumber-clause-carries g c =
+    rw (c.in-Renumber.is, ← c.self-in-Renumber.view_is)
+    (list_changed _ _ c.self-in-Renumber.inside.list c.renumber.new.self c.self-in-Renumber.inside.macros _ after_renumber c.renumber.result _
+    c.of_answer-in-Renumber.ensures c.renumber.ensures.changes c.renumber.ensures.kept)
 
-pub returns-in_err-assign-in-Assign-clause-carries : goal.returns-in_err-assign-in-Assign-clause-carries
+pub returns-in-Assign-clause-carries : goal.returns-in-Assign-clause-carries
 unfolding carried
-returns-in_err-assign-in-Assign-clause-carries g c =
-    let failed = c.in_err-assign-in-Assign in
-    rw c.in-Assign.is
-    (halted_alone no_calls _ _ c.args.self.now c.assign.new.self _ _ failed.field-0.0 _ c.from_residual-in_err-assign-in-Assign.ensures.1
-    (λ files. halts_after failed.field-0.0 _ _ (returned (λ (b : Session). b) failed.field-0.0 _ (rw (c.as_slice-in-Assign.ensures, c.ids-in-Assign.ensures) at failed.ensures.returns))) failed.ensures.kept)
+returns-in-Assign-clause-carries g c =
+    rw (c.in-Assign.is, ← c.self-in-Assign.view_is)
+    (list_changed _ _ c.self-in-Assign.inside.list c.assign.new.self c.self-in-Assign.inside.macros _ (λ s. after_assign s c.args.subject.now.ids c.in-Assign.name) c.assign.result _
+    c.of_answer-in-Assign.ensures (rw (c.as_slice-in-Assign.ensures, c.ids-in-Assign.ensures) at c.assign.ensures.changes) c.assign.ensures.kept)
 
-pub returns-in_err-edit-in-Edit-clause-carries : goal.returns-in_err-edit-in-Edit-clause-carries
-unfolding carried
-returns-in_err-edit-in-Edit-clause-carries g c =
-    let failed = c.in_err-edit-in-Edit in
-    rw c.in-Edit.is
-    (halted_alone no_calls _ _ c.args.self.now c.edit.new.self _ _ failed.field-0.0 _ c.from_residual-in_err-edit-in-Edit.ensures.1
-    (λ files. halts_after failed.field-0.0 _ _ (returned (λ (b : Session). b) failed.field-0.0 _ (rw c.ids-in-Edit.ensures at failed.ensures.returns))) failed.ensures.kept)
+pub edit-requires-clause-live : goal.edit-requires-clause-live
+unfolding chosen
+edit-requires-clause-live g c = rw (← c.self-in-Edit.view_is, ← c.ids-in-Edit.ensures) at c.requires.live
 
-pub returns-in_err-expunge-in-Expunge-clause-carries : goal.returns-in_err-expunge-in-Expunge-clause-carries
+pub returns-in-Edit-clause-carries : goal.returns-in-Edit-clause-carries
 unfolding carried
-returns-in_err-expunge-in-Expunge-clause-carries g c =
-    let failed = c.in_err-expunge-in-Expunge in
-    rw c.in-Expunge.is
-    (halted_alone no_calls _ _ c.args.self.now c.expunge.new.self _ _ failed.field-0.0 _ c.from_residual-in_err-expunge-in-Expunge.ensures.1
-    (λ files. halts_after failed.field-0.0 _ _ (returned (λ (b : Session). b) failed.field-0.0 _ (rw c.matchers.ensures at failed.ensures.returns))) failed.ensures.kept)
+returns-in-Edit-clause-carries g c =
+    rw (c.in-Edit.is, ← c.self-in-Edit.view_is)
+    (list_changed _ _ c.self-in-Edit.inside.list c.edit.new.self c.self-in-Edit.inside.macros _ (λ s. after_edit s (remade c.in-Edit.what c.args.subject.now.ids)) c.edit.result _
+    c.of_answer-in-Edit.ensures (rw c.ids-in-Edit.ensures at c.edit.ensures.changes) c.edit.ensures.kept)
+
+pub returns-in-Expunge-clause-carries : goal.returns-in-Expunge-clause-carries
+unfolding carried
+returns-in-Expunge-clause-carries g c =
+    rw (c.in-Expunge.is, ← c.self-in-Expunge.view_is)
+    (list_changed _ _ c.self-in-Expunge.inside.list c.expunge.new.self c.self-in-Expunge.inside.macros _ (λ s. after_edit s (without_paths c.args.subject.now.matchers)) c.expunge.result _
+    c.of_answer-in-Expunge.ensures (rw c.matchers.ensures at c.expunge.ensures.changes) c.expunge.ensures.kept)
 
 pub returns-in_err-sample-in-Sample-clause-carries : goal.returns-in_err-sample-in-Sample-clause-carries
 unfolding carried

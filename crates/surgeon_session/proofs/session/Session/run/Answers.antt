@@ -20,7 +20,7 @@ returns-in-Err-clause-outcome g c =
       tt,
       record {
         prescribed = same_world (λ w now. SessionEndsAs (run_from [] session w.files c.args.script.now c.args.keep_going) status.Memory session w session now) (world s k)
-            (λ w. (zero, refl, breaks_here (run_from [] session w.files c.args.script.now c.args.keep_going).turns w));
+            (λ w. (zero, refl, breaks_here (run_from [] session w.files c.args.script.now c.args.keep_going).effects w));
         caused = tt;
         later = same_later s k;
       },

@@ -1,0 +1,16 @@
+use Rattle.history_machine.specs.Sessions.{after_edit, edited, without_paths}
+use Rattle.surgeon_session.proofs.Places.{changed_at, kept_at, on_err}
+use Rattle.surgeon_session.proofs.load_list.LoadList.expunge.Goals as goal
+
+pub returns-clause-changes : goal.returns-clause-changes
+unfolding after_edit
+returns-clause-changes c = λ macros.
+    rw (← c.self.view_is)
+    (changed_at c.self.inside.by_name.entries c.self.inside.choice c.in_ok-place.place (rw (← c.self.view_is) at c.in_ok-place.ensures) c.index_mut.result.now c.index_mut.ensures.value
+    macros c.expunge.result (edited (without_paths c.args.matchers.now)) c.expunge.new.self c.expunge.ensures.returns)
+
+pub returns-clause-kept : goal.returns-clause-kept
+returns-clause-kept c =
+    rw (← c.self.view_is)
+    (on_err c.expunge.result _ _ (kept_at c.self.inside.by_name.entries c.self.inside.choice c.in_ok-place.place (rw (← c.self.view_is) at c.in_ok-place.ensures) c.index_mut.result.now c.index_mut.ensures.value
+    c.expunge.new.self) c.expunge.ensures.err)
