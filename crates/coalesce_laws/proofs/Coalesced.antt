@@ -16,7 +16,7 @@ use Rattle.history_laws.specs.FirstParents.{ops_along}
 use Rattle.history_laws.proofs.Ids.{each_found}
 use Rattle.history_laws.proofs.Lists.{all_imply}
 use Rattle.ancestry_laws.proofs.Pasts.{all_reverse, linked_past}
-use Rattle.history_laws.proofs.SoundOnce.{sound-once}
+use Rattle.history_laws.proofs.SoundOnce.{sound_once}
 use Rattle.edit_laws.specs.Blobs.{HasBytesOf}
 use Rattle.edit_laws.specs.Equations.{Fits}
 use Rattle.edit_laws.specs.Keeping.{HasTreesOf, IsOneOf}
@@ -192,7 +192,7 @@ module _ (seconds : ℕ) (sel : List AnyId) (events : List PlainEvent) (h : IsSo
       settled_all (IsOneOf events) (without_set set events joins) new
       (all_filter (IsOneOf events) (λ e. not (is_left_over events left e)) left
       (all_flat (λ e. find_event (id_of e) events ≡ Some e) (IsOneOf events) (left_of set events joins) each_one events
-      (each_found events (sound-once events h).ids))) done
+      (each_found events (sound_once events h).ids))) done
 
   -- ---- operations
 

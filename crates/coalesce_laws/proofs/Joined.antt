@@ -11,8 +11,8 @@ use Rattle.plain_model.specs.Histories.{Node, nodes}
 use Rattle.plain_model.specs.Lookups.{children_of, event_parents, find_event, id_number, id_of, is_listed, own_child, same_id}
 use Rattle.plain_model.specs.Soundness.{IsSound}
 use Rattle.history_laws.specs.Finding.{is_only}
-use Rattle.history_laws.proofs.Ids.{each_found, same_id-true}
-use Rattle.history_laws.proofs.SoundOnce.{sound-once}
+use Rattle.history_laws.proofs.Ids.{each_found, same_id_true}
+use Rattle.history_laws.proofs.SoundOnce.{sound_once}
 use Rattle.squash_laws.specs.Removed.{is_removed}
 use Rattle.coalesce_laws.specs.Coalesce.{is_joined_to, joined_ones}
 use Rattle.coalesce_laws.specs.Remaining.{IsJoinedTo}
@@ -29,7 +29,7 @@ one_listed P test id [] a h = absurd (true≢false (sym h))
 one_listed P test id (e ∷ es) a h = go (test e) refl h (λ x. one_listed P test id es a.1 x)
   where
     go : (b : Bool) → test e ≡ b → is_listed id (map id_of (cond b (e ∷ filter test es) (filter test es))) ≡ true → (is_listed id (map id_of (filter test es)) ≡ true → (e : PlainEvent) × (id ≡ id_of e) × (test e ≡ true) × P e) → (e : PlainEvent) × (id ≡ id_of e) × (test e ≡ true) × P e
-    go true t x f = elim (or_cases (same_id id (id_of e)) (is_listed id (map id_of (filter test es))) x) [ inl it ↦ (e, same_id-true id (id_of e) it, t, a.0) | inr later ↦ f later ]
+    go true t x f = elim (or_cases (same_id id (id_of e)) (is_listed id (map id_of (filter test es))) x) [ inl it ↦ (e, same_id_true id (id_of e) it, t, a.0) | inr later ↦ f later ]
     go false t x f = f x
 
 -- a commit is among the children of each of its parents
@@ -66,7 +66,7 @@ module _ (seconds : ℕ) (sel : List AnyId) (events : List PlainEvent) (h : IsSo
   set = joined_ones seconds sel events
 
   found : AllByRecursion (λ e. find_event (id_of e) events ≡ Some e) events
-  found = each_found events (sound-once events h).ids
+  found = each_found events (sound_once events h).ids
 
   -- what a joined commit is: the only parent of its only child
   pub record IsJoined (c : ℕ) : Type 0 where

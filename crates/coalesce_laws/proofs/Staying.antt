@@ -12,7 +12,7 @@ use Rattle.plain_model.specs.declared.event.PlainEvent.TheVariants.{Blob, Commit
 use Rattle.plain_model.specs.Histories.{Node, nodes}
 use Rattle.plain_model.specs.Lookups.{event_parents, find_event, id_number, id_of, is_listed, same_id}
 use Rattle.plain_model.specs.Soundness.{IsSound, has_id}
-use Rattle.history_laws.proofs.Ids.{has_id-append, same_id-true}
+use Rattle.history_laws.proofs.Ids.{has_id_append, same_id_true}
 use Rattle.edit_laws.specs.Keeping.{IsNoBlob}
 use Rattle.edit_laws.specs.Parts.{IsAbove}
 use Rattle.edit_laws.specs.Removal.{forward}
@@ -86,7 +86,7 @@ found_node P (x ∷ es) d e a f = go x (same_id (any.Commit d) (id_of x)) refl a
 
     here : (x : PlainEvent) → same_id (any.Commit d) (id_of x) ≡ true → AllByRecursion P (nodes (x ∷ es)) → IsAt P d (event_parents x)
     here (Commit id mark branch author committer encoding comment parents ops aliases) same a =
-        (record { id = id; parents = parents; ops = ops }, a.0, ap id_number (sym (same_id-true (any.Commit d) (any.Commit id) same)), refl)
+        (record { id = id; parents = parents; ops = ops }, a.0, ap id_number (sym (same_id_true (any.Commit d) (any.Commit id) same)), refl)
     here (Blob id mark bytes) same a = absurd (true≢false (sym same))
     here (Tag id name target tagger comment mark) same a = absurd (true≢false (sym same))
     here (Reset id branch target) same a = absurd (true≢false (sym same))
@@ -249,9 +249,9 @@ module _ (seconds : ℕ) (sel : List AnyId) (events : List PlainEvent) (h : IsSo
     each_left : (es : List PlainEvent) → has_id (flat_map (left_of its_set events its_joins) es) id ≡ has_id es id
     each_left [] = refl
     each_left (e ∷ es) =
-        has_id-append (left_of its_set events its_joins e) (flat_map (left_of its_set events its_joins) es) id
+        has_id_append (left_of its_set events its_joins e) (flat_map (left_of its_set events its_joins) es) id
         ∙ (λ i. one_left e i || each_left es i)
-        ∙ sym (has_id-append (e ∷ []) es id)
+        ∙ sym (has_id_append (e ∷ []) es id)
 
     others_stay : has_id (new seconds sel events h) id ≡ has_id events id
     others_stay =

@@ -11,9 +11,9 @@ use Rattle.plain_model.specs.declared.event.PlainEvent.TheVariants.{Blob, Commit
 use Rattle.plain_model.specs.Lookups.{children_of, commit_id, event_parents, find_event, id_number, id_of, is_listed, same_id}
 use Rattle.plain_model.specs.Soundness.{IsSound, has_id}
 use Rattle.history_laws.specs.Finding.{is_only}
-use Rattle.history_laws.proofs.Ids.{find-id, same_id-true}
+use Rattle.history_laws.proofs.Ids.{find_id, same_id_true}
 use Rattle.history_laws.specs.Once.{AreDistinct}
-use Rattle.history_laws.proofs.SoundOnce.{has_id-find, sound-once}
+use Rattle.history_laws.proofs.SoundOnce.{has_id_find, sound_once}
 use Rattle.squash_laws.specs.Removed.{is_removed}
 use Rattle.plan_steps.proofs.SweepLemmas.{listed_filter}
 use Rattle.coalesce_laws.specs.Coalesce.{are_near, is_joined_to, joined_ones}
@@ -73,8 +73,8 @@ module _ (seconds : ℕ) (sel : List AnyId) (events : List PlainEvent) where
   linked_agree (Commit i mark branch author committer encoding comment parents ops aliases) (Commit j mark2 branch2 author2 committer2 encoding2 comment2 parents2 ops2 aliases2) c d ps one two own f g only =
       let is_c : i ≡ c = same_Some i c one in
       let is_d : j ≡ d = same_Some j d two in
-      let known_i : has_id events (any.Commit i) ≡ true = has_id-find events (any.Commit i) ∙ ap is_some f in
-      let known_j : has_id events (any.Commit j) ≡ true = has_id-find events (any.Commit j) ∙ ap is_some g in
+      let known_i : has_id events (any.Commit i) ≡ true = has_id_find events (any.Commit i) ∙ ap is_some f in
+      let known_j : has_id events (any.Commit j) ≡ true = has_id_find events (any.Commit j) ∙ ap is_some g in
       let fits = bytes_eq branch branch2 && bytes_eq comment comment2 && are_near seconds committer committer2 in
       let its : is_only j (children_of i events) ≡ true =
       ap (is_only j) (only_is (children_of i events) j (ap (λ n. only_of (children_of n events)) is_c ∙ only ∙ ap (λ n. Some n) (sym is_d))) ∙ eq-eqb j j refl in
@@ -99,14 +99,14 @@ module _ (seconds : ℕ) (sel : List AnyId) (events : List PlainEvent) where
   module _ (h : IsSound events) where
     -- an event is among the joined ones where it passes
     pub listed_passes : (e : PlainEvent) → find_event (id_of e) events ≡ Some e → is_listed (id_of e) ones ≡ passes e
-    listed_passes e there = go events (sound-once events h).ids there
+    listed_passes e there = go events (sound_once events h).ids there
       where
         go : (es : List PlainEvent) → AreDistinct es → find_event (id_of e) es ≡ Some e → is_listed (id_of e) (map id_of (filter passes es)) ≡ passes e
         go [] once found = absurd (none-some e found)
         go (x ∷ es) once found = elim (cases_Bool (same_id (id_of e) (id_of x))) [
           | inl it ↦
               let is : x ≡ e = same_Some x e (rw it at found) in
-              let absent : find_event (id_of e) es ≡ None = ap (λ id. find_event id es) (same_id-true (id_of e) (id_of x) it) ∙ once.0 in
+              let absent : find_event (id_of e) es ≡ None = ap (λ id. find_event id es) (same_id_true (id_of e) (id_of x) it) ∙ once.0 in
               here (passes x) it (listed_filter passes es (id_of e) absent) ∙ ap passes is
           | inr other ↦ later (passes x) other (go es once.1 (rw other at found))
         ]
@@ -123,7 +123,7 @@ module _ (seconds : ℕ) (sel : List AnyId) (events : List PlainEvent) where
 
     module _ (c : ℕ) (e : PlainEvent) (at : find_event (any.Commit c) events ≡ Some e) where
       own : any.Commit c ≡ id_of e
-      own = find-id (any.Commit c) events e at
+      own = find_id (any.Commit c) events e at
 
       pub own_found : find_event (id_of e) events ≡ Some e
       own_found = ap (λ id. find_event id events) (sym own) ∙ at

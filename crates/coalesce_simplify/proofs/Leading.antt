@@ -9,7 +9,7 @@ use Rattle.plain_model.specs.declared.id.AnyId.TheVariants as any
 use Rattle.plain_model.specs.declared.event.PlainEvent.{PlainEvent}
 use Rattle.plain_model.specs.Lookups.{children_of, commit_id, find_event, id_number, id_of, place_of}
 use Rattle.plain_model.specs.Soundness.{IsSound}
-use Rattle.history_laws.proofs.SoundOnce.{sound-once}
+use Rattle.history_laws.proofs.SoundOnce.{sound_once}
 use Rattle.edit_laws.proofs.Children.{forward_at}
 use Rattle.graph_walk.proofs.PlaceLemmas.{place_found, place_within}
 use Rattle.squash_laws.specs.Removed.{is_removed}
@@ -42,7 +42,7 @@ module _ (set : List AnyId) (events : List PlainEvent) (h : IsSound events) (j :
       let d = id_number (id_of x.child) in
       let there : find_event (any.Commit d) events ≡ Some x.child = ap (λ id. find_event id events) (sym x.commit) ∙ x.there in
       let a = found_at events h d x.child there in
-      let once = (sound-once events h).ids in
+      let once = (sound_once events h).ids in
       let place_c : place_of (any.Commit c) events ≡ Some k = ap (λ id. place_of id events) (own_commit c e is) ∙ (place_found events k e at once).0 in
       let early = is_early events a.place c k once (first_known events h a.place c x.child a.at (ap (λ ps. slice_get ps 0) x.parent)) place_c in
       record {
@@ -69,7 +69,7 @@ module _ (set : List AnyId) (events : List PlainEvent) (h : IsSound events) (j :
   end_here c k x stays = sym (x.leads ∙ cond-false (is_removed set x.child) (forward_of set events x.child) (Some x.child) stays)
 
   within : (k : ℕ) (e : PlainEvent) → slice_get events k ≡ Some e → k < length events
-  within k e at = place_within events (id_of e) k (place_found events k e at (sound-once events h).ids).0
+  within k e at = place_within events (id_of e) k (place_found events k e at (sound_once events h).ids).0
 
   -- so it leads somewhere
   leads_on : (n k c : ℕ) (e : PlainEvent) → slice_get events k ≡ Some e → commit_id e ≡ Some c → is_removed set c ≡ true → length events ≤ k + n →

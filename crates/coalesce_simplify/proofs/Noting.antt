@@ -12,7 +12,7 @@ use Rattle.plain_model.specs.declared.operation.FileOp.TheVariants.{Modify, Dele
 use Rattle.plain_model.specs.declared.operation.Content.{Content}
 use Rattle.plain_model.specs.declared.operation.Mode.{Mode}
 use Rattle.plain_model.specs.Paths.{Bytes}
-use Rattle.event_arena.proofs.ListLemmas.{drop-item}
+use Rattle.event_arena.proofs.ListLemmas.{drop_item}
 use Rattle.simplify_laws.specs.Simplify.{is_void, simpler}
 use Rattle.coalesce_simplify.specs.Voiding.{AreVoid, Known, Knows, void_by}
 
@@ -83,7 +83,7 @@ pub pass_goes_on : (ops : List FileOp) (k : ℕ) (op : FileOp) (old new : Known)
     Knows (drop (suc k) ops) old → AreVoid ops (suc k) flags → flag ≡ void_by old op → (Knows (drop (suc k) ops) old → Knows (op ∷ drop (suc k) ops) new) →
     Knows (drop k ops) new × AreVoid ops k (set flags k flag)
 pass_goes_on ops k op old new flags flag at knows are is more = (
-  subst (λ (l : List FileOp). Knows l new) (sym (drop-item ops k op at)) (more knows),
+  subst (λ (l : List FileOp). Knows l new) (sym (drop_item ops k op at)) (more knows),
   record { count = length-set flags k flag ∙ are.count; flag = each },
 )
   where
@@ -106,14 +106,14 @@ stays_next ops left new k op flags are at stays so_far is =
     let void : is_void op (drop (suc k) ops) ≡ false = sym (are.flag k op at (omega arith)) ∙ stays in
     ap (λ (l : List FileOp). l ++ simpler (drop (suc k) ops)) is
     ∙ append_assoc left (op ∷ []) (simpler (drop (suc k) ops))
-    ∙ ap (λ (l : List FileOp). left ++ l) (sym (ap simpler (drop-item ops k op at) ∙ ap (λ b. cond b (simpler (drop (suc k) ops)) (op ∷ simpler (drop (suc k) ops))) void))
+    ∙ ap (λ (l : List FileOp). left ++ l) (sym (ap simpler (drop_item ops k op at) ∙ ap (λ b. cond b (simpler (drop (suc k) ops)) (op ∷ simpler (drop (suc k) ops))) void))
     ∙ so_far
 
 pub goes_next : (ops left : List FileOp) (k : ℕ) (op : FileOp) (flags : List Bool) → AreVoid ops 0 flags → slice_get ops k ≡ Some op → get_or flags k false ≡ true →
     left ++ simpler (drop k ops) ≡ simpler ops → left ++ simpler (drop (suc k) ops) ≡ simpler ops
 goes_next ops left k op flags are at goes so_far =
     let void : is_void op (drop (suc k) ops) ≡ true = sym (are.flag k op at (omega arith)) ∙ goes in
-    ap (λ (l : List FileOp). left ++ l) (sym (ap simpler (drop-item ops k op at) ∙ ap (λ b. cond b (simpler (drop (suc k) ops)) (op ∷ simpler (drop (suc k) ops))) void))
+    ap (λ (l : List FileOp). left ++ l) (sym (ap simpler (drop_item ops k op at) ∙ ap (λ b. cond b (simpler (drop (suc k) ops)) (op ∷ simpler (drop (suc k) ops))) void))
     ∙ so_far
 
 -- ---- no flag

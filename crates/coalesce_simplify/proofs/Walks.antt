@@ -14,7 +14,7 @@ use Rattle.plain_model.specs.Soundness.{IsSound, has_id}
 use Rattle.plain_model.specs.declared.operation.FileOp.{FileOp}
 use Rattle.history_laws.specs.FirstParents.{ops_along}
 use Rattle.ancestry_laws.proofs.Pasts.{known_past, linked_past}
-use Rattle.history_laws.proofs.SoundOnce.{has_id-find, sound-once}
+use Rattle.history_laws.proofs.SoundOnce.{has_id_find, sound_once}
 use Rattle.edit_laws.specs.Removal.{chain}
 use Rattle.edit_laws.proofs.Chains.{chain_other}
 use Rattle.edit_laws.proofs.Following.{chain_at, chain_none}
@@ -72,15 +72,15 @@ module _ (set : List AnyId) (events : List PlainEvent) where
       where
         go : (o : Option PlainEvent) → find_event (any.Commit p) events ≡ o → (b : Bool) → is_removed set p ≡ b → links set events (p ∷ ps) ≡ links_to (first_joined set events (p ∷ ps))
         go None absent b flag =
-            let lost : has_id events (any.Commit p) ≡ false = has_id-find events (any.Commit p) ∙ ap is_some absent in
+            let lost : has_id events (any.Commit p) ≡ false = has_id_find events (any.Commit p) ∙ ap is_some absent in
             chain_lost (is_removed set) (past events) p ps (known_past events p ∙ lost)
             ∙ sym (ap links_to (joined_is false p ps (ap (λ x. x && is_removed set p) lost)))
         go (Some e) found false flag =
-            let known : has_id events (any.Commit p) ≡ true = has_id-find events (any.Commit p) ∙ ap is_some found in
+            let known : has_id events (any.Commit p) ≡ true = has_id_find events (any.Commit p) ∙ ap is_some found in
             chain_none (is_removed set) (past events) p ps flag
             ∙ sym (ap links_to (joined_is false p ps (ap (λ x. x && is_removed set p) known ∙ flag)))
         go (Some e) found true flag =
-            let known : has_id events (any.Commit p) ≡ true = has_id-find events (any.Commit p) ∙ ap is_some found in
+            let known : has_id events (any.Commit p) ≡ true = has_id_find events (any.Commit p) ∙ ap is_some found in
             let own = found_parts p e found in
             chain_at (is_removed set) (past events) (linked_past events h) p ps (node_of p e) (found_node events h p e found) flag
             ∙ ap (λ (n : Node). links set events n.parents ++ n ∷ []) own
@@ -110,10 +110,10 @@ module _ (set : List AnyId) (events : List PlainEvent) where
     shallower d known = go (find_event (any.Commit d) events) refl
       where
         go : (o : Option PlainEvent) → find_event (any.Commit d) events ≡ o → option_map_or (depth events) (first_joined set events (parents_at events d)) 0 < depth events d
-        go None absent = absurd (true≢false (sym known ∙ has_id-find events (any.Commit d) ∙ ap is_some absent))
+        go None absent = absurd (true≢false (sym known ∙ has_id_find events (any.Commit d) ∙ ap is_some absent))
         go (Some e) found =
             let a = found_at events h d e found in
-            let once = (sound-once events h).ids in
+            let once = (sound_once events h).ids in
             let place : place_of (any.Commit d) events ≡ Some a.place = ap (λ id. place_of id events) a.own ∙ (place_found events a.place e a.at once).0 in
             let own = depth_at events d a.place place in
             let parents : parents_at events d ≡ event_parents e = ap (λ (o : Option PlainEvent). option_map_or event_parents o []) found in

@@ -215,9 +215,9 @@ no_fault_dashes m = refl
 
 -- ---- a word that begins with `-` and is no flag
 
-or_else-fails : (a b : Kinds) → Fails a → Fails (or_else a b)
-or_else-fails [] b h = absurd (h refl)
-or_else-fails (k ∷ ks) b h = some_kind k ks
+or_else_fails : (a b : Kinds) → Fails a → Fails (or_else a b)
+or_else_fails [] b h = absurd (h refl)
+or_else_fails (k ∷ ks) b h = some_kind k ks
 
 lacks : (xs : Bytes) → list_any (λ x. x == 61) xs ≡ false → Lacks 61 xs
 lacks [] h i lt e = absurd (omega arith)
@@ -284,11 +284,11 @@ wrong_word (c ∷ d ∷ rest) m h skip utf8 not_dashes not_flag is_opt =
 
 fault_turn : (w : Bytes) (m : Met) → IsUtf8 w → bytes_eq w (codes "--") ≡ false → bytes_eq w (codes "--keep-going") ≡ false → is_option w ≡ true →
     Fails (turn_fault top [] (state m false) w)
-fault_turn w nothing utf8 a b c = rw a (or_else-fails _ _ (wrong_word w nothing (held nothing) refl utf8 a b c))
-fault_turn w only_flag utf8 a b c = rw a (or_else-fails _ _ (wrong_word w nothing (held only_flag) refl utf8 a b c))
-fault_turn w (only_script x) utf8 a b c = rw a (or_else-fails _ _ (wrong_word w nothing (held (only_script x)) refl utf8 a b c))
-fault_turn w (flag_first x) utf8 a b c = rw a (or_else-fails _ _ (wrong_word w nothing (held (flag_first x)) refl utf8 a b c))
-fault_turn w (script_first x) utf8 a b c = rw a (or_else-fails _ _ (wrong_word w nothing (held (script_first x)) refl utf8 a b c))
+fault_turn w nothing utf8 a b c = rw a (or_else_fails _ _ (wrong_word w nothing (held nothing) refl utf8 a b c))
+fault_turn w only_flag utf8 a b c = rw a (or_else_fails _ _ (wrong_word w nothing (held only_flag) refl utf8 a b c))
+fault_turn w (only_script x) utf8 a b c = rw a (or_else_fails _ _ (wrong_word w nothing (held (only_script x)) refl utf8 a b c))
+fault_turn w (flag_first x) utf8 a b c = rw a (or_else_fails _ _ (wrong_word w nothing (held (flag_first x)) refl utf8 a b c))
+fault_turn w (script_first x) utf8 a b c = rw a (or_else_fails _ _ (wrong_word w nothing (held (script_first x)) refl utf8 a b c))
 
 -- ---- all the words
 
@@ -327,7 +327,7 @@ onward m n after later w ws line clean next h =
 -- a word that is wrong ends it
 stuck : (m : Met) (after : Bool) (w : Bytes) (ws : List Bytes) → Fails (turn_fault top [] (state m after) w) → Fails (fault_from m after (w ∷ ws))
 unfolding walk_fault
-stuck m after w ws h = or_else-fails _ _ (or_else-fails _ _ h)
+stuck m after w ws h = or_else_fails _ _ (or_else_fails _ _ h)
 
 abbrev pub AllUtf8 : List Bytes → Type 0
 AllUtf8 [] = Unit {0}

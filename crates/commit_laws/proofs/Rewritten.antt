@@ -18,7 +18,7 @@ use Rattle.edit_laws.specs.Equations.{Fits}
 use Rattle.edit_laws.specs.Parts.{AreInOrder, AreOnce, CanBeSettled, HasFewParents, IsAbove, IsLawful, IsLawfulOp, of_id, of_mark, one_if, tally}
 use Rattle.edit_laws.specs.Settling.{is_ready}
 use Rattle.history_laws.proofs.Lists.{all_imply, all_join}
-use Rattle.history_laws.proofs.Ids.{has_id-append}
+use Rattle.history_laws.proofs.Ids.{has_id_append}
 use Rattle.edit_laws.specs.Keeping.{HasOperationsOf}
 use Rattle.edit_laws.proofs.Fine.{IsFine, There, fine_formed, fine_lawful, fine_there}
 use Rattle.edit_laws.proofs.Lists.{OfNodes, all_rear, all_true, events_of_nodes, own_id, true_all}
@@ -51,9 +51,9 @@ module _ (c : ℕ) (how : Rewrite) where
   pub ids_same : (es : List PlainEvent) (id : AnyId) → has_id (rewritten_all c how es) id ≡ has_id es id
   ids_same [] id = refl
   ids_same (e ∷ es) id =
-      has_id-append (new_of e ∷ []) (rewritten_all c how es) id
+      has_id_append (new_of e ∷ []) (rewritten_all c how es) id
       ∙ (λ i. one_same e id i || ids_same es id i)
-      ∙ sym (has_id-append (e ∷ []) es id)
+      ∙ sym (has_id_append (e ∷ []) es id)
 
   mark_same : (m : ℕ) (e : PlainEvent) → of_mark m (new_of e) ≡ of_mark m e
   mark_same m (Commit id mark branch author committer encoding comment parents ops aliases) =

@@ -12,7 +12,7 @@ use Rattle.plain_model.specs.Lookups.{id_of, is_listed}
 use Rattle.plain_model.specs.Soundness.{IsSound, are_distinct, has_id}
 use Rattle.edit_laws.specs.Parts.{of_id, one_if, tally}
 use Rattle.plain_model.proofs.Numbers.{eqb_turned}
-use Rattle.history_laws.proofs.Ids.{has_id-append}
+use Rattle.history_laws.proofs.Ids.{has_id_append}
 use Rattle.edit_laws.proofs.Lists.{some_passing}
 use Rattle.edit_laws.proofs.Sound.{in_parts}
 use Rattle.commit_laws.specs.Selected.{chosen, listed}
@@ -54,9 +54,9 @@ module _ (set : List AnyId) where
   abbrev first_if : Bool → ℕ → List PlainEvent → List ℕ
   first_if b c es = cond b (c ∷ listed set es) (listed set es)
 
-  listed-cons : (b : Bool) (i : ℕ) (n : Node) (es : List PlainEvent) → map (λ (m : Node). m.id) (cond b (n ∷ filter (λ m. is_listed (any.Commit m.id) set) (nodes es)) (filter (λ m. is_listed (any.Commit m.id) set) (nodes es))) ≡ first_if b n.id es
-  listed-cons true i n es = refl
-  listed-cons false i n es = refl
+  listed_cons : (b : Bool) (i : ℕ) (n : Node) (es : List PlainEvent) → map (λ (m : Node). m.id) (cond b (n ∷ filter (λ m. is_listed (any.Commit m.id) set) (nodes es)) (filter (λ m. is_listed (any.Commit m.id) set) (nodes es))) ≡ first_if b n.id es
+  listed_cons true i n es = refl
+  listed_cons false i n es = refl
 
   -- what is true of the commits of a list is true of those
   listed_all : (P : ℕ → Type 0) (es : List PlainEvent) → AllByRecursion (λ (n : Node). P n.id) (nodes es) → AllByRecursion P (listed set es)
@@ -64,7 +64,7 @@ module _ (set : List AnyId) where
   listed_all P (Commit i mark branch author committer encoding comment parents ops aliases ∷ es) a =
       let n : Node = record { id = i; parents = parents; ops = ops } in
       let rest = listed_all P es a.1 in
-      subst (AllByRecursion P) (sym (listed-cons (is_listed (any.Commit i) set) i n es)) (elim (is_listed (any.Commit i) set) as (λ b. AllByRecursion P (first_if b i es)) [ true ↦ (a.0, rest) | false ↦ rest ])
+      subst (AllByRecursion P) (sym (listed_cons (is_listed (any.Commit i) set) i n es)) (elim (is_listed (any.Commit i) set) as (λ b. AllByRecursion P (first_if b i es)) [ true ↦ (a.0, rest) | false ↦ rest ])
   listed_all P (Blob i mark bytes ∷ es) a = listed_all P es a
   listed_all P (Tag i name target tagger comment mark ∷ es) a = listed_all P es a
   listed_all P (Reset i branch target ∷ es) a = listed_all P es a
@@ -75,7 +75,7 @@ module _ (set : List AnyId) where
   in_list [] x h = absurd (true≢false (sym h))
   in_list (Commit i mark branch author committer encoding comment parents ops aliases ∷ es) x h =
       let n : Node = record { id = i; parents = parents; ops = ops } in
-      go (is_listed (any.Commit i) set) (ap (list_any (λ m. m == x)) (sym (listed-cons (is_listed (any.Commit i) set) i n es)) ∙ h) (in_list es x)
+      go (is_listed (any.Commit i) set) (ap (list_any (λ m. m == x)) (sym (listed_cons (is_listed (any.Commit i) set) i n es)) ∙ h) (in_list es x)
     where
       go : (b : Bool) → list_any (λ m. m == x) (first_if b i es) ≡ true → (list_any (λ m. m == x) (listed set es) ≡ true → IsHere es x) → (i == x) || has_id es (any.Commit x) ≡ true
       go true h f = elim (or_cases (i == x) (list_any (λ m. m == x) (listed set es)) h) [
@@ -93,7 +93,7 @@ module _ (set : List AnyId) where
   in_set [] x h = absurd (true≢false (sym h))
   in_set (Commit i mark branch author committer encoding comment parents ops aliases ∷ es) x h =
       let n : Node = record { id = i; parents = parents; ops = ops } in
-      go (is_listed (any.Commit i) set) refl (ap (list_any (λ m. m == x)) (sym (listed-cons (is_listed (any.Commit i) set) i n es)) ∙ h) (in_set es x)
+      go (is_listed (any.Commit i) set) refl (ap (list_any (λ m. m == x)) (sym (listed_cons (is_listed (any.Commit i) set) i n es)) ∙ h) (in_set es x)
     where
       go : (b : Bool) → is_listed (any.Commit i) set ≡ b → list_any (λ m. m == x) (first_if b i es) ≡ true → (list_any (λ m. m == x) (listed set es) ≡ true → is_listed (any.Commit x) set ≡ true) → is_listed (any.Commit x) set ≡ true
       go true is h f = elim (or_cases (i == x) (list_any (λ m. m == x) (listed set es)) h) [
@@ -111,7 +111,7 @@ module _ (set : List AnyId) where
   in_both [] x l h = absurd (true≢false (sym h))
   in_both (Commit i mark branch author committer encoding comment parents ops aliases ∷ es) x l h =
       let n : Node = record { id = i; parents = parents; ops = ops } in
-      ap (list_any (λ m. m == x)) (listed-cons (is_listed (any.Commit i) set) i n es)
+      ap (list_any (λ m. m == x)) (listed_cons (is_listed (any.Commit i) set) i n es)
       ∙ elim (or_cases (i == x) (has_id es (any.Commit x)) h) [
         | inl it ↦ ap (λ b. list_any (λ m. m == x) (first_if b i es)) (ap (λ k. is_listed (any.Commit k) set) (eqb-true i x it) ∙ l) ∙ or_left (i == x) (list_any (λ m. m == x) (listed set es)) it
         | inr later ↦ more (is_listed (any.Commit i) set) (in_both es x l later)
@@ -129,7 +129,7 @@ module _ (set : List AnyId) where
   not_again : (i mark : ℕ) (e : PlainEvent) (es : List PlainEvent) → of_id (any.Commit i) e ≡ 1 → tally (of_id (any.Commit i)) (e ∷ es) ≤ 1 → has_id es (any.Commit i) ≡ false
   not_again i mark e es own once =
       elim (cases_Bool (has_id es (any.Commit i))) [
-        | inl there ↦ let some = some_passing (λ l. has_id l (any.Commit i)) (λ xs ys. has_id-append xs ys (any.Commit i)) refl es there in absurd (omega arith)
+        | inl there ↦ let some = some_passing (λ l. has_id l (any.Commit i)) (λ xs ys. has_id_append xs ys (any.Commit i)) refl es there in absurd (omega arith)
         | inr absent ↦ absent
       ]
 
@@ -141,7 +141,7 @@ module _ (set : List AnyId) where
   distinct_on (Commit i mark branch author committer encoding comment parents ops aliases ∷ es) o =
       let n : Node = record { id = i; parents = parents; ops = ops } in
       let e : PlainEvent = Commit i mark branch author committer encoding comment parents ops aliases in
-      ap are_distinct (listed-cons (is_listed (any.Commit i) set) i n es)
+      ap are_distinct (listed_cons (is_listed (any.Commit i) set) i n es)
       ∙ go (is_listed (any.Commit i) set) (distinct_on es (later_once e es o)) (not_again i mark e es (ap (λ b. one_if (b || false)) (eq-eqb i i refl)) (o (any.Commit i)))
     where
       go : (b : Bool) → are_distinct (listed set es) ≡ true → has_id es (any.Commit i) ≡ false → are_distinct (first_if b i es) ≡ true
@@ -178,7 +178,7 @@ module _ (set : List AnyId) where
   low_before low high apart [] (Commit i mark branch author committer encoding comment parents ops aliases) es is h =
       let same : i ≡ high = cc in
       let n : Node = record { id = i; parents = parents; ops = ops } in
-      go (is_listed (any.Commit i) set) refl same (sym (listed-cons (is_listed (any.Commit i) set) i n es) ∙ h)
+      go (is_listed (any.Commit i) set) refl same (sym (listed_cons (is_listed (any.Commit i) set) i n es) ∙ h)
     where
       go : (b : Bool) → is_listed (any.Commit i) set ≡ b → i ≡ high → first_if b i es ≡ low ∷ high ∷ [] → IsHere [] low
       go true it same h = let first : i ≡ low = cc in absurd (apart (sym first ∙ same))
@@ -191,7 +191,7 @@ module _ (set : List AnyId) where
   low_before low high apart [] (Pass i line) es is h = absurd cc
   low_before low high apart (Commit i mark branch author committer encoding comment parents ops aliases ∷ xs) e es is h =
       let n : Node = record { id = i; parents = parents; ops = ops } in
-      go (is_listed (any.Commit i) set) (sym (listed-cons (is_listed (any.Commit i) set) i n (xs ++ e ∷ es)) ∙ h) (low_before low high apart xs e es is)
+      go (is_listed (any.Commit i) set) (sym (listed_cons (is_listed (any.Commit i) set) i n (xs ++ e ∷ es)) ∙ h) (low_before low high apart xs e es is)
     where
       go : (b : Bool) → first_if b i (xs ++ e ∷ es) ≡ low ∷ high ∷ [] → (listed set (xs ++ e ∷ es) ≡ low ∷ high ∷ [] → IsHere xs low) → (i == low) || has_id xs (any.Commit low) ≡ true
       go true h f = let first : i ≡ low = cc in or_left (i == low) (has_id xs (any.Commit low)) (ap (λ k. i == k) (sym first) ∙ eq-eqb i i refl)

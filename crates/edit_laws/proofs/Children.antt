@@ -14,7 +14,7 @@ use Rattle.edit_laws.specs.Removal.{forward}
 use Rattle.edit_laws.specs.Settling.{is_ready}
 use Rattle.edit_laws.proofs.Lists.{all_front, all_true}
 use Rattle.history_laws.proofs.Commits.{nodes_append}
-use Rattle.history_laws.proofs.Ids.{has_id-append}
+use Rattle.history_laws.proofs.Ids.{has_id_append}
 use Rattle.history_laws.proofs.Lists.{all_join}
 use Rattle.std.proofs.Common.{eq-eqb}
 use Rattle.edit_laws.proofs.Sound.{in_parts, new_there}
@@ -46,7 +46,7 @@ no_child : (earlier es : List PlainEvent) (c : ℕ) → has_id (earlier ++ es) (
     AreInOrder earlier es → AllByRecursion (IsNoChild c) (nodes es)
 no_child earlier [] c absent s = tt
 no_child earlier (e ∷ es) c absent s =
-    let parts = or_parts (has_id earlier (any.Commit c)) (has_id (e ∷ es) (any.Commit c)) (sym (has_id-append earlier (e ∷ es) (any.Commit c)) ∙ absent) in
+    let parts = or_parts (has_id earlier (any.Commit c)) (has_id (e ∷ es) (any.Commit c)) (sym (has_id_append earlier (e ∷ es) (any.Commit c)) ∙ absent) in
     subst (AllByRecursion (IsNoChild c)) (sym (nodes_append (e ∷ []) es))
     (all_join (IsNoChild c) (nodes (e ∷ [])) (nodes es) (no_child_event earlier c parts.0 e s.0)
     (no_child (earlier ++ e ∷ []) es c (ap (λ (l : List PlainEvent). has_id l (any.Commit c)) (append_assoc earlier (e ∷ []) es) ∙ absent) s.1))

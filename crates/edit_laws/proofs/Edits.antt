@@ -7,7 +7,7 @@ use Rattle.plain_model.specs.declared.id.AnyId.TheVariants as any
 use Rattle.plain_model.specs.declared.event.PlainEvent.{PlainEvent}
 use Rattle.plain_model.specs.Lookups.{AreIdsBelow}
 use Rattle.plain_model.specs.Soundness.{has_id}
-use Rattle.history_laws.proofs.SoundOnce.{has_id-find}
+use Rattle.history_laws.proofs.SoundOnce.{has_id_find}
 use Rattle.edit_laws.specs.Editing.{IsEdit, IsLawfulHistory, LeavesLawful, with_number}
 use Rattle.edit_laws.specs.Selecting.{IsSelection}
 
@@ -17,11 +17,11 @@ unspent events next below = go (has_id events (any.Commit next)) refl
   where
     go : (b : Bool) → has_id events (any.Commit next) ≡ b → b ≡ false
     go false e = refl
-    go true e = let low = below (any.Commit next) (sym (has_id-find events (any.Commit next)) ∙ e) in absurd (omega arith)
+    go true e = let low = below (any.Commit next) (sym (has_id_find events (any.Commit next)) ∙ e) in absurd (omega arith)
 
 -- a bound of the ids is one where no event comes
 pub fewer_below : (events new : List PlainEvent) (next : ℕ) → ((id : AnyId) → IsTrue (has_id new id) → IsTrue (has_id events id)) → AreIdsBelow next events → AreIdsBelow next new
-fewer_below events new next nothing below id there = below id (sym (has_id-find events id) ∙ nothing id (has_id-find new id ∙ there))
+fewer_below events new next nothing below id there = below id (sym (has_id_find events id) ∙ nothing id (has_id_find new id ∙ there))
 
 -- an edit that gives ids below a number
 pub edit_with : (number : ℕ → ℕ) (edit : List AnyId → ℕ → List PlainEvent → Result (List PlainEvent) Fault) → ((next : ℕ) → next ≤ number next)

@@ -10,7 +10,7 @@ use Rattle.plain_model.specs.declared.event.PlainEvent.TheVariants.{Blob, Commit
 use Rattle.plain_model.specs.Histories.{Node, nodes}
 use Rattle.plain_model.specs.Lookups.{id_of, same_id}
 use Rattle.plain_model.specs.Soundness.{has_id}
-use Rattle.history_laws.proofs.Ids.{has_id-append, has_id-cons, same_id-refl}
+use Rattle.history_laws.proofs.Ids.{has_id_append, has_id_cons, same_id_refl}
 use Rattle.history_laws.proofs.Lists.{all_imply, all_join}
 use Rattle.edit_laws.specs.Parts.{tally, one_if, of_id}
 
@@ -57,10 +57,10 @@ all_among P (x ∷ xs) h =
 
 -- an event has its own id, and no other
 pub own_id : (e : PlainEvent) (id : AnyId) → has_id (e ∷ []) id ≡ same_id id (id_of e)
-own_id e id = has_id-cons e [] id ∙ or-false (same_id id (id_of e))
+own_id e id = has_id_cons e [] id ∙ or-false (same_id id (id_of e))
 
 pub has_own_id : (e : PlainEvent) → has_id (e ∷ []) (id_of e) ≡ true
-has_own_id e = own_id e (id_of e) ∙ same_id-refl (id_of e)
+has_own_id e = own_id e (id_of e) ∙ same_id_refl (id_of e)
 
 -- ---- sums
 
@@ -162,6 +162,6 @@ own_sum id x e same = ap one_if (own_id x id ∙ ap (same_id id) same ∙ sym (o
 pub own_here : (es : List PlainEvent) → AllByRecursion (λ e. has_id es (id_of e) ≡ true) es
 own_here [] = tt
 own_here (e ∷ es) = (
-  has_id-append (e ∷ []) es (id_of e) ∙ or_left (has_id (e ∷ []) (id_of e)) (has_id es (id_of e)) (has_own_id e),
-  all_imply (λ x. has_id es (id_of x) ≡ true) (λ x. has_id (e ∷ es) (id_of x) ≡ true) (λ x k. has_id-append (e ∷ []) es (id_of x) ∙ or_right (has_id (e ∷ []) (id_of x)) (has_id es (id_of x)) k) es (own_here es),
+  has_id_append (e ∷ []) es (id_of e) ∙ or_left (has_id (e ∷ []) (id_of e)) (has_id es (id_of e)) (has_own_id e),
+  all_imply (λ x. has_id es (id_of x) ≡ true) (λ x. has_id (e ∷ es) (id_of x) ≡ true) (λ x k. has_id_append (e ∷ []) es (id_of x) ∙ or_right (has_id (e ∷ []) (id_of x)) (has_id es (id_of x)) k) es (own_here es),
 )

@@ -11,7 +11,7 @@ use Rattle.plain_model.specs.Soundness.{has_id}
 use Rattle.edit_laws.specs.Parts.{one_if, tally}
 use Rattle.edit_laws.specs.Settling.{settle}
 use Rattle.edit_laws.specs.Sweeping.{is_left_over, is_named, swept}
-use Rattle.history_laws.proofs.Ids.{has_id-append}
+use Rattle.history_laws.proofs.Ids.{has_id_append}
 use Rattle.edit_laws.proofs.Lists.{none_passing, some_passing}
 use Rattle.edit_laws.proofs.Settles.{settled_ids, settled_sums}
 
@@ -93,7 +93,7 @@ module _ (old new : List PlainEvent) where
       ]
     where
       more : (l : List PlainEvent) → has_id (e ∷ l) (any.Blob b) ≡ has_id (e ∷ []) (any.Blob b) || has_id l (any.Blob b)
-      more l = has_id-append (e ∷ []) l (any.Blob b)
+      more l = has_id_append (e ∷ []) l (any.Blob b)
 
       it : has_id (e ∷ []) (any.Blob b) ≡ true → (k : Bool) → kept e ≡ k → has_id (filter kept es) (any.Blob b) ≡ has_id es (any.Blob b) && k
           → has_id (cond (kept e) (e ∷ filter kept es) (filter kept es)) (any.Blob b) ≡ has_id (e ∷ es) (any.Blob b) && k

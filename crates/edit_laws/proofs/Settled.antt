@@ -17,7 +17,7 @@ use Rattle.plain_model.specs.Soundness.{has_id}
 use Rattle.edit_laws.specs.Settling.{first_ready, is_ready, settle, settle_on}
 use Rattle.edit_laws.specs.Parts.{AreComplete, AreInOrder, CanBeNumbered, IsAbove, tally}
 use Rattle.edit_laws.proofs.Lists.{all_front, all_rear, all_true, has_own_id, tally_append, OfNodes, nodes_of_events}
-use Rattle.history_laws.proofs.Ids.{has_id-append, has_id-cons, same_id-true}
+use Rattle.history_laws.proofs.Ids.{has_id_append, has_id_cons, same_id_true}
 use Rattle.history_laws.proofs.Lists.{all_join}
 
 abbrev pub Pick : Type 0
@@ -59,7 +59,7 @@ picked P taken (x ∷ es) a e rest h = go (is_ready taken x) refl (first_ready t
     go true y o z w f =
         let pair : ◌≡◌ {A = PlainEvent × List PlainEvent} (x, es) (e, rest) = cc in
         subst (λ (p : PlainEvent × List PlainEvent). Picks P taken (x ∷ es) p.0 p.1) pair
-        (record { ready = y; its = a.0; others = a.1; sums = λ f. refl; ids = λ id. has_id-append (x ∷ []) es id; fewer = refl })
+        (record { ready = y; its = a.0; others = a.1; sums = λ f. refl; ids = λ id. has_id_append (x ∷ []) es id; fewer = refl })
     go false y None z w f = absurd cc
     go false y (Some r) z w f =
         let pair : ◌≡◌ {A = PlainEvent × List PlainEvent} (r.0, x ∷ r.1) (e, rest) = cc in
@@ -70,10 +70,10 @@ picked P taken (x ∷ es) a e rest h = go (is_ready taken x) refl (first_ready t
           others = (a.0, p.others);
           sums = λ f. let it = p.sums f in omega arith;
           ids = λ id.
-              has_id-append (x ∷ []) es id
+              has_id_append (x ∷ []) es id
               ∙ ap (λ b. has_id (x ∷ []) id || b) (p.ids id)
               ∙ either_order (has_id (x ∷ []) id) (has_id (r.0 ∷ []) id) (has_id r.1 id)
-              ∙ ap (λ b. has_id (r.0 ∷ []) id || b) (sym (has_id-append (x ∷ []) r.1 id));
+              ∙ ap (λ b. has_id (r.0 ∷ []) id || b) (sym (has_id_append (x ∷ []) r.1 id));
           fewer = ap suc p.fewer;
         })
 
@@ -115,7 +115,7 @@ settles P (suc n) taken (e ∷ es) new s a b h = go (first_ready taken (e ∷ es
           sums = λ g. let one = k.sums g in let two = p.sums g in let three = tally_append g taken (r.0 ∷ []) in omega arith;
           ids = λ id.
               k.ids id
-              ∙ ap (λ b. b || has_id r.1 id) (has_id-append taken (r.0 ∷ []) id)
+              ∙ ap (λ b. b || has_id r.1 id) (has_id_append taken (r.0 ∷ []) id)
               ∙ or_assoc (has_id taken id) (has_id (r.0 ∷ []) id) (has_id r.1 id)
               ∙ ap (λ b. has_id taken id || b) (sym (p.ids id));
         }
@@ -141,8 +141,8 @@ found : (P : PlainEvent → Type 0) (es : List PlainEvent) (id : AnyId) → AllB
     (e : PlainEvent) × (id ≡ id_of e) × P e × ((taken : List PlainEvent) → is_ready taken e ≡ true → is_some (first_ready taken es) ≡ true)
 found P [] id a h = absurd (true≢false (sym h))
 found P (x ∷ es) id a h =
-    elim (or_cases (same_id id (id_of x)) (has_id es id) (sym (has_id-cons x es id) ∙ h)) [
-      | inl here ↦ (x, same_id-true id (id_of x) here, a.0, λ taken r. first taken r)
+    elim (or_cases (same_id id (id_of x)) (has_id es id) (sym (has_id_cons x es id) ∙ h)) [
+      | inl here ↦ (x, same_id_true id (id_of x) here, a.0, λ taken r. first taken r)
       | inr later ↦
           let f = found P es id a.1 later in
           (f.0, f.1, f.2, λ taken r. after taken (is_ready taken x) (first_ready taken es) (f.3 taken r))
@@ -197,7 +197,7 @@ module _ (number : AnyId → ℕ) (world : AnyId → Bool) where
   comes_to_its_end n taken [] few w a = (taken, refl)
   comes_to_its_end zero taken (e ∷ es) few w a = absurd (omega arith)
   comes_to_its_end (suc n) taken (e ∷ es) few w a =
-      let own : has_id (e ∷ es) (id_of e) ≡ true = has_id-append (e ∷ []) es (id_of e) ∙ ap (λ b. b || has_id es (id_of e)) (has_own_id e) in
+      let own : has_id (e ∷ es) (id_of e) ≡ true = has_id_append (e ∷ []) es (id_of e) ∙ ap (λ b. b || has_id es (id_of e)) (has_own_id e) in
       go (first_ready taken (e ∷ es)) refl (some_ready taken (e ∷ es) w a (suc (number (id_of e))) (id_of e) own (omega arith))
       (λ f r x.
       let p = picked IsNumbered taken (e ∷ es) a f r x in
@@ -207,7 +207,7 @@ module _ (number : AnyId → ℕ) (world : AnyId → Bool) where
       w id
       ∙ ap (λ b. has_id taken id || b) (p.ids id)
       ∙ sym (or_assoc (has_id taken id) (has_id (f ∷ []) id) (has_id r id))
-      ∙ ap (λ b. b || has_id r id) (sym (has_id-append taken (f ∷ []) id)))
+      ∙ ap (λ b. b || has_id r id) (sym (has_id_append taken (f ∷ []) id)))
       p.others)
     where
       go : (o : Pick) → first_ready taken (e ∷ es) ≡ o → is_some o ≡ true

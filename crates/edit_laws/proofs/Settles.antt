@@ -14,7 +14,7 @@ use Rattle.edit_laws.specs.Parts.{AreInOrder, AreOnce, CanBeSettled, HasFewParen
 use Rattle.edit_laws.specs.Settling.{is_ready, settle}
 use Rattle.edit_laws.specs.Sweeping.{is_left_over, swept}
 use Rattle.edit_laws.proofs.Lists.{all_filter, all_true, true_all, nodes_of_events, events_of_nodes, OfNodes, tally_filter}
-use Rattle.history_laws.proofs.Ids.{has_id-append}
+use Rattle.history_laws.proofs.Ids.{has_id_append}
 use Rattle.history_laws.proofs.Lists.{all_imply}
 use Rattle.edit_laws.proofs.Fine.{IsFine, fine, ready_ops}
 use Rattle.edit_laws.proofs.Numbered.{sound_numbered}
@@ -28,7 +28,7 @@ use Rattle.edit_laws.proofs.Trees.{trees_solve}
 -- what is ready after some events is ready after more
 more_ready : (xs ys : List PlainEvent) (e : PlainEvent) → is_ready xs e ≡ true → is_ready (xs ++ ys) e ≡ true
 more_ready xs ys e h = true_all (has_id (xs ++ ys)) (referents_of e)
-    (all_imply (λ r. has_id xs r ≡ true) (λ r. has_id (xs ++ ys) r ≡ true) (λ r k. has_id-append xs ys r ∙ ap (λ b. b || has_id ys r) k) (referents_of e) (all_true (has_id xs) (referents_of e) h))
+    (all_imply (λ r. has_id xs r ≡ true) (λ r. has_id (xs ++ ys) r ≡ true) (λ r k. has_id_append xs ys r ∙ ap (λ b. b || has_id ys r) k) (referents_of e) (all_true (has_id xs) (referents_of e) h))
 
 complete : (earlier events : List PlainEvent) → AreInOrder earlier events →
     AllByRecursion (λ e. IsTrue (is_ready (earlier ++ events) e)) events

@@ -21,7 +21,7 @@ use Rattle.ancestry_laws.proofs.Descent.{all_here}
 use Rattle.std.proofs.lemmas.Bool.{or_left}
 use Rattle.plain_model.specs.Streams.{is_among}
 use Rattle.edit_laws.proofs.Lists.{all_among, all_front, all_rear, all_true, true_all, has_own_id, not_before, own_id, still_once}
-use Rattle.history_laws.proofs.Ids.{has_id-append, is_marked-append, same_id-true}
+use Rattle.history_laws.proofs.Ids.{has_id_append, is_marked_append, same_id_true}
 use Rattle.history_laws.proofs.Lists.{all_join}
 use Rattle.std.proofs.Common.{eq-eqb}
 use Rattle.edit_laws.proofs.Fine.{There}
@@ -171,10 +171,10 @@ parts_event earlier (Pass id line) h = (h.new, h.lawful)
 -- ---- all events
 
 ids_join : (id : AnyId) (xs ys : List PlainEvent) → has_id (xs ++ ys) id ≡ has_id xs id || has_id ys id
-ids_join id xs ys = has_id-append xs ys id
+ids_join id xs ys = has_id_append xs ys id
 
 marks_join : (m : ℕ) (xs ys : List PlainEvent) → is_marked (xs ++ ys) m ≡ is_marked xs m || is_marked ys m
-marks_join m xs ys = is_marked-append xs ys m
+marks_join m xs ys = is_marked_append xs ys m
 
 lawful_parts : (earlier events : List PlainEvent) → AreSoundAfter earlier events →
     AllByRecursion IsLawful events × AllByRecursion HasFewParents events × AreInOrder earlier events
@@ -192,7 +192,7 @@ ids_once id earlier (e ∷ es) h once =
     subst (λ (l : List PlainEvent). tally (of_id id) l ≤ 1) (append_assoc earlier (e ∷ []) es)
     (ids_once id (earlier ++ e ∷ []) es h.1
     (still_once (λ l. has_id l id) (ids_join id) refl earlier e once
-    (λ own. ap (has_id earlier) (same_id-true id (id_of e) (sym (own_id e id) ∙ own)) ∙ one.new)))
+    (λ own. ap (has_id earlier) (same_id_true id (id_of e) (sym (own_id e id) ∙ own)) ∙ one.new)))
 
 marks_once : (m : ℕ) (earlier events : List PlainEvent) → AreSoundAfter earlier events → tally (of_mark m) earlier ≤ 1 →
     tally (of_mark m) (earlier ++ events) ≤ 1

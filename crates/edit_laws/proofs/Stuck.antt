@@ -12,7 +12,7 @@ use Rattle.plain_model.specs.Soundness.{has_id}
 use Rattle.edit_laws.specs.Settling.{first_commit_mark, first_ready, is_ready, settle, settle_on}
 use Rattle.edit_laws.specs.Parts.{AreComplete}
 use Rattle.edit_laws.proofs.Lists.{all_true, true_all}
-use Rattle.history_laws.proofs.Ids.{has_id-append}
+use Rattle.history_laws.proofs.Ids.{has_id_append}
 use Rattle.edit_laws.proofs.Settled.{Pick, first_or, go_on, picked}
 
 -- what is left when settling stops
@@ -51,7 +51,7 @@ stops P (suc n) taken (e ∷ es) left a few h = go (first_ready taken (e ∷ es)
           ids = λ id.
               ap (λ b. has_id taken id || b) (p.ids id)
               ∙ sym (or_assoc (has_id taken id) (has_id (r.0 ∷ []) id) (has_id r.1 id))
-              ∙ ap (λ b. b || has_id r.1 id) (sym (has_id-append taken (r.0 ∷ []) id))
+              ∙ ap (λ b. b || has_id r.1 id) (sym (has_id_append taken (r.0 ∷ []) id))
               ∙ s.ids id;
           some_left = s.some_left;
           all = s.all;

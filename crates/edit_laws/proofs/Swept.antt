@@ -14,7 +14,7 @@ use Rattle.edit_laws.specs.Parts.{AreComplete, AreInOrder}
 use Rattle.edit_laws.specs.Settling.{is_ready}
 use Rattle.edit_laws.specs.Sweeping.{is_left_over, is_named, swept}
 use Rattle.edit_laws.proofs.Lists.{all_filter, all_true, true_all}
-use Rattle.history_laws.proofs.Ids.{has_id-append, same_id-refl}
+use Rattle.history_laws.proofs.Ids.{has_id_append, same_id_refl}
 use Rattle.history_laws.proofs.Lists.{all_imply}
 use Rattle.edit_laws.specs.Keeping.{IsNoBlob}
 
@@ -23,7 +23,7 @@ use Rattle.edit_laws.specs.Keeping.{IsNoBlob}
 each_listed : (ids : List AnyId) → AllByRecursion (λ r. is_listed r ids ≡ true) ids
 each_listed [] = tt
 each_listed (id ∷ ids) = (
-  or_left (same_id id id) (is_listed id ids) (same_id-refl id),
+  or_left (same_id id id) (is_listed id ids) (same_id_refl id),
   all_imply (λ r. is_listed r ids ≡ true) (λ r. is_listed r (id ∷ ids) ≡ true) (λ r h. or_right (same_id r id) (is_listed r ids) h) ids (each_listed ids),
 )
 
@@ -94,13 +94,13 @@ module _ (old new : List PlainEvent) where
       elim (cases_Bool (kept e)) [
         | inl here ↦
             ap (λ b. has_id (cond b (e ∷ filter kept es) (filter kept es)) id) here
-            ∙ has_id-append (e ∷ []) (filter kept es) id
+            ∙ has_id_append (e ∷ []) (filter kept es) id
             ∙ ap (λ b. has_id (e ∷ []) id || b) rest
-            ∙ sym (has_id-append (e ∷ []) es id)
+            ∙ sym (has_id_append (e ∷ []) es id)
         | inr gone ↦
             ap (λ b. has_id (cond b (e ∷ filter kept es) (filter kept es)) id) gone
             ∙ rest
-            ∙ sym (has_id-append (e ∷ []) es id ∙ ap (λ b. b || has_id es id) (not_it e id safe gone))
+            ∙ sym (has_id_append (e ∷ []) es id ∙ ap (λ b. b || has_id es id) (not_it e id safe gone))
       ]
 
   safe_refs : (e : PlainEvent) → AreNamed new e → (ids : List AnyId) →

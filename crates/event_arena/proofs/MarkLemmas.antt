@@ -20,11 +20,11 @@ self : (n : ℕ) → eqb n n ≡ true
 self n = grind (arith, nat_tests)
 
 -- each mark that occurs once is looked up
-each-found : (ms : List (ℕ × AnyId)) → AreMarkedOnce ms → All (λ m. lookup (λ n. eqb m.0 n) ms ≡ Some m.1) ms
-each-found [] once k d h = absurd (omega arith)
-each-found (m ∷ ms) once zero d h = rw (self m.0) refl
-each-found (m ∷ ms) once (suc k) d h =
-    let later = each-found ms once.1 k d (omega arith) in
+each_found : (ms : List (ℕ × AnyId)) → AreMarkedOnce ms → All (λ m. lookup (λ n. eqb m.0 n) ms ≡ Some m.1) ms
+each_found [] once k d h = absurd (omega arith)
+each_found (m ∷ ms) once zero d h = rw (self m.0) refl
+each_found (m ∷ ms) once (suc k) d h =
+    let later = each_found ms once.1 k d (omega arith) in
     let it = get_or ms k d in
     elim (cases_Bool (eqb it.0 m.0)) [
       | inl same ↦ absurd (none-some it.1 (sym once.0 ∙ ap (λ x. lookup (λ n. eqb x n) ms) (sym (eqb-true it.0 m.0 same)) ∙ later))
@@ -32,29 +32,29 @@ each-found (m ∷ ms) once (suc k) d h =
     ]
 
 -- what is none of the marks is looked up in vain
-none-found : (ms : List (ℕ × AnyId)) (mark : ℕ) → All (λ m. eqb mark m.0 ≡ false) ms → lookup (λ n. eqb mark n) ms ≡ None
-none-found [] mark other = refl
-none-found (m ∷ ms) mark other = rw (other 0 m (omega arith)) (none-found ms mark (λ k d h. other (suc k) d (omega arith)))
+none_found : (ms : List (ℕ × AnyId)) (mark : ℕ) → All (λ m. eqb mark m.0 ≡ false) ms → lookup (λ n. eqb mark n) ms ≡ None
+none_found [] mark other = refl
+none_found (m ∷ ms) mark other = rw (other 0 m (omega arith)) (none_found ms mark (λ k d h. other (suc k) d (omega arith)))
 
 module _ (ms : List (ℕ × AnyId)) (es : List PlainEvent) (mark : ℕ) (index : IsMarkIndex ms es) where
   -- the id beside the mark is that of the event with the mark
-  pub mark-found : (at : ℕ) (d : ℕ × AnyId) → AreMarkedOnce (marks_of es) → at < length ms → (get_or ms at d).0 ≡ mark → Some (get_or ms at d).1 ≡ find_mark mark es
-  mark-found at d once within same =
-      let found = All-permutation (λ m. lookup (λ n. eqb m.0 n) (marks_of es) ≡ Some m.1) (marks_of es) ms index.all (each-found (marks_of es) once) at d within in
+  pub mark_found : (at : ℕ) (d : ℕ × AnyId) → AreMarkedOnce (marks_of es) → at < length ms → (get_or ms at d).0 ≡ mark → Some (get_or ms at d).1 ≡ find_mark mark es
+  mark_found at d once within same =
+      let found = All-permutation (λ m. lookup (λ n. eqb m.0 n) (marks_of es) ≡ Some m.1) (marks_of es) ms index.all (each_found (marks_of es) once) at d within in
       sym found ∙ ap (λ x. lookup (λ n. eqb x n) (marks_of es)) same
 
   rises : IsNonDecreasingBy (λ m. ordering_index (nat_cmp m.0 mark)) ms
   rises i j d le h = let keys = index.rising i j d le h in grind (arith, nat_tests, keys)
 
   -- no mark before the gap is so great, and none after it is so small
-  pub mark-none : (at : ℕ) → (IsNonDecreasingBy (λ m. ordering_index (nat_cmp m.0 mark)) ms → IsPartitionPoint (λ m. nat_cmp m.0 mark ≡ Less) (λ m. nat_cmp m.0 mark ≡ Greater) ms at) →
+  pub mark_none : (at : ℕ) → (IsNonDecreasingBy (λ m. ordering_index (nat_cmp m.0 mark)) ms → IsPartitionPoint (λ m. nat_cmp m.0 mark ≡ Less) (λ m. nat_cmp m.0 mark ≡ Greater) ms at) →
       None ≡ find_mark mark es
-  mark-none at parted =
+  mark_none at parted =
       let parts = parted rises in
-      sym (none-found (marks_of es) mark (All-permutation (λ m. eqb mark m.0 ≡ false) ms (marks_of es) (IsPermutation-sym (marks_of es) ms index.all)
+      sym (none_found (marks_of es) mark (All-permutation (λ m. eqb mark m.0 ≡ false) ms (marks_of es) (IsPermutation-sym (marks_of es) ms index.all)
       (λ k d h. elim (cases_Bool (nat_lt k at)) [
-        | inl before ↦ let less = ranked _ mark _ (sym (parts.0 k d (omega arith) (below k at before))) in differs-low _ mark less
-        | inr after ↦ let more = ranked _ mark _ (sym (parts.1 k d (above k at after) h)) in differs-high _ mark more
+        | inl before ↦ let less = ranked _ mark _ (sym (parts.0 k d (omega arith) (below k at before))) in differs_low _ mark less
+        | inr after ↦ let more = ranked _ mark _ (sym (parts.1 k d (above k at after) h)) in differs_high _ mark more
       ])))
     where
       below : (k at : ℕ) → nat_lt k at ≡ true → k < at
@@ -63,14 +63,14 @@ module _ (ms : List (ℕ × AnyId)) (es : List PlainEvent) (mark : ℕ) (index :
       above : (k at : ℕ) → nat_lt k at ≡ false → at ≤ k
       above k at h = grind (arith, nat_tests)
 
-      differs-low : (m n : ℕ) → m < n → eqb n m ≡ false
-      differs-low m n h = grind (arith, nat_tests)
+      differs_low : (m n : ℕ) → m < n → eqb n m ≡ false
+      differs_low m n h = grind (arith, nat_tests)
 
-      differs-high : (m n : ℕ) → n < m → eqb n m ≡ false
-      differs-high m n h = grind (arith, nat_tests)
+      differs_high : (m n : ℕ) → n < m → eqb n m ≡ false
+      differs_high m n h = grind (arith, nat_tests)
 
   -- halving ends at the mark, or where there is none
   pub searched : (r : Result ℕ ℕ) → IsSearchInRange r (length ms) → IsBinarySearchResult (λ m. nat_cmp m.0 mark) ms r →
       MatchResult r (λ at. (at < length ms) × ((d : ℕ × AnyId) → (get_or ms at d).0 ≡ mark)) (λ at. None ≡ find_mark mark es)
   searched (Ok at) within equal = (within, λ d. ranked _ mark _ (sym (equal d)))
-  searched (Err at) within parted = mark-none at parted
+  searched (Err at) within parted = mark_none at parted

@@ -6,7 +6,7 @@ use Rattle.std.specs.Prelude.{IfSome}
 use Rattle.plain_model.specs.Lookups.{find_event, id_of, same_id}
 use Rattle.plain_model.specs.declared.event.PlainEvent.{PlainEvent}
 use Rattle.plain_model.specs.declared.id.AnyId.{AnyId}
-use Rattle.history_laws.proofs.Ids.{absent-cons, same_id-refl}
+use Rattle.history_laws.proofs.Ids.{absent_cons, same_id_refl}
 use Rattle.event_arena.specs.Changes.{changed}
 
 -- ---- changes of one event
@@ -28,17 +28,17 @@ changed_same id f (x ∷ es) h = elim (cases_Bool (same_id id (id_of x))) [
 
 -- it is found after events that have another id
 pub find_after : (xs ys : List PlainEvent) (e : PlainEvent) → find_event (id_of e) xs ≡ None → find_event (id_of e) (xs ++ e ∷ ys) ≡ Some e
-find_after [] ys e h = rw same_id-refl refl
+find_after [] ys e h = rw same_id_refl refl
 find_after (x ∷ xs) ys e h =
-    let rest = absent-cons (id_of e) x xs h in
+    let rest = absent_cons (id_of e) x xs h in
     rw rest.0 (find_after xs ys e rest.1)
 
 -- and changed there
 pub changed_after : (f : PlainEvent → PlainEvent) (xs ys : List PlainEvent) (e : PlainEvent) → find_event (id_of e) xs ≡ None →
     changed (id_of e) f (xs ++ e ∷ ys) ≡ xs ++ f e ∷ ys
-changed_after f [] ys e h = rw same_id-refl refl
+changed_after f [] ys e h = rw same_id_refl refl
 changed_after f (x ∷ xs) ys e h =
-    let rest = absent-cons (id_of e) x xs h in
+    let rest = absent_cons (id_of e) x xs h in
     rw rest.0 (ap (λ zs. x ∷ zs) (changed_after f xs ys e rest.1))
 
 pub map_push : (g : PlainEvent → PlainEvent) (xs : List PlainEvent) (e : PlainEvent) → map g (xs ++ e ∷ []) ≡ map g xs ++ g e ∷ []

@@ -14,41 +14,41 @@ use Rattle.plain_model.specs.declared.event.PlainEvent.TheVariants as plain
 use Rattle.plain_model.specs.Lookups.{marks_of, op_blobs, own_marks, referents_of}
 use Rattle.event_arena.specs.Needs.{event_need, need}
 use Rattle.event_arena.specs.Weights.{event_weight, weight_of}
-use Rattle.event_arena.proofs.ListLemmas.{drop-item}
+use Rattle.event_arena.proofs.ListLemmas.{drop_item}
 
 -- a bound of more is a bound of less
-pub bound-less : (most : Option ℕ) (less more : ℕ) → less ≤ more → IfSome most (λ m. more ≤ m) → IfSome most (λ m. less ≤ m)
-bound-less None less more h b = tt
-bound-less (Some m) less more h b = omega arith
+pub bound_less : (most : Option ℕ) (less more : ℕ) → less ≤ more → IfSome most (λ m. more ≤ m) → IfSome most (λ m. less ≤ m)
+bound_less None less more h b = tt
+bound_less (Some m) less more h b = omega arith
 
 -- ---- one event more or less
 
 module _ (es : List PlainEvent) (k : ℕ) (e : PlainEvent) (at : slice_get es k ≡ Some e) where
-  pub weight-left : weight_of (drop k es) ≡ event_weight e + weight_of (drop (suc k) es)
-  weight-left = ap weight_of (drop-item es k e at) ∙ sum_by-cons event_weight e (drop (suc k) es)
+  pub weight_left : weight_of (drop k es) ≡ event_weight e + weight_of (drop (suc k) es)
+  weight_left = ap weight_of (drop_item es k e at) ∙ sum_by-cons event_weight e (drop (suc k) es)
 
-  pub weight-part : event_weight e ≤ weight_of es
-  weight-part = let whole = sum_by-take-drop event_weight es k in let left = weight-left in omega arith
+  pub weight_part : event_weight e ≤ weight_of es
+  weight_part = let whole = sum_by-take-drop event_weight es k in let left = weight_left in omega arith
 
 -- another in the place of one
-pub weight-set : (es : List PlainEvent) (k : ℕ) (e new : PlainEvent) → slice_get es k ≡ Some e → weight_of (set es k new) + event_weight e ≡ weight_of es + event_weight new
-weight-set [] k e new at = absurd (none-some e at)
-weight-set (x ∷ es) zero e new at =
+pub weight_set : (es : List PlainEvent) (k : ℕ) (e new : PlainEvent) → slice_get es k ≡ Some e → weight_of (set es k new) + event_weight e ≡ weight_of es + event_weight new
+weight_set [] k e new at = absurd (none-some e at)
+weight_set (x ∷ es) zero e new at =
     let same = ap event_weight (same_Some x e at) in
     let before = sum_by-cons event_weight x es in
     let after = sum_by-cons event_weight new es in
     omega arith
-weight-set (x ∷ es) (suc k) e new at =
-    let rest = weight-set es k e new at in
+weight_set (x ∷ es) (suc k) e new at =
+    let rest = weight_set es k e new at in
     let before = sum_by-cons event_weight x es in
     let after = sum_by-cons event_weight x (set es k new) in
     omega arith
 
 -- ---- events need no more than they weigh
 
-blobs-ops : (ops : List FileOp) → length (flat_map op_blobs ops) ≤ length ops
-blobs-ops [] = omega arith
-blobs-ops (op ∷ ops) = rw (length-append (op_blobs op) (flat_map op_blobs ops)) (let a = one op in let b = blobs-ops ops in omega arith)
+blobs_ops : (ops : List FileOp) → length (flat_map op_blobs ops) ≤ length ops
+blobs_ops [] = omega arith
+blobs_ops (op ∷ ops) = rw (length-append (op_blobs op) (flat_map op_blobs ops)) (let a = one op in let b = blobs_ops ops in omega arith)
   where
     one : (op : FileOp) → length (op_blobs op) ≤ 1
     one (Modify mode (OfBlob b) path) = omega arith
@@ -58,27 +58,27 @@ blobs-ops (op ∷ ops) = rw (length-append (op_blobs op) (flat_map op_blobs ops)
     one (Rename source target) = omega arith
     one DeleteAll = omega arith
 
-own-need : (e : PlainEvent) → event_need e ≤ event_weight e
-own-need (plain.Commit id mark branch author committer encoding comment parents ops aliases) =
+own_need : (e : PlainEvent) → event_need e ≤ event_weight e
+own_need (plain.Commit id mark branch author committer encoding comment parents ops aliases) =
     let e = plain.Commit id mark branch author committer encoding comment parents ops aliases in
     let named : length (referents_of e) ≡ length parents + length (flat_map op_blobs ops)
     = length-append (map any.Commit parents) (flat_map op_blobs ops) ∙ ap (λ n. n + length (flat_map op_blobs ops)) (length-map parents any.Commit) in
     let marks : length (own_marks e) ≡ suc (length aliases) = length-map (mark ∷ aliases) (λ m. (m, any.Commit id)) in
-    let blobs = blobs-ops ops in
+    let blobs = blobs_ops ops in
     omega arith
-own-need (plain.Blob id mark bytes) = omega arith
-own-need (plain.Tag id name target tagger comment None) = omega arith
-own-need (plain.Tag id name target tagger comment (Some mark)) = omega arith
-own-need (plain.Reset id branch None) = omega arith
-own-need (plain.Reset id branch (Some target)) = omega arith
-own-need (plain.Pass id line) = omega arith
+own_need (plain.Blob id mark bytes) = omega arith
+own_need (plain.Tag id name target tagger comment None) = omega arith
+own_need (plain.Tag id name target tagger comment (Some mark)) = omega arith
+own_need (plain.Reset id branch None) = omega arith
+own_need (plain.Reset id branch (Some target)) = omega arith
+own_need (plain.Pass id line) = omega arith
 
-pub need-weight : (es : List PlainEvent) → need es ≤ weight_of es
-need-weight [] = omega arith
-need-weight (e ∷ es) =
+pub need_weight : (es : List PlainEvent) → need es ≤ weight_of es
+need_weight [] = omega arith
+need_weight (e ∷ es) =
     let referents = length-append (referents_of e) (flat_map referents_of es) in
     let marks = length-append (own_marks e) (marks_of es) in
-    let own = own-need e in
-    let rest = need-weight es in
+    let own = own_need e in
+    let rest = need_weight es in
     let whole = sum_by-cons event_weight e es in
     omega arith

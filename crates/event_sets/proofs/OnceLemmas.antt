@@ -7,12 +7,12 @@ use Rattle.plain_model.specs.declared.id.AnyId.{AnyId}
 use Rattle.plain_model.specs.declared.event.PlainEvent.{PlainEvent}
 use Rattle.selection_parser.specs.declared.function.Function.{Function}
 use Rattle.selection_parser.specs.declared.function.Function.TheVariants.{Min, Max, Amp, Par, Chn, Dsc, Anc, Pre, Suc, Srt}
-use Rattle.history_laws.proofs.Ids.{absent-cons, same_id-refl, same_id-true}
+use Rattle.history_laws.proofs.Ids.{absent_cons, same_id_refl, same_id_true}
 use Rattle.history_laws.specs.Once.{AreDistinct}
-use Rattle.event_arena.proofs.ChangeLemmas.{is_listed-append}
+use Rattle.event_arena.proofs.ChangeLemmas.{is_listed_append}
 use Rattle.event_sets.specs.Once.{IsOnce, are_once}
 use Rattle.event_sets.specs.Sets.{Ids, called, greatest, least, near_times, numbered, passing, union, unless_empty}
-use Rattle.event_sets.proofs.SetLemmas.{passing-all}
+use Rattle.event_sets.proofs.SetLemmas.{passing_all}
 
 pub both_parts : (a b : Bool) → a && b ≡ true → (a ≡ true) × (b ≡ true)
 both_parts true b h = (refl, h)
@@ -59,9 +59,9 @@ pub once_append : (a b : Ids) → IsOnce a → IsOnce b → ((id : AnyId) → is
 once_append [] b h k f = k
 once_append (x ∷ a) b h k f =
     let apart = both_parts (not (is_listed x a)) (are_once a) h in
-    let here : is_listed x (x ∷ a) ≡ true = rw (same_id-refl x) refl in
+    let here : is_listed x (x ∷ a) ≡ true = rw (same_id_refl x) refl in
     let off : is_listed x (a ++ b) ≡ false =
-    is_listed-append a b x ∙ rw (not_so (is_listed x a) apart.0, f x here) refl in
+    is_listed_append a b x ∙ rw (not_so (is_listed x a) apart.0, f x here) refl in
     rw off (once_append a b apart.1 k (λ id listed. f id (or_right (same_id id x) (is_listed id a) listed)))
 
 -- the left list has nothing of what the right one has besides
@@ -72,7 +72,7 @@ unlisted_left left id (x ∷ right) h = elim (cases_Bool (is_listed x left)) [
   | inl it ↦ rw it (unlisted_left left id right h)
   | inr no_it ↦
       let other : same_id id x ≡ false = elim (cases_Bool (same_id id x)) [
-        | inl same ↦ absurd (true≢false (sym h ∙ ap (λ y. is_listed y left) (same_id-true id x same) ∙ no_it))
+        | inl same ↦ absurd (true≢false (sym h ∙ ap (λ y. is_listed y left) (same_id_true id x same) ∙ no_it))
         | inr differs ↦ differs
       ] in
       rw (no_it, other) (unlisted_left left id right h)
@@ -89,7 +89,7 @@ unlisted_passing : (id : AnyId) (test : PlainEvent → Bool) (es : List PlainEve
     is_listed id (passing test es) ≡ false
 unlisted_passing id test [] h = refl
 unlisted_passing id test (e ∷ es) h =
-    let parts = absent-cons id e es h in
+    let parts = absent_cons id e es h in
     by (test e) parts.0 (unlisted_passing id test es parts.1)
   where
     by : (b : Bool) → same_id id (id_of e) ≡ false → is_listed id (passing test es) ≡ false →
@@ -120,7 +120,7 @@ unfolding called
 once_called es Min ids h = once_unless ids (numbered es (least es ids)) (once_some (event_at (least es ids) es))
 once_called es Max ids h = once_unless ids (numbered es (greatest es ids)) (once_some (event_at (greatest es ids) es))
 once_called es Amp ids h =
-    once_unless ids (map id_of es) (subst IsOnce (passing-all es) (once_passing (λ e. true) es h))
+    once_unless ids (map id_of es) (subst IsOnce (passing_all es) (once_passing (λ e. true) es h))
 once_called es Par ids h = once_passing _ es h
 once_called es Chn ids h = once_passing _ es h
 once_called es Dsc ids h = once_passing _ es h

@@ -22,7 +22,7 @@ use Rattle.plain_model.specs.Trees.{Tree}
 use Rattle.edit_laws.specs.Equations.{Fits}
 use Rattle.edit_laws.specs.Parts.{AreInOrder, AreOnce, HasFewParents, IsLawful, IsLawfulOp, of_id, of_mark, one_if, tally}
 use Rattle.edit_laws.specs.Settling.{is_ready}
-use Rattle.history_laws.proofs.Ids.{has_id-append}
+use Rattle.history_laws.proofs.Ids.{has_id_append}
 use Rattle.history_laws.proofs.Lists.{all_imply, all_join}
 use Rattle.edit_laws.proofs.Fine.{IsFine, There, fine, ready_ops}
 use Rattle.edit_laws.proofs.Lists.{OfNodes, all_flat, all_front, all_true, events_of_nodes, nodes_of_events, own_here, own_id, true_all}
@@ -37,7 +37,7 @@ use Rattle.expunge_laws.proofs.TreesLeft.{fits_left, left_of_tree, tree_is}
 -- ---- operations after what they name
 
 still_there : (xs : List PlainEvent) (e : PlainEvent) (id : AnyId) → There xs id → There (xs ++ e ∷ []) id
-still_there xs e id h = has_id-append xs (e ∷ []) id ∙ or_left (has_id xs id) (has_id (e ∷ []) id) h
+still_there xs e id h = has_id_append xs (e ∷ []) id ∙ or_left (has_id xs id) (has_id (e ∷ []) id) h
 
 fine_more : (xs : List PlainEvent) (e : PlainEvent) (op : FileOp) → IsFine xs op → IsFine (xs ++ e ∷ []) op
 fine_more xs e op h = (h.0, h.1, all_imply (There xs) (There (xs ++ e ∷ [])) (still_there xs e) (op_blobs op) h.2)
@@ -61,9 +61,9 @@ module _ (matched : Bytes → Bool) (events : List PlainEvent) where
   pub ids_same : (es : List PlainEvent) (id : AnyId) → has_id (map new_event es) id ≡ has_id es id
   ids_same [] id = refl
   ids_same (e ∷ es) id =
-      has_id-append (new_event e ∷ []) (map new_event es) id
+      has_id_append (new_event e ∷ []) (map new_event es) id
       ∙ (λ i. one_same e id i || ids_same es id i)
-      ∙ sym (has_id-append (e ∷ []) es id)
+      ∙ sym (has_id_append (e ∷ []) es id)
 
   sums_same : (f : PlainEvent → ℕ) → ((e : PlainEvent) → f (new_event e) ≡ f e) → (es : List PlainEvent) → tally f (map new_event es) ≡ tally f es
   sums_same f same [] = refl

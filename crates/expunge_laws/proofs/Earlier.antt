@@ -14,7 +14,7 @@ use Rattle.plain_model.specs.Soundness.{has_id}
 use Rattle.plain_model.specs.Trees.{Tree}
 use Rattle.edit_laws.specs.Equations.{Fits}
 use Rattle.edit_laws.specs.Settling.{is_ready}
-use Rattle.history_laws.proofs.Ids.{has_id-append}
+use Rattle.history_laws.proofs.Ids.{has_id_append}
 use Rattle.history_laws.proofs.Lists.{all_imply}
 use Rattle.edit_laws.proofs.Lists.{OfNodes, all_true}
 use Rattle.expunge_laws.specs.Expunged.{replaced_event}
@@ -46,7 +46,7 @@ module _ (matched : Bytes → Bool) (events : List PlainEvent) (Q : List PlainEv
 
     more_trees : (xs : List PlainEvent) (e : PlainEvent) → HaveTrees xs → ((c : ℕ) → has_id (e ∷ []) (any.Commit c) ≡ true → IfTree (Q xs) (tree events c)) → HaveTrees (xs ++ e ∷ [])
     more_trees xs e have own c k =
-        more_tree xs e (tree events c) (elim (or_cases (has_id xs (any.Commit c)) (has_id (e ∷ []) (any.Commit c)) (sym (has_id-append xs (e ∷ []) (any.Commit c)) ∙ k)) [ inl was ↦ have c was | inr new ↦ own c new ])
+        more_tree xs e (tree events c) (elim (or_cases (has_id xs (any.Commit c)) (has_id (e ∷ []) (any.Commit c)) (sym (has_id_append xs (e ∷ []) (any.Commit c)) ∙ k)) [ inl was ↦ have c was | inr new ↦ own c new ])
 
     -- so has what a commit begins with
     first : (xs : List PlainEvent) (parents : List ℕ) (ops : List FileOp) → HaveTrees xs → list_all (has_id xs) (map any.Commit parents ++ flat_map op_blobs ops) ≡ true → IfTree (Q xs) (begun (tree events) parents)

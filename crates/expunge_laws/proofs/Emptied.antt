@@ -16,7 +16,7 @@ use Rattle.plain_model.specs.Soundness.{IsSound, has_id}
 use Rattle.edit_laws.specs.Parts.{AreOnce, HasFewParents, of_id, tally}
 use Rattle.edit_laws.specs.Removal.{expand, expand_all}
 use Rattle.edit_laws.proofs.Chains.{expand_gone, expand_other, expand_stays}
-use Rattle.history_laws.proofs.Ids.{has_id-append, has_id-cons, same_id-refl}
+use Rattle.history_laws.proofs.Ids.{has_id_append, has_id_cons, same_id_refl}
 use Rattle.ancestry_laws.proofs.Pasts.{all_reverse}
 use Rattle.edit_laws.proofs.Lists.{OfNodes, all_flat, events_of_nodes, has_own_id, not_before}
 use Rattle.edit_laws.proofs.Repeats.{shorter_once}
@@ -38,22 +38,22 @@ module _ (test : PlainEvent → Bool) (id : AnyId) where
   abbrev listed : List PlainEvent → Bool
   listed es = is_listed id (map id_of (filter test es))
 
-  listed-cons : (e : PlainEvent) (es : List PlainEvent) → listed (e ∷ es) ≡ (test e && same_id id (id_of e)) || listed es
-  listed-cons e es = elim (test e) as (λ b. is_listed id (map id_of (cond b (e ∷ filter test es) (filter test es))) ≡ (b && same_id id (id_of e)) || listed es) [ true ↦ refl | false ↦ refl ]
+  listed_cons : (e : PlainEvent) (es : List PlainEvent) → listed (e ∷ es) ≡ (test e && same_id id (id_of e)) || listed es
+  listed_cons e es = elim (test e) as (λ b. is_listed id (map id_of (cond b (e ∷ filter test es) (filter test es))) ≡ (b && same_id id (id_of e)) || listed es) [ true ↦ refl | false ↦ refl ]
 
-  listed-append : (xs ys : List PlainEvent) → listed (xs ++ ys) ≡ listed xs || listed ys
-  listed-append [] ys = refl
-  listed-append (x ∷ xs) ys =
-      listed-cons x (xs ++ ys)
-      ∙ ap (λ b. (test x && same_id id (id_of x)) || b) (listed-append xs ys)
+  listed_append : (xs ys : List PlainEvent) → listed (xs ++ ys) ≡ listed xs || listed ys
+  listed_append [] ys = refl
+  listed_append (x ∷ xs) ys =
+      listed_cons x (xs ++ ys)
+      ∙ ap (λ b. (test x && same_id id (id_of x)) || b) (listed_append xs ys)
       ∙ or_assoc (test x && same_id id (id_of x)) (listed xs) (listed ys)
-      ∙ ap (λ b. b || listed ys) (sym (listed-cons x xs))
+      ∙ ap (λ b. b || listed ys) (sym (listed_cons x xs))
 
   none_listed : (es : List PlainEvent) → has_id es id ≡ false → listed es ≡ false
   none_listed [] h = refl
   none_listed (e ∷ es) h =
-      let parts = or_parts (same_id id (id_of e)) (has_id es id) (sym (has_id-cons e es id) ∙ h) in
-      listed-cons e es ∙ ap (λ b. (test e && b) || listed es) parts.0 ∙ ap (λ b. b || listed es) (none (test e)) ∙ none_listed es parts.1
+      let parts = or_parts (same_id id (id_of e)) (has_id es id) (sym (has_id_cons e es id) ∙ h) in
+      listed_cons e es ∙ ap (λ b. (test e && b) || listed es) parts.0 ∙ ap (λ b. b || listed es) (none (test e)) ∙ none_listed es parts.1
     where
       none : (b : Bool) → b && false ≡ false
       none true = refl
@@ -63,10 +63,10 @@ module _ (test : PlainEvent → Bool) (id : AnyId) where
 listed_there : (test : PlainEvent → Bool) (xs : List PlainEvent) (e : PlainEvent) (es : List PlainEvent) → AreOnce (xs ++ e ∷ es) → is_listed (id_of e) (map id_of (filter test (xs ++ e ∷ es))) ≡ test e
 listed_there test xs e es o =
     let id = id_of e in
-    listed-append test id xs (e ∷ es)
+    listed_append test id xs (e ∷ es)
     ∙ ap (λ b. b || listed test id (e ∷ es)) (none_listed test id xs (new_there id xs e es (o.ids id) (has_own_id e)))
-    ∙ listed-cons test id e es
-    ∙ ap (λ b. (test e && b) || listed test id es) (same_id-refl id)
+    ∙ listed_cons test id e es
+    ∙ ap (λ b. (test e && b) || listed test id es) (same_id_refl id)
     ∙ ap (λ b. (test e && true) || b) (none_listed test id es later)
     ∙ both (test e)
   where
@@ -75,7 +75,7 @@ listed_there test xs e es o =
     both false = refl
 
     there : has_id (xs ++ e ∷ []) (id_of e) ≡ true
-    there = has_id-append xs (e ∷ []) (id_of e) ∙ ap (λ b. has_id xs (id_of e) || b) (has_own_id e) ∙ any_or (has_id xs (id_of e))
+    there = has_id_append xs (e ∷ []) (id_of e) ∙ ap (λ b. has_id xs (id_of e) || b) (has_own_id e) ∙ any_or (has_id xs (id_of e))
       where
         any_or : (b : Bool) → b || true ≡ true
         any_or true = refl
@@ -86,7 +86,7 @@ listed_there test xs e es o =
         elim (cases_Bool (has_id es (id_of e))) [
           | inl again ↦
               absurd (true≢false (sym there
-              ∙ not_before (λ l. has_id l (id_of e)) (λ x y. has_id-append x y (id_of e)) refl (xs ++ e ∷ []) es (subst (λ (l : List PlainEvent). tally (of_id (id_of e)) l ≤ 1) (sym (append_assoc xs (e ∷ []) es)) (o.ids (id_of e))) again))
+              ∙ not_before (λ l. has_id l (id_of e)) (λ x y. has_id_append x y (id_of e)) refl (xs ++ e ∷ []) es (subst (λ (l : List PlainEvent). tally (of_id (id_of e)) l ≤ 1) (sym (append_assoc xs (e ∷ []) es)) (o.ids (id_of e))) again))
           | inr it ↦ it
         ]
 

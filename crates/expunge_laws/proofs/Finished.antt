@@ -16,7 +16,7 @@ use Rattle.plain_model.specs.Snapshots.{shown_tree}
 use Rattle.plain_model.specs.Soundness.{IsCommitOf, IsSound, has_id}
 use Rattle.history_laws.specs.FirstParents.{ops_along}
 use Rattle.history_laws.proofs.Ids.{each_found}
-use Rattle.history_laws.proofs.SoundOnce.{sound-once}
+use Rattle.history_laws.proofs.SoundOnce.{sound_once}
 use Rattle.edit_laws.specs.Passing.{IsWithinLimits, limit_fault}
 use Rattle.edit_laws.specs.Sweeping.{is_named}
 use Rattle.edit_laws.proofs.Limits.{limits_hold, not_many}
@@ -57,7 +57,7 @@ module _ (before : List PlainEvent) (set : List AnyId) (events : List PlainEvent
     finish_blobs b = pushed_blobs before set events comments tags h new finish_is b
 
     pub finish_stays : AllByRecursion (IsBareOneOf events) new
-    finish_stays = all_one set events (forward_takes set events comments tags) (each_found events (sound-once events h).ids) before new finish_is
+    finish_stays = all_one set events (forward_takes set events comments tags) (each_found events (sound_once events h).ids) before new finish_is
 
 -- ---- the limits
 

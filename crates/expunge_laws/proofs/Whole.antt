@@ -24,7 +24,7 @@ use Rattle.history_laws.specs.FirstParents.{ops_along}
 use Rattle.history_laws.proofs.Ids.{each_found}
 use Rattle.history_laws.proofs.TreeLaws.{at_where}
 use Rattle.history_laws.proofs.TreeMapping.{mapped_where}
-use Rattle.history_laws.proofs.SoundOnce.{sound-once}
+use Rattle.history_laws.proofs.SoundOnce.{sound_once}
 use Rattle.edit_laws.specs.Keeping.{AddsNothing, IsOneOf}
 use Rattle.edit_laws.specs.Parts.{HasFewParents}
 use Rattle.edit_laws.specs.Passing.{IsWithinLimits}
@@ -161,7 +161,7 @@ module _ (matched : Bytes → Bool) (events : List PlainEvent) where
       pub expunge_stays : AllByRecursion (IsOneOf events) new
       expunge_stays =
           all_like events set changed lean.Forward (IsOneOf events) (IsOneOf events) still_one
-          (one_again events (each_found events (sound-once events h).ids)) new is
+          (one_again events (each_found events (sound_once events h).ids)) new is
 
       pub expunge_sound : IsSound new
       expunge_sound = pushed_sound events set changed false lean.Forward sound new is (few_new new is)

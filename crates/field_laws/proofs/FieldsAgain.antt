@@ -30,7 +30,7 @@ use Rattle.plain_model.proofs.Numbers.{eqb_turned}
 use Rattle.field_laws.proofs.Numerals.{mark_read, numeral_read}
 use Rattle.field_laws.proofs.Persons.{all_pass, digit_isnt, person_in_read}
 use Rattle.field_laws.proofs.Written.{mark_numeral, person_written}
-use Rattle.field_laws.proofs.Words.{has_no_space, first_word-space, after_space-space}
+use Rattle.field_laws.proofs.Words.{has_no_space, first_word_space, after_space_space}
 use Rattle.field_laws.proofs.PathsAgain.{path_again}
 
 -- ---- marks and people
@@ -137,8 +137,8 @@ content_and_path mode content path i h k =
     let fields = text ++ codes " " ++ last_path path in
     let whole : fields ≡ text ++ 32 ∷ last_path path = append_assoc text (codes " ") (last_path path) in
     let plain = spaceless content h in
-    let word : first_word fields ≡ text = ap first_word whole ∙ first_word-space text (last_path path) plain in
-    let after : after_space fields ≡ Some (last_path path) = ap after_space whole ∙ after_space-space text (last_path path) plain in
+    let word : first_word fields ≡ text = ap first_word whole ∙ first_word_space text (last_path path) plain in
+    let after : after_space fields ≡ Some (last_path path) = ap after_space whole ∙ after_space_space text (last_path path) plain in
     ok_then (content_in mode (first_word fields)) (λ c. last_path_in (after_space fields) then_field λ p. modify mode c p) content (modify mode content path)
     (ap (content_in mode) word ∙ content_again mode content path i h)
     (ok_then (last_path_in (after_space fields)) (λ p. modify mode content p) path (modify mode content path) (ap last_path_in after ∙ last_path_again path k) refl)

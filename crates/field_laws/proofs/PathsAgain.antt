@@ -17,7 +17,7 @@ use Rattle.field_laws.proofs.Quoted.{by_turn}
 use Rattle.plain_model.specs.Text.{quoted_byte, quoted, begins_quoted, path_text}
 use Rattle.field_laws.proofs.FieldSteps.{ok_then}
 use Rattle.plain_model.proofs.Numbers.{eqb_turned}
-use Rattle.field_laws.proofs.Words.{has_no_space, first_word-space, first_word-whole}
+use Rattle.field_laws.proofs.Words.{has_no_space, first_word_space, first_word_whole}
 
 -- both are false where either would be true
 or_false : (a b : Bool) → (a || b) ≡ false → (a ≡ false) × (b ≡ false)
@@ -88,8 +88,8 @@ follows_last p [] f = append-nil p
 follows_last p (b ∷ bs) f = absurd (cc)
 
 follows_source : (p rest : Bytes) → has_no_space p ≡ true → may_follow Source rest ≡ true → plain_path Source (p ++ rest) ≡ p
-follows_source p [] h f = ap first_word (append-nil p) ∙ first_word-whole p h
-follows_source p (b ∷ bs) h f = ap (λ c. first_word (p ++ c ∷ bs)) (space b f) ∙ first_word-space p bs h
+follows_source p [] h f = ap first_word (append-nil p) ∙ first_word_whole p h
+follows_source p (b ∷ bs) h f = ap (λ c. first_word (p ++ c ∷ bs)) (space b f) ∙ first_word_space p bs h
   where
     space : (b : ℕ) → ((32 == b) && true) ≡ true → b ≡ 32
     space b e = sym (eqb-true 32 b (and_parts (32 == b) true e).0)

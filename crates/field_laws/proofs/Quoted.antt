@@ -20,9 +20,9 @@ by_turn t bs = elim t [
   | Unfit ↦ None
 ]
 
-with_byte-front : (front : Bytes) (b : ℕ) (found : Option (Bytes × Bytes)) → with_front front (with_byte b found) ≡ with_front (front ++ b ∷ []) found
-with_byte-front front b None = refl
-with_byte-front front b (Some x) = ap (λ (t : Bytes). Some (t, x.1)) (sym (append_assoc front (b ∷ []) x.0))
+with_byte_front : (front : Bytes) (b : ℕ) (found : Option (Bytes × Bytes)) → with_front front (with_byte b found) ≡ with_front (front ++ b ∷ []) found
+with_byte_front front b None = refl
+with_byte_front front b (Some x) = ap (λ (t : Bytes). Some (t, x.1)) (sym (append_assoc front (b ∷ []) x.0))
 
 module _ (front text : Bytes) (q : Quoting) (i : ℕ) (lt : i < length text) where
   next : (t : Turn) → turn q (get_or text i 0) ≡ t → with_front front (unquoted q (drop i text)) ≡ with_front front (by_turn t (drop (i + 1) text))
@@ -32,7 +32,7 @@ module _ (front text : Bytes) (q : Quoting) (i : ℕ) (lt : i < length text) whe
   quote_ends e = next Ends e ∙ ap (λ (t : Bytes). Some (t, drop (i + 1) text)) (append-nil front)
 
   pub quote_says : (b : ℕ) → turn q (get_or text i 0) ≡ Says b → with_front front (unquoted q (drop i text)) ≡ with_front (front ++ b ∷ []) (unquoted Between (drop (i + 1) text))
-  quote_says b e = next (Says b) e ∙ with_byte-front front b (unquoted Between (drop (i + 1) text))
+  quote_says b e = next (Says b) e ∙ with_byte_front front b (unquoted Between (drop (i + 1) text))
 
   pub quote_goes_on : (r : Quoting) → turn q (get_or text i 0) ≡ GoesOn r → with_front front (unquoted q (drop i text)) ≡ with_front front (unquoted r (drop (i + 1) text))
   quote_goes_on r e = next (GoesOn r) e
@@ -40,6 +40,6 @@ module _ (front text : Bytes) (q : Quoting) (i : ℕ) (lt : i < length text) whe
   pub quote_unfit : turn q (get_or text i 0) ≡ Unfit → with_front front (unquoted q (drop i text)) ≡ None
   quote_unfit e = next Unfit e
 
-pub with_front-nil : (found : Option (Bytes × Bytes)) → with_front [] found ≡ found
-with_front-nil None = refl
-with_front-nil (Some x) = refl
+pub with_front_nil : (found : Option (Bytes × Bytes)) → with_front [] found ≡ found
+with_front_nil None = refl
+with_front_nil (Some x) = refl

@@ -11,7 +11,7 @@ use Rattle.plain_model.specs.declared.event.PlainEvent.TheVariants.{Blob, Commit
 use Rattle.plain_model.specs.Histories.{Node, nodes, past}
 use Rattle.plain_model.specs.Lookups.{event_parents, id_of, place_of, same_id}
 use Rattle.plain_model.specs.Soundness.{IsCommitOf, IsSound}
-use Rattle.history_laws.proofs.Ids.{same_id-true}
+use Rattle.history_laws.proofs.Ids.{same_id_true}
 use Rattle.history_laws.specs.Once.{AreDistinct}
 use Rattle.ancestry_laws.specs.Ancestry.{descends, is_one_of}
 use Rattle.ancestry_laws.proofs.Pasts.{all_reverse}
@@ -53,7 +53,7 @@ module _ (events : List PlainEvent) (sound : IsSound events) (once : AreDistinct
       only : (j : ℕ) (e : PlainEvent) → slice_get events j ≡ Some e → suc top ≤ j → is_commit_of (high ∷ []) e ≡ true →
           ⊥
       only j e at low h =
-          let own : id_of e ≡ any.Commit high = same_id-true (id_of e) (any.Commit high) (sym (or-false (same_id (id_of e) (any.Commit high))) ∙ h) in
+          let own : id_of e ≡ any.Commit high = same_id_true (id_of e) (any.Commit high) (sym (or-false (same_id (id_of e) (any.Commit high))) ∙ h) in
           let place : j ≡ top = same_Some j top (sym (place_found events j e at once).0 ∙ ap (λ i. place_of i events) own ∙ at_top) in
           omega arith
 

@@ -10,7 +10,7 @@ use Rattle.plain_model.specs.declared.id.AnyId.TheVariants as any
 use Rattle.plain_model.specs.declared.event.PlainEvent.{PlainEvent}
 use Rattle.plain_model.specs.declared.event.PlainEvent.TheVariants.{Blob, Commit, Tag, Reset, Pass}
 use Rattle.plain_model.specs.Lookups.{children_of, event_parents, id_of, is_listed, own_child, same_id}
-use Rattle.history_laws.proofs.Ids.{same_id-refl, same_id-true}
+use Rattle.history_laws.proofs.Ids.{same_id_refl, same_id_true}
 use Rattle.graph_walk.specs.Children.{children_of_all, own_children}
 use Rattle.graph_walk.specs.Expansions.{is_removed}
 
@@ -33,7 +33,7 @@ own_listed c k p e (x ∷ events) at own =
     by zero here more =
         let first : own_child p x ≡ c ∷ [] = ap (own_child p) (same_Some x e here) ∙ own in
         or_left (is_listed (any.Commit c) (map any.Commit (own_child p x))) (is_listed (any.Commit c) (map any.Commit (children_of p events)))
-        (ap (λ cs. is_listed (any.Commit c) (map any.Commit cs)) first ∙ or_left (same_id (any.Commit c) (any.Commit c)) false (same_id-refl (any.Commit c)))
+        (ap (λ cs. is_listed (any.Commit c) (map any.Commit cs)) first ∙ or_left (same_id (any.Commit c) (any.Commit c)) false (same_id_refl (any.Commit c)))
     by (suc j) later more = or_right (is_listed (any.Commit c) (map any.Commit (own_child p x))) (is_listed (any.Commit c) (map any.Commit (children_of p events))) (more j later)
 
 -- a child of one of them
@@ -44,7 +44,7 @@ one_listed c k p e events at own (x ∷ ids) gone =
     list_any-append (same_id (any.Commit c)) (own_children events x) (children_of_all events ids)
     ∙ elim (or_cases (same_id (any.Commit p) x) (is_removed ids p) gone) [
       | inl it ↦ or_left (is_listed (any.Commit c) (own_children events x)) (is_listed (any.Commit c) (children_of_all events ids))
-          (ap (λ id. is_listed (any.Commit c) (own_children events id)) (sym (same_id-true (any.Commit p) x it)) ∙ own_listed c k p e events at own)
+          (ap (λ id. is_listed (any.Commit c) (own_children events id)) (sym (same_id_true (any.Commit p) x it)) ∙ own_listed c k p e events at own)
       | inr later ↦ or_right (is_listed (any.Commit c) (own_children events x)) (is_listed (any.Commit c) (children_of_all events ids)) (one_listed c k p e events at own ids later)
     ]
 

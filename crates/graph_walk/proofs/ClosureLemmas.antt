@@ -11,7 +11,7 @@ use Rattle.plain_model.specs.declared.event.PlainEvent.TheVariants.{Blob, Commit
 use Rattle.plain_model.specs.Histories.{Node, nodes, past}
 use Rattle.plain_model.specs.Lookups.{event_parents, id_of, is_listed, place_of, same_id}
 use Rattle.plain_model.specs.Soundness.{IsCommitOf, IsSound, has_id}
-use Rattle.history_laws.proofs.Ids.{same_id-true}
+use Rattle.history_laws.proofs.Ids.{same_id_true}
 use Rattle.history_laws.specs.Once.{AreDistinct}
 use Rattle.ancestry_laws.specs.Ancestry.{commits, descends, is_one_of, is_parent_in}
 use Rattle.ancestry_laws.proofs.Pasts.{all_reverse, any_reverse, known_past, linked_past}
@@ -26,7 +26,7 @@ listed_one : (P : ℕ → Type 0) (set' : List ℕ) (d : PlainEvent) → AllByRe
     (p : ℕ) × (any.Commit p ≡ id_of d) × P p × (is_one_of set' p ≡ true)
 listed_one P [] d all h = absurd (true≢false (sym h))
 listed_one P (s ∷ set') d all h = elim (or_cases (same_id (id_of d) (any.Commit s)) (is_listed (id_of d) (map any.Commit set')) h) [
-  | inl own ↦ (s, sym (same_id-true (id_of d) (any.Commit s) own), all.0, rw (eq-eqb s s refl) refl)
+  | inl own ↦ (s, sym (same_id_true (id_of d) (any.Commit s) own), all.0, rw (eq-eqb s s refl) refl)
   | inr later ↦ let more = listed_one P set' d all.1 later in (more.0, more.1, more.2, rw more.3 (or-true (eqb s more.0)))
 ]
 

@@ -14,7 +14,7 @@ use Rattle.plain_model.specs.Histories.{nodes, past}
 use Rattle.plain_model.specs.Lookups.{event_parents, id_of, place_of}
 use Rattle.plain_model.specs.Soundness.{IsCommitOf, IsSound}
 use Rattle.history_laws.specs.Once.{AreDistinct}
-use Rattle.event_arena.proofs.ListLemmas.{take-all}
+use Rattle.event_arena.proofs.ListLemmas.{take_all}
 use Rattle.ancestry_laws.specs.Ancestry.{commits, descends, descends_in}
 use Rattle.graph_walk.specs.Flags.{flagged_ids, is_commit_of, is_flagged_commit}
 use Rattle.graph_walk.proofs.EarlierLemmas.{any_on, parents_before, past_item, is_earlier}
@@ -123,4 +123,4 @@ module _ (events : List PlainEvent) (sound : IsSound events) (once : AreDistinct
       flagged_ids flags events ≡ map any.Commit (filter (descends events set') (commits events))
   settled_all k flags all s =
       flagged_by (descends events set') events flags s.count
-      (λ j e at. s.below j e at (let low = slice_get_within events j e at in omega arith) ∙ ap (λ es. of_commit (descends_in set' (past es)) e) (take-all events k all))
+      (λ j e at. s.below j e at (let low = slice_get_within events j e at in omega arith) ∙ ap (λ es. of_commit (descends_in set' (past es)) e) (take_all events k all))

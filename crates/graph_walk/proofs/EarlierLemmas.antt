@@ -10,14 +10,14 @@ use Rattle.plain_model.specs.declared.event.PlainEvent.TheVariants.{Blob, Commit
 use Rattle.plain_model.specs.Histories.{nodes, past}
 use Rattle.plain_model.specs.Lookups.{event_parents, id_of, place_of}
 use Rattle.plain_model.specs.Soundness.{AreSoundAfter, IsCommitOf, IsSoundEvent}
-use Rattle.event_arena.proofs.ListLemmas.{take-item}
+use Rattle.event_arena.proofs.ListLemmas.{take_item}
 use Rattle.ancestry_laws.proofs.Pasts.{past_append}
 use Rattle.graph_walk.proofs.PlaceLemmas.{event_placed, has_id_place}
 
 -- the past of one event more
 pub past_item : (events : List PlainEvent) (k : ℕ) (e : PlainEvent) → slice_get events k ≡ Some e →
     past (take (suc k) events) ≡ reverse (nodes (e ∷ [])) ++ past (take k events)
-past_item events k e h = ap past (take-item events k e h) ∙ past_append (take k events) (e ∷ [])
+past_item events k e h = ap past (take_item events k e h) ∙ past_append (take k events) (e ∷ [])
 
 pub any_on : {X : Type 0} (f g : X → Bool) (P : X → Type 0) → ((x : X) → P x → f x ≡ g x) → (xs : List X) →
     AllByRecursion P xs → list_any f xs ≡ list_any g xs

@@ -14,7 +14,7 @@ use Rattle.plain_model.specs.Histories.{Past, nodes, past}
 use Rattle.plain_model.specs.Lookups.{id_of, is_listed, place_of}
 use Rattle.plain_model.specs.Soundness.{IsCommitOf, IsSound}
 use Rattle.history_laws.specs.Once.{AreDistinct}
-use Rattle.event_arena.proofs.ListLemmas.{take-all}
+use Rattle.event_arena.proofs.ListLemmas.{take_all}
 use Rattle.graph_walk.specs.Expansions.{is_removed}
 use Rattle.graph_walk.specs.Joined.{AreExpansions, Expanded, OfCommit, entry_at, entry_of, fits, joined, joined_from, kept, next_entry}
 use Rattle.edit_laws.specs.Removal.{expand, once_each}
@@ -209,5 +209,5 @@ module _ (events : List PlainEvent) (sound : IsSound events) (once : AreDistinct
       AreExpansions events removed s
   expanded_all k s all a = record {
     count = a.count ∙ all;
-    entry = λ j e at. subst (λ es. OfCommit (λ c. get_or s.entries j None ≡ kept s.bounded (expand (is_removed removed) (past es) c)) e) (take-all events k (omega arith)) (a.entry j e at (let low = slice_get_within events j e at in omega arith));
+    entry = λ j e at. subst (λ es. OfCommit (λ c. get_or s.entries j None ≡ kept s.bounded (expand (is_removed removed) (past es) c)) e) (take_all events k (omega arith)) (a.entry j e at (let low = slice_get_within events j e at in omega arith));
   }

@@ -8,7 +8,7 @@ use Rattle.plain_model.specs.declared.event.PlainEvent.{PlainEvent}
 use Rattle.plain_model.specs.Lookups.{event_parents, place_of}
 use Rattle.plain_model.specs.Soundness.{IsCommitOf, IsSound}
 use Rattle.history_laws.specs.Once.{AreDistinct}
-use Rattle.history_laws.proofs.SoundOnce.{sound-once}
+use Rattle.history_laws.proofs.SoundOnce.{sound_once}
 use Rattle.ancestry_laws.specs.Ancestry.{is_one_of}
 use Rattle.graph_walk.specs.Joined.{AddsEntry, IsBeforePlace, fits, joined_from, with_all, with_one}
 use Rattle.edit_laws.specs.Removal.{once_each}
@@ -28,7 +28,7 @@ placed_all events k once (p ∷ ps) h =
 pub parents_placed : (events : List PlainEvent) (k : ℕ) (e : PlainEvent) → IsSound events →
     slice_get events k ≡ Some e → AllByRecursion (IsBeforePlace events k) (event_parents e)
 parents_placed events k e sound at =
-    placed_all events k (sound-once events sound).ids (event_parents e) (parents_before [] events k e sound.formed at)
+    placed_all events k (sound_once events sound).ids (event_parents e) (parents_before [] events k e sound.formed at)
 
 -- ---- parts that are joined
 

@@ -13,9 +13,9 @@ use Rattle.plain_model.specs.declared.event.PlainEvent.{PlainEvent}
 use Rattle.plain_model.specs.declared.event.PlainEvent.TheVariants.{Blob, Commit, Tag, Reset, Pass}
 use Rattle.plain_model.specs.Lookups.{id_of, is_listed, place_of, same_id}
 use Rattle.plain_model.proofs.Numbers.{eqb_turned}
-use Rattle.history_laws.proofs.Ids.{one_place, same_id-refl, same_id-true}
+use Rattle.history_laws.proofs.Ids.{one_place, same_id_refl, same_id_true}
 use Rattle.history_laws.specs.Once.{AreDistinct}
-use Rattle.event_arena.proofs.ListLemmas.{take-all}
+use Rattle.event_arena.proofs.ListLemmas.{take_all}
 use Rattle.ancestry_laws.specs.Ancestry.{commits, is_one_of}
 use Rattle.graph_walk.specs.Flags.{FlagsMore, FlagsOf, flag_at, flagged_ids, is_commit_of, is_flagged, is_flagged_commit}
 use Rattle.graph_walk.proofs.PlaceLemmas.{place_found, place_within}
@@ -49,12 +49,12 @@ flags_push events set' c p old mid once counted there f = record {
     more k e at = elim (cases_eq p k) [
       | inl is ↦
           let own : any.Commit c ≡ id_of e = one_place (any.Commit c) (id_of e) events p there ((place_found events k e at once).0 ∙ ap Some (sym is)) in
-          let here : same_id (id_of e) (any.Commit c) ≡ true = ap (same_id (id_of e)) own ∙ same_id-refl (id_of e) in
+          let here : same_id (id_of e) (any.Commit c) ≡ true = ap (same_id (id_of e)) own ∙ same_id_refl (id_of e) in
           ap (λ j. get_or (set mid p true) j false) (sym is) ∙ get_or-set_same mid p true false low
           ∙ sym (ap (λ b. get_or old k false || b) (commit_of_push set' c e ∙ ap (λ b. is_commit_of set' e || (b || false)) here ∙ or-true (is_commit_of set' e)) ∙ or-true (get_or old k false))
       | inr other ↦
           let apart : same_id (id_of e) (any.Commit c) ≡ false =
-          false_from_ne_true (same_id (id_of e) (any.Commit c)) (λ t. other (same_Some p k (sym there ∙ ap (λ id. place_of id events) (sym (same_id-true (id_of e) (any.Commit c) t)) ∙ (place_found events k e at once).0))) in
+          false_from_ne_true (same_id (id_of e) (any.Commit c)) (λ t. other (same_Some p k (sym there ∙ ap (λ id. place_of id events) (sym (same_id_true (id_of e) (any.Commit c) t)) ∙ (place_found events k e at once).0))) in
           get_or-set_other mid p k true false (λ e. other (sym e)) ∙ f.more k e at
           ∙ sym (ap (λ b. get_or old k false || b) (commit_of_push set' c e ∙ ap (λ b. is_commit_of set' e || (b || false)) apart ∙ or-false (is_commit_of set' e)))
     ]
@@ -67,7 +67,7 @@ flags_skip events set' c old mid once absent f = record {
   count = f.count;
   more = λ k e at.
       let apart : same_id (id_of e) (any.Commit c) ≡ false =
-      false_from_ne_true (same_id (id_of e) (any.Commit c)) (λ t. none-some k (sym absent ∙ ap (λ id. place_of id events) (sym (same_id-true (id_of e) (any.Commit c) t)) ∙ (place_found events k e at once).0)) in
+      false_from_ne_true (same_id (id_of e) (any.Commit c)) (λ t. none-some k (sym absent ∙ ap (λ id. place_of id events) (sym (same_id_true (id_of e) (any.Commit c) t)) ∙ (place_found events k e at once).0)) in
       f.more k e at ∙ sym (ap (λ b. get_or old k false || b) (commit_of_push set' c e ∙ ap (λ b. is_commit_of set' e || (b || false)) apart ∙ or-false (is_commit_of set' e)));
 }
 
@@ -161,7 +161,7 @@ pub refilled : (n : ℕ) (new old : List Bool) → length new ≡ n → length o
     take n (new ++ drop (length new) old) ≡ new
 refilled n new old a b =
     ap (λ ys. take n (new ++ ys)) (drop_of_length-le old (omega arith)) ∙ ap (take n) (append-nil new)
-    ∙ take-all new n (omega arith)
+    ∙ take_all new n (omega arith)
 
 -- what holds of each value holds of the one that a call gives
 pub if_ok : {T E : Type 0} (r : Result T E) (P Q : T → Type 0) → ((x : T) → P x → Q x) → IfOk r P → IfOk r Q
@@ -192,12 +192,12 @@ ids_push events ids own p flags once there f = record { count = length-set flags
     flag k e at = elim (cases_eq p k) [
       | inl is ↦
           let same : own ≡ id_of e = one_place own (id_of e) events p there ((place_found events k e at once).0 ∙ ap Some (sym is)) in
-          let here : same_id (id_of e) own ≡ true = ap (same_id (id_of e)) same ∙ same_id-refl (id_of e) in
+          let here : same_id (id_of e) own ≡ true = ap (same_id (id_of e)) same ∙ same_id_refl (id_of e) in
           ap (λ j. get_or (set flags p true) j false) (sym is) ∙ get_or-set_same flags p true false low
           ∙ sym (list_any-append (same_id (id_of e)) ids (own ∷ []) ∙ ap (λ b. is_listed (id_of e) ids || (b || false)) here ∙ or-true (is_listed (id_of e) ids))
       | inr other ↦
           let apart : same_id (id_of e) own ≡ false =
-          false_from_ne_true (same_id (id_of e) own) (λ t. other (same_Some p k (sym there ∙ ap (λ id. place_of id events) (sym (same_id-true (id_of e) own t)) ∙ (place_found events k e at once).0))) in
+          false_from_ne_true (same_id (id_of e) own) (λ t. other (same_Some p k (sym there ∙ ap (λ id. place_of id events) (sym (same_id_true (id_of e) own t)) ∙ (place_found events k e at once).0))) in
           get_or-set_other flags p k true false (λ e. other (sym e)) ∙ f.flag k e at
           ∙ sym (list_any-append (same_id (id_of e)) ids (own ∷ []) ∙ ap (λ b. is_listed (id_of e) ids || (b || false)) apart ∙ or-false (is_listed (id_of e) ids))
     ]
@@ -208,6 +208,6 @@ ids_skip events ids own flags once absent f = record {
   count = f.count;
   flag = λ k e at.
       let apart : same_id (id_of e) own ≡ false =
-      false_from_ne_true (same_id (id_of e) own) (λ t. none-some k (sym absent ∙ ap (λ id. place_of id events) (sym (same_id-true (id_of e) own t)) ∙ (place_found events k e at once).0)) in
+      false_from_ne_true (same_id (id_of e) own) (λ t. none-some k (sym absent ∙ ap (λ id. place_of id events) (sym (same_id_true (id_of e) own t)) ∙ (place_found events k e at once).0)) in
       f.flag k e at ∙ sym (list_any-append (same_id (id_of e)) ids (own ∷ []) ∙ ap (λ b. is_listed (id_of e) ids || (b || false)) apart ∙ or-false (is_listed (id_of e) ids));
 }

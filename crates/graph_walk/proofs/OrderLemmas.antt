@@ -10,10 +10,10 @@ use Rattle.plain_model.specs.declared.id.AnyId.{AnyId}
 use Rattle.plain_model.specs.declared.event.PlainEvent.{PlainEvent}
 use Rattle.plain_model.specs.Lookups.{find_event, id_of, place_of}
 use Rattle.plain_model.specs.Soundness.{has_id}
-use Rattle.history_laws.proofs.Ids.{same_id-refl}
-use Rattle.event_arena.proofs.ListLemmas.{flat-take-item, take-all, take-item}
-use Rattle.history_laws.proofs.Ids.{has_id-append}
-use Rattle.history_laws.proofs.SoundOnce.{has_id-find}
+use Rattle.history_laws.proofs.Ids.{same_id_refl}
+use Rattle.event_arena.proofs.ListLemmas.{flat_take_item, take_all, take_item}
+use Rattle.history_laws.proofs.Ids.{has_id_append}
+use Rattle.history_laws.proofs.SoundOnce.{has_id_find}
 use Rattle.edit_laws.specs.Parts.{AreInOrder}
 use Rattle.edit_laws.specs.Settling.{is_ready}
 use Rattle.graph_walk.specs.Slots.{named_by, slots_of}
@@ -35,10 +35,10 @@ take_get (y ∷ xs) (suc k) (suc j) x h low = take_get xs k j x h (omega arith)
 has_id_at : (es : List PlainEvent) (k : ℕ) (e : PlainEvent) → slice_get es k ≡ Some e → has_id es (id_of e) ≡ true
 has_id_at [] k e h = absurd (none-some e h)
 has_id_at (x ∷ es) zero e h =
-    has_id-find (x ∷ es) (id_of e)
-    ∙ subst (λ y. is_some (find_event (id_of y) (x ∷ es)) ≡ true) (same_Some x e h) (rw (same_id-refl (id_of x)) refl)
+    has_id_find (x ∷ es) (id_of e)
+    ∙ subst (λ y. is_some (find_event (id_of y) (x ∷ es)) ≡ true) (same_Some x e h) (rw (same_id_refl (id_of x)) refl)
 has_id_at (x ∷ es) (suc k) e h =
-    has_id-append (x ∷ []) es (id_of e) ∙ rw (has_id_at es k e h) (or-true (has_id (x ∷ []) (id_of e)))
+    has_id_append (x ∷ []) es (id_of e) ∙ rw (has_id_at es k e h) (or-true (has_id (x ∷ []) (id_of e)))
 
 -- an event whose place is earlier
 pub has_id_take : (events : List PlainEvent) (k q : ℕ) (id : AnyId) → place_of id events ≡ Some q → q < k →
@@ -57,21 +57,21 @@ pub named_more : (earlier : List PlainEvent) (e : PlainEvent) (k : ℕ) → k < 
     named_all earlier e (suc k) ≡ true
 named_more earlier e k low before own =
     let item = item_at (slots_of e) k low in
-    ap (list_all (has_id earlier)) (flat-take-item (λ (slot : List AnyId). slot) (slots_of e) k item.0 item.1)
+    ap (list_all (has_id earlier)) (flat_take_item (λ (slot : List AnyId). slot) (slots_of e) k item.0 item.1)
     ∙ list_all-append (has_id earlier) (named_by (take k (slots_of e))) item.0
     ∙ rw (before, ← get_or_from_slice_get (slots_of e) k item.0 [] item.1, own) refl
 
 pub named_ready : (earlier : List PlainEvent) (e : PlainEvent) (k : ℕ) → length (slots_of e) ≤ k →
     named_all earlier e k ≡ true → is_ready earlier e ≡ true
 named_ready earlier e k all h =
-    ap (list_all (has_id earlier)) (sym (ap named_by (take-all (slots_of e) k all) ∙ slots_named e)) ∙ h
+    ap (list_all (has_id earlier)) (sym (ap named_by (take_all (slots_of e) k all) ∙ slots_named e)) ∙ h
 
 -- ---- the whole list
 
 pub ready_item : (events : List PlainEvent) (k : ℕ) (e : PlainEvent) → slice_get events k ≡ Some e →
     AreInOrder [] (take k events) → is_ready (take k events) e ≡ true → AreInOrder [] (take (suc k) events)
 ready_item events k e at all own =
-    subst (AreInOrder []) (sym (take-item events k e at)) (in_order_more [] (take k events) e all own)
+    subst (AreInOrder []) (sym (take_item events k e at)) (in_order_more [] (take k events) e all own)
 
 -- a test of places says so
 pub before_place : (events : List PlainEvent) (k q : ℕ) (id : AnyId) → place_of id events ≡ Some q →

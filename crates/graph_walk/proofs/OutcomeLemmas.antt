@@ -12,7 +12,7 @@ use Rattle.plain_model.specs.Lookups.{find_event, id_of, is_listed, referents_of
 use Rattle.plain_model.specs.Soundness.{has_id}
 use Rattle.event_arena.specs.Changes.{in_order, without_all}
 use Rattle.history_laws.specs.Once.{AreDistinct}
-use Rattle.history_laws.proofs.Ids.{absent-cons, find-id, has_id-cons, same_id-comm, same_id-refl}
+use Rattle.history_laws.proofs.Ids.{absent_cons, find_id, has_id_cons, same_id_comm, same_id_refl}
 use Rattle.graph_walk.specs.Taking.{are_taken, can_be_taken}
 use Rattle.graph_walk.specs.Outcome.{GoesOn, IsCircular}
 use Rattle.edit_laws.specs.Settling.{first_commit_mark, first_ready, is_ready, settle, settle_on}
@@ -31,7 +31,7 @@ pub there_in_order : (events : List PlainEvent) (order : List AnyId) →
     Follows (in_order order events) order
 there_in_order events [] h id = refl
 there_in_order events (x ∷ order) h id =
-    by (find_event x events) refl (h x (rw (same_id-refl x) refl))
+    by (find_event x events) refl (h x (rw (same_id_refl x) refl))
     (there_in_order events order (λ i t. h i (rw t (or-true (same_id i x)))) id)
   where
     by : (o : Option PlainEvent) → find_event x events ≡ o → is_some o ≡ true →
@@ -39,8 +39,8 @@ there_in_order events (x ∷ order) h id =
         has_id (option_to_list o ++ in_order order events) id ≡ same_id id x || is_listed id order
     by None is some later = absurd (true≢false (sym some))
     by (Some e) is some later =
-        has_id-cons e (in_order order events) id
-        ∙ ap (λ i. same_id id i || has_id (in_order order events) id) (sym (find-id x events e is))
+        has_id_cons e (in_order order events) id
+        ∙ ap (λ i. same_id id i || has_id (in_order order events) id) (sym (find_id x events e is))
         ∙ ap (λ b. same_id id x || b) later
 
 ready_taken : (taken : List PlainEvent) (order : List AnyId) → Follows taken order → (e : PlainEvent) →
@@ -52,9 +52,9 @@ without_absent : (order : List AnyId) (own : AnyId) (es : List PlainEvent) → f
     without_all (order ++ own ∷ []) es ≡ without_all order es
 without_absent order own [] h = refl
 without_absent order own (x ∷ es) h =
-    let rest = absent-cons own x es h in
+    let rest = absent_cons own x es h in
     let same : is_listed (id_of x) (order ++ own ∷ []) ≡ is_listed (id_of x) order =
-    list_any-append (same_id (id_of x)) order (own ∷ []) ∙ ap (λ b. is_listed (id_of x) order || (b || false)) (same_id-comm (id_of x) own ∙ rest.0) ∙ or-false (is_listed (id_of x) order) in
+    list_any-append (same_id (id_of x)) order (own ∷ []) ∙ ap (λ b. is_listed (id_of x) order || (b || false)) (same_id_comm (id_of x) own ∙ rest.0) ∙ or-false (is_listed (id_of x) order) in
     rw same (ap (λ ys. cond (not (is_listed (id_of x) order)) (x ∷ ys) ys) (without_absent order own es rest.1))
 
 -- what is found among events differs from what isn't
@@ -62,7 +62,7 @@ find_apart : (test : PlainEvent → Bool) (own : AnyId) (es : List PlainEvent) (
     find_event own es ≡ None → same_id own (id_of e) ≡ false
 find_apart test own [] e h none = absurd (none-some e h)
 find_apart test own (x ∷ es) e h none =
-    let rest = absent-cons own x es none in
+    let rest = absent_cons own x es none in
     elim (cases_Bool (test x)) [
       | inl it ↦ subst (λ y. same_id own (id_of y) ≡ false) (same_Some x e (rw it at h)) rest.0
       | inr no_it ↦ find_apart test own es e (rw no_it at h) rest.1
@@ -80,7 +80,7 @@ first_taken_next taken order follows (x ∷ es) e once h = elim (cases_Bool (is_
   | inr no_it ↦ elim (cases_Bool (are_taken order (referents_of x))) [
     | inl all ↦
         let is : x ≡ e = same_Some x e (rw (no_it, all) at h) in
-        let listed : is_listed (id_of x) (order ++ id_of x ∷ []) ≡ true = list_any-append (same_id (id_of x)) order (id_of x ∷ []) ∙ rw (no_it, same_id-refl (id_of x)) refl in
+        let listed : is_listed (id_of x) (order ++ id_of x ∷ []) ≡ true = list_any-append (same_id (id_of x)) order (id_of x ∷ []) ∙ rw (no_it, same_id_refl (id_of x)) refl in
         let ready : is_ready taken x ≡ true = ready_taken taken order follows x ∙ all in
         subst (λ y. first_ready taken (without_all order (x ∷ es)) ≡ Some (y, without_all (order ++ id_of y ∷ []) (x ∷ es))) is
         (rw (no_it, ready, listed, without_absent order (id_of x) es once.0) refl)

@@ -15,8 +15,8 @@ use Rattle.plain_model.specs.Histories.{past}
 use Rattle.plain_model.specs.Lookups.{event_parents, find_event, id_of, is_listed, place_of}
 use Rattle.plain_model.specs.Soundness.{IsCommitOf, IsSound}
 use Rattle.history_laws.specs.Once.{AreDistinct}
-use Rattle.event_arena.proofs.ListLemmas.{drop-item, flat-split, flat-take-item}
-use Rattle.history_laws.proofs.SoundOnce.{has_id-find}
+use Rattle.event_arena.proofs.ListLemmas.{drop_item, flat_split, flat_take_item}
+use Rattle.history_laws.proofs.SoundOnce.{has_id_find}
 use Rattle.graph_walk.specs.Children.{AreChildrenOf, children_of_all}
 use Rattle.graph_walk.specs.Expansions.{AreFew, IsCauseOfMany, is_removed, new_parents, own_change, parent_changes}
 use Rattle.graph_walk.specs.Joined.{AreExpansions, Expanded, IsBeforePlace, IsTooMany, PushesChange, PushesIf, flagged_change, entry_at, entry_of, joined_from, kept}
@@ -37,7 +37,7 @@ placed_within events k n h (p ∷ ps) all =
 -- a commit that is there has a place
 pub found_place : (events : List PlainEvent) (id : AnyId) → IsSome (find_event id events) →
     is_some (place_of id events) ≡ true
-found_place events id h = sym (has_id_place events id) ∙ has_id-find events id ∙ h
+found_place events id h = sym (has_id_place events id) ∙ has_id_find events id ∙ h
 
 -- the event at a commit's place is the commit
 pub place_event : (events : List PlainEvent) (id : AnyId) (k : ℕ) (e : PlainEvent) → AreDistinct events →
@@ -169,7 +169,7 @@ module _ (events : List PlainEvent) (sound : IsSound events) (once : AreDistinct
       (new ≡ flat_map (own_change events removed) (take (suc k) events)) × AreFew new
   changes_more flags s f a bounded k e old new at h was few =
       let p = pushed (own_change events removed e) old new (one_change e) (subst (λ change. PushesIf change old new) (change_is flags s f a bounded k e at) h) in (
-        p.0 ∙ ap (λ xs. xs ++ own_change events removed e) was ∙ sym (flat-take-item (own_change events removed) events k e at),
+        p.0 ∙ ap (λ xs. xs ++ own_change events removed e) was ∙ sym (flat_take_item (own_change events removed) events k e at),
         subst AreFew (sym p.0) (few_append old (own_change events removed e) few p.1),
       )
 
@@ -194,7 +194,7 @@ module _ (events : List PlainEvent) (sound : IsSound events) (once : AreDistinct
       let before = flat_map (own_change events removed) (take k events) in
       let after = flat_map (own_change events removed) (drop (suc k) events) in
       let parts : parent_changes events removed ≡ before ++ m.0 ∷ (m.1 ++ after) =
-      sym (flat-split (own_change events removed) events k)
-      ∙ ap (λ es. before ++ flat_map (own_change events removed) es) (drop-item events k e at)
+      sym (flat_split (own_change events removed) events k)
+      ∙ ap (λ es. before ++ flat_map (own_change events removed) es) (drop_item events k e at)
       ∙ ap (λ xs. before ++ (xs ++ after)) m.2 in
       (h.0, (length before, m.0, ap (λ xs. slice_get xs (length before)) parts ∙ get_after before (m.1 ++ after) m.0, m.3))

@@ -16,8 +16,8 @@ use Rattle.plain_model.specs.declared.event.PlainEvent.{PlainEvent}
 use Rattle.plain_model.specs.declared.event.PlainEvent.TheVariants.{Blob, Commit, Tag, Reset, Pass}
 use Rattle.plain_model.specs.Lookups.{op_blobs, place_of, referents_of, same_id}
 use Rattle.plain_model.specs.Soundness.{has_id}
-use Rattle.history_laws.proofs.Ids.{one_place, same_id-refl, same_id-true}
-use Rattle.event_arena.proofs.ListLemmas.{take-all}
+use Rattle.history_laws.proofs.Ids.{one_place, same_id_refl, same_id_true}
+use Rattle.event_arena.proofs.ListLemmas.{take_all}
 use Rattle.edit_laws.specs.Settling.{is_ready}
 use Rattle.graph_walk.specs.Flags.{flag_at, is_flagged}
 use Rattle.graph_walk.specs.Slots.{IsOpenAt, are_flagged, is_flagged_until, named_by, parent_slot, slots_of}
@@ -68,15 +68,15 @@ flagged_push flags p events own id low there = by (place_of id events) refl
     by : (o : Option ℕ) → place_of id events ≡ o →
         flag_at (set flags p true) o ≡ flag_at flags o || (same_id id own || false)
     by None is = elim (cases_Bool (same_id id own)) [
-      | inl it ↦ absurd (none-some p (sym is ∙ ap (λ i. place_of i events) (same_id-true id own it) ∙ there))
+      | inl it ↦ absurd (none-some p (sym is ∙ ap (λ i. place_of i events) (same_id_true id own it) ∙ there))
       | inr no_it ↦ rw no_it refl
     ]
     by (Some q) is = elim (cases_Bool (same_id id own)) [
       | inl it ↦
-          let here : p ≡ q = same_Some p q (sym there ∙ ap (λ i. place_of i events) (sym (same_id-true id own it)) ∙ is) in
+          let here : p ≡ q = same_Some p q (sym there ∙ ap (λ i. place_of i events) (sym (same_id_true id own it)) ∙ is) in
           rw it (subst (λ k. get_or (set flags p true) k false ≡ get_or flags k false || true) here (get_or-set_same flags p true false low ∙ sym (or-true (get_or flags p false))))
       | inr no_it ↦
-          let other : p ≡ q → ⊥ = λ e. true≢false (sym (ap (λ i. same_id i own) (one_place id own events p (is ∙ ap Some (sym e)) there) ∙ same_id-refl own) ∙ no_it) in
+          let other : p ≡ q → ⊥ = λ e. true≢false (sym (ap (λ i. same_id i own) (one_place id own events p (is ∙ ap Some (sym e)) there) ∙ same_id_refl own) ∙ no_it) in
           rw no_it (get_or-set_other flags p q true false (λ e. other (sym e)) ∙ sym (or-false (get_or flags q false)))
     ]
 
@@ -105,7 +105,7 @@ slots_named (Pass id line) = refl
 pub until_all : (flags : List Bool) (events : List PlainEvent) (e : PlainEvent) (k : ℕ) → length (slots_of e) ≤ k →
     is_flagged_until flags events e k ≡ true → are_flagged flags events (referents_of e) ≡ true
 until_all flags events e k all h =
-    ap (are_flagged flags events) (sym (ap named_by (take-all (slots_of e) k all) ∙ slots_named e)) ∙ h
+    ap (are_flagged flags events) (sym (ap named_by (take_all (slots_of e) k all) ∙ slots_named e)) ∙ h
 
 -- a slot that names an event without a flag
 pub slot_false : (f : AnyId → Bool) (slots : List (List AnyId)) (k : ℕ) (id : AnyId) → get_or slots k [] ≡ id ∷ [] →

@@ -15,8 +15,8 @@ use Rattle.plain_model.specs.Lookups.{find_event, id_of, is_listed, place_of}
 use Rattle.event_arena.specs.Changes.{without_all}
 use Rattle.history_laws.specs.Once.{AreDistinct}
 use Rattle.history_laws.proofs.Lists.{item_at}
-use Rattle.event_arena.proofs.ListLemmas.{drop-item, take-item}
-use Rattle.history_laws.proofs.SoundOnce.{has_id-find}
+use Rattle.event_arena.proofs.ListLemmas.{drop_item, take_item}
+use Rattle.history_laws.proofs.SoundOnce.{has_id_find}
 use Rattle.graph_walk.specs.Flags.{flag_at, is_flagged}
 use Rattle.graph_walk.specs.Taking.{can_be_taken}
 use Rattle.graph_walk.specs.Outcome.{GoesOn}
@@ -60,7 +60,7 @@ pub taken_known : (events : List PlainEvent) (order : List AnyId) (flags : List 
     ((id : AnyId) → is_listed id order ≡ is_flagged flags events id) → (id : AnyId) → is_listed id order ≡ true →
     is_some (find_event id events) ≡ true
 taken_known events order flags taken id h =
-    sym (has_id-find events id) ∙ has_id_place events id ∙ some (place_of id events) (sym (taken id) ∙ h)
+    sym (has_id_find events id) ∙ has_id_place events id ∙ some (place_of id events) (sym (taken id) ∙ h)
   where
     some : (o : Option ℕ) → flag_at flags o ≡ true → is_some o ≡ true
     some None h = absurd (true≢false (sym h))
@@ -95,7 +95,7 @@ first_after (Pass id line ∷ xs) ys h = first_after xs ys h
 module _ (order : List AnyId) (events : List PlainEvent) (k : ℕ) (e : PlainEvent) (at : slice_get events k ≡ Some e) (none : first_commit_mark (without_all order (take k events)) ≡ None) where
   next_first : first_commit_mark (without_all order (take (suc k) events)) ≡ first_commit_mark (without_all order (e ∷ []))
   next_first =
-      ap (λ es. first_commit_mark (without_all order es)) (take-item events k e at) ∙ ap first_commit_mark (left_append order (take k events) (e ∷ []))
+      ap (λ es. first_commit_mark (without_all order es)) (take_item events k e at) ∙ ap first_commit_mark (left_append order (take k events) (e ∷ []))
       ∙ first_after (without_all order (take k events)) (without_all order (e ∷ [])) none
 
   -- a taken one is passed by
@@ -116,7 +116,7 @@ module _ (order : List AnyId) (events : List PlainEvent) (k : ℕ) (e : PlainEve
       ((es : List PlainEvent) → first_commit_mark (e ∷ es) ≡ Some mark) →
       first_commit_mark (without_all order events) ≡ Some mark
   first_found mark h own =
-      ap (λ es. first_commit_mark (without_all order es)) (sym (take-append-drop k events) ∙ ap (λ ys. take k events ++ ys) (drop-item events k e at))
+      ap (λ es. first_commit_mark (without_all order es)) (sym (take-append-drop k events) ∙ ap (λ ys. take k events ++ ys) (drop_item events k e at))
       ∙ ap first_commit_mark (left_append order (take k events) (e ∷ drop (suc k) events))
       ∙ first_after (without_all order (take k events)) (without_all order (e ∷ drop (suc k) events)) none
       ∙ rw h (own (without_all order (drop (suc k) events)))

@@ -13,7 +13,7 @@ use Rattle.plain_model.specs.Files.{Files}
 use Rattle.plain_model.specs.Names.{is_name_byte}
 use Rattle.plain_model.specs.Paths.{Bytes}
 use Rattle.plain_model.specs.Soundness.{IsSound}
-use Rattle.history_laws.proofs.Ids.{below-next}
+use Rattle.history_laws.proofs.Ids.{below_next}
 use Rattle.line_automaton.specs.Machine.{all, begun, run}
 use Rattle.stream_grammar.specs.Limits.{stream_of, stream_within}
 use Rattle.edit_laws.specs.Editing.{IsEdit, IsLawfulHistory, LeavesLawful, Remade, with_number}
@@ -129,7 +129,7 @@ new_well s repos name free history roomy is_free h fits lawful =
     let none : find_repo name s.repos ≡ None = ap (find_repo name) has.0 ∙ new.1 in
     subst (λ (given : List Repo). IsLawful (with_read s given free history)) has.0
     (subst (λ (n : Bytes). IsLawful (with_read s s.repos n history)) new.0
-    (loaded_well s (read_repo name history) h has.1 none (record { name = fits; history = lawful; names = tt; spent = below-next history })))
+    (loaded_well s (read_repo name history) h has.1 none (record { name = fits; history = lawful; names = tt; spent = below_next history })))
 
 -- a name that a script can spell has such bytes
 spelled_bytes : (name : Bytes) → IsTrue (is_repo_name name) → AreNameBytes name

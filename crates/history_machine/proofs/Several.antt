@@ -10,7 +10,7 @@ use Rattle.plain_model.specs.declared.fault.Fault.{Fault}
 use Rattle.plain_model.specs.declared.limit.TheConstants.{MAX_REPOSITORIES}
 use Rattle.plain_model.specs.Names.{is_name_byte}
 use Rattle.plain_model.specs.Paths.{Bytes}
-use Rattle.history_laws.proofs.Ids.{below-next}
+use Rattle.history_laws.proofs.Ids.{below_next}
 use Rattle.edit_laws.specs.Editing.{IsLawfulHistory, Remade}
 use Rattle.event_sets.specs.Once.{IsOnce}
 use Rattle.event_sets.specs.Sets.{Ids}
@@ -181,11 +181,11 @@ module _ (s : Session) where
       go (Some part) is e rec = later part is (all_there names s.repos) refl e rec
 
   few_repos : IsLawful s → length s.repos ≤ MAX_REPOSITORIES
-  few_repos h = subst (λ n. n ≤ MAX_REPOSITORIES) (length-names s.repos) h.names.few
+  few_repos h = subst (λ n. n ≤ MAX_REPOSITORIES) (length_names s.repos) h.names.few
     where
-      length-names : (repos : List Repo) → length (repo_names repos) ≡ length repos
-      length-names [] = refl
-      length-names (r ∷ repos) = ap suc (length-names repos)
+      length_names : (repos : List Repo) → length (repo_names repos) ≡ length repos
+      length_names [] = refl
+      length_names (r ∷ repos) = ap suc (length_names repos)
 
   pub united_well : (names : List Bytes) (united : List Repo → Result Repo Fault) → IsUniting united → IsLawful s → ChangesWell (after_uniting s names united)
   unfolding after_uniting
@@ -256,9 +256,9 @@ module _ (s : Session) where
           let left = forgotten_well s repo.name h in
           let fewer = one_fewer repo.name s.repos repo (found s repo is) in
           let longer = length-append (rest repo s.repos) (early ∷ []) in
-          let one = loaded_well before early left (omega arith) no_early (record { name = append_bytes repo.name (codes "-early") bytes refl; history = lawful_early; names = tt; spent = below-next halves.0 }) in
+          let one = loaded_well before early left (omega arith) no_early (record { name = append_bytes repo.name (codes "-early") bytes refl; history = lawful_early; names = tt; spent = below_next halves.0 }) in
           let none = not_last (late_name repo.name) (rest repo s.repos) early no_late (ends_differ repo.name) in
           let both = loaded_well (record s { repos = rest repo s.repos ++ early ∷ []; choice = Some (early_name repo.name) }) late one (omega arith) none
-          (record { name = append_bytes repo.name (codes "-late") bytes refl; history = lawful_late; names = tt; spent = below-next halves.1 }) in
+          (record { name = append_bytes repo.name (codes "-late") bytes refl; history = lawful_late; names = tt; spent = below_next halves.1 }) in
           chosen_well (record s { repos = (rest repo s.repos ++ early ∷ []) ++ late ∷ []; choice = Some (late_name repo.name) }) (early_name repo.name) early both
           (still_found (early_name repo.name) (rest repo s.repos ++ early ∷ []) late early (is_first (rest repo s.repos) early no_early))

@@ -17,7 +17,7 @@ use Rattle.line_automaton.specs.Lines.{line_count, number_after, extent_after, H
 use Rattle.line_automaton.proofs.Runs.{over, stays}
 use Rattle.line_automaton.proofs.FirstLines.{inside_after}
 use Rattle.plain_model.proofs.Lines.{line_is}
-use Rattle.line_automaton.proofs.LineLaws.{line_count-rest, line_count-skip_lf, lines_left, lines_left-some, line_count-left, lines_left-append}
+use Rattle.line_automaton.proofs.LineLaws.{line_count_rest, line_count_skip_lf, lines_left, lines_left_some, line_count_left, lines_left_append}
 use Rattle.line_automaton.proofs.DrivingLaws.{after_line, first_line, block_end, block_cut, after_nothing, after_lf, after_byte}
 
 -- ---- the rest after a block
@@ -52,11 +52,11 @@ block_rest (Counted k) text bytes rest h =
 block_rest (Delimited d) text bytes rest h = delimited_rest text d [] [] bytes rest h
 
 -- what is after a block and its LF has no more lines than the text
-pub line_count-block : (extent : Extent) (text bytes rest : Bytes) → block_at extent text ≡ Some (bytes, rest) → line_count (skip_lf rest) ≤ line_count text
-line_count-block extent text bytes rest h =
+pub line_count_block : (extent : Extent) (text bytes rest : Bytes) → block_at extent text ≡ Some (bytes, rest) → line_count (skip_lf rest) ≤ line_count text
+line_count_block extent text bytes rest h =
     let e = block_rest extent text bytes rest h in
-    let less : line_count rest ≤ line_count text = subst (λ (l : Bytes). line_count rest ≤ line_count l) (sym e.1) (line_count-rest e.0 rest) in
-    omega (arith, less, line_count-skip_lf rest)
+    let less : line_count rest ≤ line_count text = subst (λ (l : Bytes). line_count rest ≤ line_count l) (sym e.1) (line_count_rest e.0 rest) in
+    omega (arith, less, line_count_skip_lf rest)
 
 module _ {State Why : Type 0} (a : Automaton State Why) (j : ℕ → Bool) where
   -- ---- lines
@@ -114,19 +114,19 @@ module _ {State Why : Type 0} (a : Automaton State Why) (j : ℕ → Bool) where
       go false e = ap (λ m. verdict a (closed a j m)) (after_byte a j inside n s b bs e)
 
   -- it is one more than the LFs before, or the next line that there could be
-  next_number-is : (inside : Bool) (n taken : ℕ) (text rest : Bytes) → line_count text ≡ taken + lines_left inside rest
+  next_number_is : (inside : Bool) (n taken : ℕ) (text rest : Bytes) → line_count text ≡ taken + lines_left inside rest
       → next_number inside (n + taken) rest ≡ number_after n text (skip_lf rest)
-  next_number-is inside n taken text [] e = go inside e
+  next_number_is inside n taken text [] e = go inside e
     where
       go : (t : Bool) → line_count text ≡ taken + cond t 1 0 → cond t (n + taken + 1) (n + taken) ≡ n + (line_count text - 0)
       go true e = omega arith
       go false e = omega arith
-  next_number-is inside n taken text (b ∷ bs) e =
-      go (is_lf b) (e ∙ ap (λ k. taken + k) (lines_left-some inside b bs)) (lines_left-some false b bs)
+  next_number_is inside n taken text (b ∷ bs) e =
+      go (is_lf b) (e ∙ ap (λ k. taken + k) (lines_left_some inside b bs)) (lines_left_some false b bs)
     where
       go : (t : Bool) → line_count text ≡ taken + line_count (b ∷ bs) → cond t (1 + lines_left false bs) (lines_left true bs) ≡ line_count (b ∷ bs)
           → cond t (n + taken + 1) (n + taken) ≡ n + (line_count text - line_count (cond t bs (b ∷ bs)))
-      go true e f = let more = line_count-left bs in omega arith
+      go true e f = let more = line_count_left bs in omega arith
       go false e f = omega arith
 
   -- ---- counted blocks
@@ -147,11 +147,11 @@ module _ {State Why : Type 0} (a : Automaton State Why) (j : ℕ → Bool) where
       let block = take k text in
       let rest = drop k text in
       let parts : line_count text ≡ count_by is_lf block + lines_left (inside_after false block) rest =
-      ap line_count (sym (take-append-drop k text)) ∙ line_count-left (block ++ rest) ∙ lines_left-append false block rest in
+      ap line_count (sym (take-append-drop k text)) ∙ line_count_left (block ++ rest) ∙ lines_left_append false block rest in
       ap (outcome_from a j (after n line (Block k) s)) (sym (take-append-drop k text))
       ∙ counted_there n k line s block rest (length-take-le k text h)
       ∙ after_block (inside_after false block) (n + 1 + count_by is_lf block) (a.arrived s block) rest
-      ∙ ap (λ i. outcome_from a j (At i (InLine []) (a.arrived s block)) (skip_lf rest)) (next_number-is (inside_after false block) (n + 1) (count_by is_lf block) text rest parts)
+      ∙ ap (λ i. outcome_from a j (At i (InLine []) (a.arrived s block)) (skip_lf rest)) (next_number_is (inside_after false block) (n + 1) (count_by is_lf block) text rest parts)
 
   -- a block that is cut off
   pub counted_cut : (n k : ℕ) (line : Bytes) (s : State) (text : Bytes) → length text < k → outcome_from a j (after n line (Block k) s) text ≡ Misses n
@@ -260,7 +260,7 @@ module _ {State Why : Type 0} (a : Automaton State Why) (j : ℕ → Bool) where
       f.2
       ∙ after_block false (n + 1 + f.0) (a.arrived s bytes) rest
       ∙ ap (λ i. outcome_from a j (At i (InLine []) (a.arrived s bytes)) (skip_lf rest))
-      (next_number-is false (n + 1) f.0 text rest (line_count-left text ∙ f.1))
+      (next_number_is false (n + 1) f.0 text rest (line_count_left text ∙ f.1))
 
   -- a block that has no end
   pub delimited_cut : (n k : ℕ) (line : Bytes) (s : State) (text : Bytes) → delimited (drop k line) [] [] text ≡ None

@@ -26,19 +26,19 @@ HoldsNoLf (At n (After inside) s) = Unit {0}
 HoldsNoLf (At n Ended s) = Unit {0}
 HoldsNoLf (Stopped n why) = Unit {0}
 
-pub has_no_lf-push : (text : Bytes) (b : ℕ) → has_no_lf text ≡ true → is_lf b ≡ false → has_no_lf (text ++ b ∷ []) ≡ true
-has_no_lf-push [] b h e = and_from (not (is_lf b)) true (ap not e) refl
-has_no_lf-push (x ∷ xs) b h e =
+pub has_no_lf_push : (text : Bytes) (b : ℕ) → has_no_lf text ≡ true → is_lf b ≡ false → has_no_lf (text ++ b ∷ []) ≡ true
+has_no_lf_push [] b h e = and_from (not (is_lf b)) true (ap not e) refl
+has_no_lf_push (x ∷ xs) b h e =
     let p = and_parts (not (is_lf x)) (has_no_lf xs) h in
-    and_from (not (is_lf x)) (has_no_lf (xs ++ b ∷ [])) p.0 (has_no_lf-push xs b p.1 e)
+    and_from (not (is_lf x)) (has_no_lf (xs ++ b ∷ [])) p.0 (has_no_lf_push xs b p.1 e)
 
-has_no_lf-drop : (k : ℕ) (text : Bytes) → has_no_lf text ≡ true → has_no_lf (drop k text) ≡ true
-has_no_lf-drop zero text h = h
-has_no_lf-drop (suc k) [] h = refl
-has_no_lf-drop (suc k) (x ∷ xs) h = has_no_lf-drop k xs (and_parts (not (is_lf x)) (has_no_lf xs) h).1
+has_no_lf_drop : (k : ℕ) (text : Bytes) → has_no_lf text ≡ true → has_no_lf (drop k text) ≡ true
+has_no_lf_drop zero text h = h
+has_no_lf_drop (suc k) [] h = refl
+has_no_lf_drop (suc k) (x ∷ xs) h = has_no_lf_drop k xs (and_parts (not (is_lf x)) (has_no_lf xs) h).1
 
-pub bytes_eq-same : (xs : Bytes) → bytes_eq xs xs ≡ true
-bytes_eq-same xs = (bytes_eq-Decides xs xs).1 refl
+pub bytes_eq_same : (xs : Bytes) → bytes_eq xs xs ≡ true
+bytes_eq_same xs = (bytes_eq-Decides xs xs).1 refl
 
 -- a block of so many bytes and one
 abbrev filling : ℕ → Bytes
@@ -55,20 +55,20 @@ module _ {State Why : Type 0} (a : Automaton State Why) where
       entered_no_lf (Ok (new, More)) = refl
       entered_no_lf (Ok (new, Block zero)) = tt
       entered_no_lf (Ok (new, Block (suc k))) = tt
-      entered_no_lf (Ok (new, Until k)) = has_no_lf-drop k text h
+      entered_no_lf (Ok (new, Until k)) = has_no_lf_drop k text h
       entered_no_lf (Ok (new, Over)) = tt
 
       go : (t : Bool) → is_lf b ≡ t
           → HoldsNoLf (moved a n (number_past n b) (cond t (answered a n text (a.step (j n) s text)) (Ok (InLine (text ++ b ∷ []), s))))
       go true e = entered_no_lf (a.step (j n) s text)
-      go false e = has_no_lf-push text b h e
+      go false e = has_no_lf_push text b h e
   feed_no_lf j (At n (InBlock from zero bytes) s) b h = tt
   feed_no_lf j (At n (InBlock from (suc k) bytes) s) b h = tt
   feed_no_lf j (At n (After inside) s) b h = go (is_lf b) refl
     where
       go : (t : Bool) → is_lf b ≡ t → has_no_lf (cond t [] (b ∷ [])) ≡ true
       go true e = refl
-      go false e = has_no_lf-push [] b refl e
+      go false e = has_no_lf_push [] b refl e
   feed_no_lf j (At n (InDelimited from d bytes text) s) b h = go (is_lf b) (bytes_eq text d)
     where
       go : (t u : Bool) → HoldsNoLf (moved a n (number_past n b)
@@ -93,7 +93,7 @@ module _ {State Why : Type 0} (a : Automaton State Why) where
       → run a none (At n (InDelimited from whole bytes text) s) (d ++ 10 ∷ []) ≡ At (n + 1) (After false) (a.arrived s bytes)
   delimited [] text whole n from bytes s e h =
       ap (λ t. moved a n (n + 1) (Ok (cond t (After false, a.arrived s bytes) (InDelimited from whole (bytes ++ text ++ 10 ∷ []) [], s))))
-      (ap (bytes_eq text) (e ∙ append-nil text) ∙ bytes_eq-same text)
+      (ap (bytes_eq text) (e ∙ append-nil text) ∙ bytes_eq_same text)
   delimited (x ∷ d) text whole n from bytes s e h =
       let p = and_parts (not (is_lf x)) (has_no_lf d) h in
       let other : is_lf x ≡ false = not-true (is_lf x) p.0 in

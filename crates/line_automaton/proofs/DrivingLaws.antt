@@ -11,11 +11,11 @@ use Rattle.line_automaton.specs.Machine.Machine.{At}
 use Rattle.line_automaton.specs.Machine.Outcome.{Misses}
 use Rattle.line_automaton.proofs.Runs.{run_append, closed_between, answered_between}
 use Rattle.line_automaton.proofs.FirstLines.{inside_after}
-use Rattle.line_automaton.proofs.LineLaws.{count-cons}
+use Rattle.line_automaton.proofs.LineLaws.{count_cons}
 
 -- the number of the line after a byte, and the LFs that follow
 past_count : (n b : ℕ) (bs : Bytes) → number_past n b + count_by is_lf bs ≡ n + count_by is_lf (b ∷ bs)
-past_count n b bs = go (is_lf b) ∙ ap (λ k. n + k) (sym (count-cons b bs))
+past_count n b bs = go (is_lf b) ∙ ap (λ k. n + k) (sym (count_cons b bs))
   where
     go : (t : Bool) → cond t (n + 1) n + count_by is_lf bs ≡ n + (cond t 1 0 + count_by is_lf bs)
     go true = omega arith

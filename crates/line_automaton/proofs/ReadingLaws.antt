@@ -57,7 +57,7 @@ module _ {State Why : Type 0} (a : Automaton State Why) (j : ℕ → Bool) (text
     module _ (new : State) (next : Next) (extent : Extent) (made : a.step (j (number_after 1 text rest)) s line ≡ Ok (new, next)) (follows : extent_after line next ≡ Some extent) where
       pub block_within : (bytes beyond : Bytes) → block_at extent after ≡ Some (bytes, beyond) → line_count (skip_lf beyond) ≤ line_count text
       block_within bytes beyond h =
-          let less = blocks.line_count-block extent after bytes beyond h in
+          let less = blocks.line_count_block extent after bytes beyond h in
           omega (arith, less, line_within)
 
       -- the next line after the block
@@ -65,7 +65,7 @@ module _ {State Why : Type 0} (a : Automaton State Why) (j : ℕ → Bool) (text
           → outcome_at a j text rest s ≡ outcome_at a j text (skip_lf beyond) (a.arrived new bytes)
       unfolding outcome_at
       goes_on_after bytes beyond some h =
-          let less = blocks.line_count-block extent after bytes beyond h in
+          let less = blocks.line_count_block extent after bytes beyond h in
           blocks.line_made a j (number_after 1 text rest) s rest line after there new next made
           ∙ blocks.block_there a j (number_after 1 text rest) line next new extent after bytes beyond follows some h
           ∙ ap (λ n. outcome_from a j (At n (InLine []) (a.arrived new bytes)) (skip_lf beyond)) (omega (arith, one_line, less))

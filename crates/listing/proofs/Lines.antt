@@ -10,7 +10,7 @@ use Rattle.plain_model.specs.declared.event.PlainEvent.{PlainEvent}
 use Rattle.plain_model.specs.Snapshots.{refs_after}
 use Rattle.plain_model.specs.Trees.{TreeOf}
 use Rattle.branch_tips.proofs.Noted.{noted}
-use Rattle.event_arena.proofs.ListLemmas.{drop-item}
+use Rattle.event_arena.proofs.ListLemmas.{drop_item}
 use Rattle.listing.specs.Listings.{first_line}
 
 -- bytes up to a place, before which there is no LF, and at which there is one if the text goes on
@@ -39,7 +39,7 @@ module _ {X : Type 0} where
       → slice_get xs k ≡ Some x → new ≡ out ++ x ∷ [] → out ++ drop k xs ≡ xs
       → new ++ drop (k + 1) xs ≡ xs
   begun_by_one xs k x out new at is before =
-      let here = ap (λ rest. out ++ rest) (sym (drop-item xs k x at)) in
+      let here = ap (λ rest. out ++ rest) (sym (drop_item xs k x at)) in
       rw (add-one, is) (append_assoc out (x ∷ []) (drop (suc k) xs) ∙ here ∙ before)
 
   pub begun_by_all : (xs : List X) (k : ℕ) (out : List X) → length xs ≤ k → out ++ drop k xs ≡ xs → out ≡ xs
@@ -50,7 +50,7 @@ module _ {X Y : Type 0} (f : X → List Y) where
   pub to_come : (xs : List X) (k : ℕ) (x : X) (out new : List Y) → slice_get xs k ≡ Some x → new ≡ out ++ f x
       → new ++ flat_map f (drop (k + 1) xs) ≡ out ++ flat_map f (drop k xs)
   to_come xs k x out new at is =
-      let here = ap (λ rest. out ++ flat_map f rest) (sym (drop-item xs k x at)) in
+      let here = ap (λ rest. out ++ flat_map f rest) (sym (drop_item xs k x at)) in
       rw (add-one, is) (append_assoc out (f x) (flat_map f (drop (suc k) xs)) ∙ here)
 
   pub none_to_come : (xs : List X) (k : ℕ) (out : List Y) → length xs ≤ k → out ++ flat_map f (drop k xs) ≡ out
@@ -67,7 +67,7 @@ padded count into new few is =
 pub noted_at : (events : List PlainEvent) (k : ℕ) (e : PlainEvent) (tips new : TreeOf ℕ)
     → slice_get events k ≡ Some e → new ≡ refs_after tips (e ∷ [])
     → refs_after new (drop (k + 1) events) ≡ refs_after tips (drop k events)
-noted_at events k e tips new at is = rw (add-one, is, drop-item events k e at) (sym (noted tips e (drop (suc k) events)))
+noted_at events k e tips new at is = rw (add-one, is, drop_item events k e at) (sym (noted tips e (drop (suc k) events)))
 
 pub all_noted : (events : List PlainEvent) (k : ℕ) (tips : TreeOf ℕ) → length events ≤ k → refs_after tips (drop k events) ≡ tips
 all_noted events k tips all = ap (refs_after tips) (drop_of_length-le events all)

@@ -13,7 +13,7 @@ use Rattle.plain_model.specs.Lookups.{find_event, number_of, place_of}
 use Rattle.plain_model.specs.Paths.{Bytes}
 use Rattle.plain_model.specs.Text.{line, marked}
 use Rattle.plain_model.specs.Trees.{Tree}
-use Rattle.history_laws.proofs.Ids.{find-id, found-place}
+use Rattle.history_laws.proofs.Ids.{find_id, found_place}
 use Rattle.listing.specs.Listings.{line_of}
 use Rattle.listing.specs.TreeListings.{entry_line, manifest_lines}
 
@@ -21,7 +21,7 @@ use Rattle.listing.specs.TreeListings.{entry_line, manifest_lines}
 found_line : (text : ℕ → PlainEvent → Bytes) (events : List PlainEvent) (id : AnyId) (e : PlainEvent) (lines : Bytes)
     → find_event id events ≡ Some e → ((n : ℕ) → text n e ≡ lines)
     → line_of text (number_of id events) (find_event id events) ≡ lines
-found_line text events id e lines found is = by (place_of id events) refl (found-place id events (rw found refl))
+found_line text events id e lines found is = by (place_of id events) refl (found_place id events (rw found refl))
   where
     by : (place : Option ℕ) → place_of id events ≡ place → IsSome place
         → line_of text (number_of id events) (find_event id events) ≡ lines
@@ -37,7 +37,7 @@ module _ (all : List PlainEvent) (id : AnyId) (c mark : ℕ) (branch : Bytes) (a
   -- the commit is found by its own id
   pub found_itself : IsSome (find_event (any.Commit c) all)
   found_itself =
-      let same = find-id id all commit found in
+      let same = find_id id all commit found in
       subst (λ i. IsSome (find_event i all)) same (rw found refl)
 
   -- its lines are those of its tree

@@ -15,9 +15,9 @@ use Rattle.plain_model.specs.Lookups.{find_event, number_of, place_of}
 use Rattle.plain_model.specs.Paths.{Bytes}
 use Rattle.plain_model.specs.Text.{line}
 use Rattle.plain_model.specs.Trees.{TreeOf, at, put}
-use Rattle.history_laws.proofs.Ids.{place-at}
+use Rattle.history_laws.proofs.Ids.{place_at}
 use Rattle.history_laws.proofs.TreeLaws.{at_put}
-use Rattle.event_arena.proofs.ListLemmas.{drop-item, take-item}
+use Rattle.event_arena.proofs.ListLemmas.{drop_item, take_item}
 use Rattle.listing.specs.Listings.{line_of}
 use Rattle.listing.specs.Stamping.{AreCounts, counted, ranks, sharing_event}
 use Rattle.listing.specs.Stamps.{is_stamped, sharing, stamp_line, stamp_of, which_text}
@@ -78,7 +78,7 @@ module _ (id mark : ℕ) (branch : Bytes) (author committer : Signed) (encoding 
       ≡ line_of (stamp_line all) (number_of any all) (find_event any all)
   stamped_line all any k which counts numbers place found are is number =
       let stamp = stamp_of committer in
-      let item = place-at any all k place in
+      let item = place_at any all k place in
       let same : item.0 ≡ commit = same_Some item.0 commit (sym item.2 ∙ found) in
       let rank =
       ap (λ numbers. unwrap_or (slice_get numbers k) 0) is
@@ -125,8 +125,8 @@ pub ranked_by_one : (events : List PlainEvent) (k : ℕ) (e : PlainEvent) (out n
     → new ++ ranks (take (k + 1) events) (drop (k + 1) events) ≡ ranks [] events
 ranked_by_one events k e out new at is before =
     let rest = ranks (take k events ++ e ∷ []) (drop (suc k) events) in
-    rw (add-one, is, take-item events k e at) (
+    rw (add-one, is, take_item events k e at) (
     append_assoc out (sharing_event (take k events ++ e ∷ []) e ∷ []) rest
-    ∙ ap (λ later. out ++ ranks (take k events) later) (sym (drop-item events k e at))
+    ∙ ap (λ later. out ++ ranks (take k events) later) (sym (drop_item events k e at))
     ∙ before
     )

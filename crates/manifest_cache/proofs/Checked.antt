@@ -19,23 +19,23 @@ use Rattle.plain_model.specs.declared.person.Signed.{Signed}
 use Rattle.plain_model.specs.Paths.{Bytes}
 use Rattle.plain_model.specs.Trees.{Tree}
 use Rattle.history_laws.specs.Once.{AreDistinct}
-use Rattle.event_arena.proofs.ListLemmas.{drop-item, take-item}
-use Rattle.history_laws.proofs.SoundOnce.{has_id-find}
-use Rattle.history_laws.proofs.Ids.{has_own, same_id-true}
+use Rattle.event_arena.proofs.ListLemmas.{drop_item, take_item}
+use Rattle.history_laws.proofs.SoundOnce.{has_id_find}
+use Rattle.history_laws.proofs.Ids.{has_own, same_id_true}
 use Rattle.history_laws.proofs.Lists.{all_imply, item_at}
 use Rattle.edit_laws.specs.Checking.{event_fault, fault_of, first_fault, first_refused, tree_check, unless}
 use Rattle.edit_laws.proofs.Checked.{none_refused}
 use Rattle.manifest_cache.specs.Checking.{Applies, Checks, HaveTrees, begun_of}
 use Rattle.manifest_cache.specs.Lines.{line, line_before}
 use Rattle.manifest_cache.specs.Walks.{first_parent}
-use Rattle.manifest_cache.proofs.Lines.{after_found, line_front, line_here, not_again, past-append, tree_along, tree_line, tree_more, unknown, with_commit}
+use Rattle.manifest_cache.proofs.Lines.{after_found, line_front, line_here, not_again, past_append, tree_along, tree_line, tree_more, unknown, with_commit}
 use Rattle.manifest_cache.proofs.Prefixes.{find_more}
 
 -- ---- faults of lists
 
-pub fault-append : (events xs ys : List PlainEvent) → first_fault events (xs ++ ys) ≡ option_or (first_fault events xs) (first_fault events ys)
-fault-append events [] ys = refl
-fault-append events (x ∷ xs) ys = ap (option_or (event_fault events x)) (fault-append events xs ys) ∙ go (event_fault events x)
+pub fault_append : (events xs ys : List PlainEvent) → first_fault events (xs ++ ys) ≡ option_or (first_fault events xs) (first_fault events ys)
+fault_append events [] ys = refl
+fault_append events (x ∷ xs) ys = ap (option_or (event_fault events x)) (fault_append events xs ys) ∙ go (event_fault events x)
   where
     go : (o : Option Fault)
         → option_or o (option_or (first_fault events xs) (first_fault events ys)) ≡ option_or (option_or o (first_fault events xs)) (first_fault events ys)
@@ -46,7 +46,7 @@ fault-append events (x ∷ xs) ys = ap (option_or (event_fault events x)) (fault
 
 pub found_last : (xs : List PlainEvent) (e : PlainEvent) (id : AnyId) → IsSome (find_event id (xs ++ e ∷ [])) → IsSome (find_event id xs) ⊎ (id ≡ id_of e)
 found_last [] e id h = elim (cases_Bool (same_id id (id_of e))) [
-  | inl it ↦ inr (same_id-true id (id_of e) it)
+  | inl it ↦ inr (same_id_true id (id_of e) it)
   | inr no_it ↦ absurd (true≢false (sym (rw no_it at h)))
 ]
 found_last (x ∷ xs) e id h = elim (cases_Bool (same_id id (id_of x))) [
@@ -93,7 +93,7 @@ parents_found xs ys (Commit id mark branch author committer encoding comment par
     let e = Commit id mark branch author committer encoding comment parents ops aliases in
     let n : Node = record { id = id; parents = parents; ops = ops } in
     let whole : past (xs ++ e ∷ ys) ≡ past ys ++ (n ∷ past xs) =
-    ap past (sym (append_assoc xs (e ∷ []) ys)) ∙ past-append (xs ++ e ∷ []) ys ∙ ap (λ (p : Past). past ys ++ p) (past-append xs (e ∷ [])) in
+    ap past (sym (append_assoc xs (e ∷ []) ys)) ∙ past_append (xs ++ e ∷ []) ys ∙ ap (λ (p : Past). past ys ++ p) (past_append xs (e ∷ [])) in
     all_imply (λ p. IsTrue (knows (past xs) p)) (λ p. IsSome (find_event (any.Commit p) xs)) (known_found xs) parents (linked_back (past ys) (n ∷ past xs) (subst IsLinkedPast whole h)).1
 
 module _ (after : List PlainEvent) (once : AreDistinct after) (linked : IsLinkedPast (past after)) where
@@ -105,7 +105,7 @@ module _ (after : List PlainEvent) (once : AreDistinct after) (linked : IsLinked
     ys = drop (suc k) after
 
     is : after ≡ xs ++ e ∷ ys
-    is = sym (take-append-drop k after) ∙ ap (λ (zs : List PlainEvent). xs ++ zs) (drop-item after k e at)
+    is = sym (take-append-drop k after) ∙ ap (λ (zs : List PlainEvent). xs ++ zs) (drop_item after k e at)
 
     distinct : AreDistinct (xs ++ e ∷ ys)
     distinct = subst AreDistinct is once
@@ -185,7 +185,7 @@ module _ (after : List PlainEvent) (once : AreDistinct after) (linked : IsLinked
 
     -- one commit more has a tree
     pub one_more : HaveTrees after xs → ((c : ℕ) → any.Commit c ≡ id_of e → IsSome (tree after c)) → HaveTrees after (take (k + 1) after)
-    one_more have own c h = elim (found_last xs e (any.Commit c) (subst (λ (es : List PlainEvent). IsSome (find_event (any.Commit c) es)) (ap (λ n. take n after) (add-one k) ∙ take-item after k e at) h)) [
+    one_more have own c h = elim (found_last xs e (any.Commit c) (subst (λ (es : List PlainEvent). IsSome (find_event (any.Commit c) es)) (ap (λ n. take n after) (add-one k) ∙ take_item after k e at) h)) [
       | inl earlier ↦ have c earlier
       | inr it ↦ own c it
     ]
@@ -195,23 +195,23 @@ module _ (after : List PlainEvent) (once : AreDistinct after) (linked : IsLinked
   no_faults zero within have = refl
   no_faults (suc k) within have =
       let e = item_at after k (omega (arith, within)) in
-      let more = take-item after k e.0 e.1 in
+      let more = take_item after k e.0 e.1 in
       let earlier : HaveTrees after (take k after) =
       λ c h. have c (subst (λ (es : List PlainEvent). IsSome (find_event (any.Commit c) es)) (sym more) (find_more (take k after) (e.0 ∷ []) (any.Commit c) h)) in
       ap (first_fault after) more
-      ∙ fault-append after (take k after) (e.0 ∷ [])
+      ∙ fault_append after (take k after) (e.0 ∷ [])
       ∙ ap (λ (o : Option Fault). option_or o (first_fault after (e.0 ∷ []))) (no_faults k (omega (arith, within)) earlier)
       ∙ ap (λ (o : Option Fault). option_or o None) (no_fault k e.0 e.1 (λ c own. have c (subst (λ (es : List PlainEvent). IsSome (find_event (any.Commit c) es)) (sym more) (last_found (take k after) e.0 (any.Commit c) own))))
     where
       last_found : (xs : List PlainEvent) (e : PlainEvent) (id : AnyId) → id ≡ id_of e → IsSome (find_event id (xs ++ e ∷ []))
-      last_found xs e id own = subst (λ i. IsSome (find_event i (xs ++ e ∷ []))) (sym own) (sym (has_id-find (xs ++ e ∷ []) (id_of e)) ∙ has_own xs [] e)
+      last_found xs e id own = subst (λ i. IsSome (find_event i (xs ++ e ∷ []))) (sym own) (sym (has_id_find (xs ++ e ∷ []) (id_of e)) ∙ has_own xs [] e)
 
   -- the first fault is that of an event after such ones
   pub first_is : (k : ℕ) (e : PlainEvent) (f : Fault) → slice_get after k ≡ Some e → k < length after → HaveTrees after (take k after)
       → event_fault after e ≡ Some f → first_fault after after ≡ Some f
   first_is k e f at within have fault =
       ap (first_fault after) (is k e at)
-      ∙ fault-append after (take k after) (e ∷ drop (suc k) after)
+      ∙ fault_append after (take k after) (e ∷ drop (suc k) after)
       ∙ ap (λ (o : Option Fault). option_or o (option_or (event_fault after e) (first_fault after (drop (suc k) after)))) (no_faults k (omega (arith, within)) have)
       ∙ ap (λ (o : Option Fault). option_or o (first_fault after (drop (suc k) after))) fault
 

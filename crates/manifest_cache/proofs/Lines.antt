@@ -15,7 +15,7 @@ use Rattle.plain_model.specs.Lookups.{event_ops, event_parents, find_event, id_o
 use Rattle.plain_model.specs.Trees.{Tree}
 use Rattle.plain_model.proofs.Numbers.{eqb_turned}
 use Rattle.history_laws.proofs.Commits.{nodes_append, unknown_both}
-use Rattle.history_laws.proofs.Ids.{absent-cons, same_id-true}
+use Rattle.history_laws.proofs.Ids.{absent_cons, same_id_true}
 use Rattle.history_laws.proofs.LineLaws.{folded_more}
 use Rattle.history_laws.specs.Once.{AreDistinct}
 use Rattle.manifest_cache.specs.Lines.{Line, line, line_before, line_in, ops_of, size}
@@ -79,8 +79,8 @@ skip : (a b : Past) (c : ℕ) → knows a c ≡ false → line_in (a ++ b) c ≡
 skip [] b c h = refl
 skip (n ∷ a) b c h = let parts = or_parts (n.id == c) (knows a c) h in rw parts.0 (skip a b c parts.1)
 
-pub past-append : (xs ys : List PlainEvent) → past (xs ++ ys) ≡ past ys ++ past xs
-past-append xs ys = ap reverse (nodes_append xs ys) ∙ reverse-append (nodes xs) (nodes ys)
+pub past_append : (xs ys : List PlainEvent) → past (xs ++ ys) ≡ past ys ++ past xs
+past_append xs ys = ap reverse (nodes_append xs ys) ∙ reverse-append (nodes xs) (nodes ys)
 
 pub unknown : (ys : List PlainEvent) (c : ℕ) → find_event (any.Commit c) ys ≡ None → knows (past ys) c ≡ false
 unknown [] c h = refl
@@ -90,13 +90,13 @@ unknown (Reset id branch target ∷ ys) c h = unknown ys c h
 unknown (Pass id line ∷ ys) c h = unknown ys c h
 unknown (Commit id mark branch author committer encoding comment parents ops aliases ∷ ys) c h =
     let n : Node = record { id = id; parents = parents; ops = ops } in
-    let rest = absent-cons (any.Commit c) (Commit id mark branch author committer encoding comment parents ops aliases) ys h in
+    let rest = absent_cons (any.Commit c) (Commit id mark branch author committer encoding comment parents ops aliases) ys h in
     ap (λ (p : Past). knows p c) (reverse-append (n ∷ []) (nodes ys))
     ∙ unknown_both (past ys) (n ∷ []) c (unknown ys c rest.1) (ap (λ t. t || false) (eqb_turned id c ∙ rest.0))
 
 -- where a commit isn't among later events, its line doesn't look at them
 pub line_front : (xs ys : List PlainEvent) (c : ℕ) → find_event (any.Commit c) ys ≡ None → line (xs ++ ys) c ≡ line xs c
-line_front xs ys c h = ap (λ (p : Past). line_in p c) (past-append xs ys) ∙ skip (past ys) (past xs) c (unknown ys c h)
+line_front xs ys c h = ap (λ (p : Past). line_in p c) (past_append xs ys) ∙ skip (past ys) (past xs) c (unknown ys c h)
 
 -- the line of a commit between other events
 pub line_here : (xs ys : List PlainEvent) (e : PlainEvent) (c : ℕ) → any.Commit c ≡ id_of e → find_event (any.Commit c) ys ≡ None
@@ -111,7 +111,7 @@ line_here xs ys (Commit id mark branch author committer encoding comment parents
     let same : c ≡ id = cc in
     ap (λ (es : List PlainEvent). line es c) (sym (append_assoc xs (e ∷ []) ys))
     ∙ line_front (xs ++ e ∷ []) ys c h
-    ∙ ap (λ (p : Past). line_in p c) (past-append xs (e ∷ []))
+    ∙ ap (λ (p : Past). line_in p c) (past_append xs (e ∷ []))
     ∙ last n same
   where
     last : (n : Node) → c ≡ n.id → line_in (n ∷ past xs) c ≡ with_commit c n.ops (line_before (line xs) n.parents)
@@ -130,13 +130,13 @@ found_split id (x ∷ es) e h = elim (cases_Bool (same_id id (id_of x))) [
 
 find_back : (xs zs : List PlainEvent) (id : AnyId) → find_event id (xs ++ zs) ≡ None → find_event id zs ≡ None
 find_back [] zs id h = h
-find_back (x ∷ xs) zs id h = find_back xs zs id (absent-cons id x (xs ++ zs) h).1
+find_back (x ∷ xs) zs id h = find_back xs zs id (absent_cons id x (xs ++ zs) h).1
 
 -- what is found in front isn't found later
 pub after_found : (xs zs : List PlainEvent) (id : AnyId) → AreDistinct (xs ++ zs) → IsSome (find_event id xs) → find_event id zs ≡ None
 after_found [] zs id d there = absurd (true≢false (sym there))
 after_found (x ∷ xs) zs id d there = elim (cases_Bool (same_id id (id_of x))) [
-  | inl it ↦ find_back xs zs id (ap (λ i. find_event i (xs ++ zs)) (same_id-true id (id_of x) it) ∙ d.0)
+  | inl it ↦ find_back xs zs id (ap (λ i. find_event i (xs ++ zs)) (same_id_true id (id_of x) it) ∙ d.0)
   | inr no_it ↦ after_found xs zs id d.1 (rw no_it at there)
 ]
 

@@ -14,7 +14,7 @@ use Rattle.plain_model.specs.Lookups.{find_event, place_of}
 use Rattle.plain_model.proofs.Numbers.{eqb_turned}
 use Rattle.history_laws.proofs.Ids.{has_id_still}
 use Rattle.history_laws.specs.Once.{AreDistinct}
-use Rattle.history_laws.proofs.SoundOnce.{has_id-find}
+use Rattle.history_laws.proofs.SoundOnce.{has_id_find}
 use Rattle.manifest_cache.specs.Checking.{links}
 use Rattle.manifest_cache.specs.Lines.{Line, line, line_before, line_in}
 use Rattle.manifest_cache.proofs.Lines.{after_found, line_front, with_commit}
@@ -83,7 +83,7 @@ has_link (Commit id mark branch author committer encoding comment parents ops al
 
 -- what is found in front is found
 pub find_more : (xs ys : List PlainEvent) (id : AnyId) → IsSome (find_event id xs) → IsSome (find_event id (xs ++ ys))
-find_more xs ys id h = sym (has_id-find (xs ++ ys) id) ∙ has_id_still xs ys id (has_id-find xs id ∙ h)
+find_more xs ys id h = sym (has_id_find (xs ++ ys) id) ∙ has_id_still xs ys id (has_id_find xs id ∙ h)
 
 front_line : (es : List PlainEvent) (f c : ℕ) → AreDistinct es → IsSome (find_event (any.Commit c) (take f es)) → line es c ≡ line (take f es) c
 front_line es f c once there =

@@ -9,8 +9,8 @@ use Rattle.plain_model.specs.declared.id.AnyId.TheVariants as any
 use Rattle.plain_model.specs.declared.event.PlainEvent.{PlainEvent}
 use Rattle.plain_model.specs.Lookups.{event_ops, event_parents, find_event, id_of, place_of, same_id}
 use Rattle.history_laws.specs.Once.{AreDistinct}
-use Rattle.event_arena.proofs.OnceLemmas.{distinct-absent}
-use Rattle.history_laws.proofs.Ids.{absent-cons, find-id, same_id-refl}
+use Rattle.event_arena.proofs.OnceLemmas.{distinct_absent}
+use Rattle.history_laws.proofs.Ids.{absent_cons, find_id, same_id_refl}
 use Rattle.manifest_cache.specs.Following.{is_before, is_earlier}
 use Rattle.manifest_cache.specs.Lines.{line, line_before}
 use Rattle.manifest_cache.specs.Walks.{first_parent}
@@ -52,7 +52,7 @@ place_front (x ∷ xs) zs id h = elim (cases_Bool (same_id id (id_of x))) [
 pub place_back : (xs zs : List PlainEvent) (id : AnyId) (j : ℕ) → find_event id xs ≡ None → place_of id (xs ++ zs) ≡ Some j → length xs ≤ j
 place_back [] zs id j h at = omega arith
 place_back (x ∷ xs) zs id j h at =
-    let rest = absent-cons id x xs h in
+    let rest = absent_cons id x xs h in
     go (place_of id (xs ++ zs)) (λ k is. place_back xs zs id k rest.1 is) (rw rest.0 at at)
   where
     go : (o : Option ℕ) → ((k : ℕ) → o ≡ Some k → length xs ≤ k) → option_map suc o ≡ Some j → suc (length xs) ≤ j
@@ -63,9 +63,9 @@ place_back (x ∷ xs) zs id j h at =
         omega (arith, more, same)
 
 place_own : (xs ys : List PlainEvent) (e : PlainEvent) → find_event (id_of e) xs ≡ None → place_of (id_of e) (xs ++ e ∷ ys) ≡ Some (length xs)
-place_own [] ys e h = rw (same_id-refl (id_of e)) refl
+place_own [] ys e h = rw (same_id_refl (id_of e)) refl
 place_own (x ∷ xs) ys e h =
-    let rest = absent-cons (id_of e) x xs h in
+    let rest = absent_cons (id_of e) x xs h in
     rw (rest.0, place_own xs ys e rest.1) refl
 
 -- ---- a commit in a list in which no event is twice
@@ -84,7 +84,7 @@ module _ (events : List PlainEvent) (once : AreDistinct events) (c : ℕ) (e : P
   distinct = subst AreDistinct is once
 
   own : any.Commit c ≡ id_of e
-  own = find-id (any.Commit c) events e found
+  own = find_id (any.Commit c) events e found
 
   step : line events c ≡ with_commit c (event_ops e) (line_before (line front) (event_parents e))
   step = ap (λ (es : List PlainEvent). line es c) is ∙ line_here front rest e c own (ap (λ i. find_event i rest) own ∙ not_again front rest e distinct)
@@ -118,7 +118,7 @@ module _ (events : List PlainEvent) (once : AreDistinct events) (c : ℕ) (e : P
     earlier_is : (o : Option PlainEvent) → find_event (any.Commit p) front ≡ o → is_earlier events p c ≡ is_some o
     earlier_is o at =
         ap (λ (es : List PlainEvent). is_earlier es p c) is
-        ∙ ap (is_before (place_of (any.Commit p) (front ++ e ∷ rest))) (ap (λ i. place_of i (front ++ e ∷ rest)) own ∙ place_own front rest e (distinct-absent front rest e distinct))
+        ∙ ap (is_before (place_of (any.Commit p) (front ++ e ∷ rest))) (ap (λ i. place_of i (front ++ e ∷ rest)) own ∙ place_own front rest e (distinct_absent front rest e distinct))
         ∙ go o at
       where
         later : (k : Option ℕ) → ((j : ℕ) → k ≡ Some j → length front ≤ j) → is_before k (Some (length front)) ≡ false

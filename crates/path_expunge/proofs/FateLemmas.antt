@@ -15,9 +15,9 @@ use Rattle.plain_model.specs.Paths.{Bytes}
 use Rattle.plain_model.specs.Soundness.{IsSound}
 use Rattle.event_arena.specs.Changes.{changed, with_parents, with_target, without_all}
 use Rattle.history_laws.specs.Once.{AreDistinct}
-use Rattle.history_laws.proofs.Ids.{absent-cons, cons-absent}
-use Rattle.event_arena.proofs.ListLemmas.{drop-item}
-use Rattle.event_arena.proofs.OnceLemmas.{distinct-absent}
+use Rattle.history_laws.proofs.Ids.{absent_cons, cons_absent}
+use Rattle.event_arena.proofs.ListLemmas.{drop_item}
+use Rattle.event_arena.proofs.OnceLemmas.{distinct_absent}
 use Rattle.event_arena.proofs.StepLemmas.{changed_after}
 use Rattle.edit_laws.proofs.Sound.{in_parts}
 use Rattle.expunge_laws.specs.InLine.{IsInLine, ops_in_line, parents_in_line}
@@ -110,8 +110,8 @@ absent_given : (fates : List Fate) (es : List PlainEvent) (id : AnyId) → find_
 absent_given [] es id h = ap (find_event id) (none_given es) ∙ h
 absent_given (f ∷ fs) [] id h = refl
 absent_given (f ∷ fs) (e ∷ es) id h =
-    let rest = absent-cons id e es h in
-    cons-absent id (given_way f e) (all_given_way fs es) (ap (same_id id) (given_id f e) ∙ rest.0) (absent_given fs es id rest.1)
+    let rest = absent_cons id e es h in
+    cons_absent id (given_way f e) (all_given_way fs es) (ap (same_id id) (given_id f e) ∙ rest.0) (absent_given fs es id rest.1)
 
 split_given : (k : ℕ) (fates : List Fate) (es : List PlainEvent) → all_given_way (take k fates) es ≡ all_given_way (take k fates) (take k es) ++ drop k es
 split_given zero fates es = none_given es
@@ -133,9 +133,9 @@ pub step_given : (es : List PlainEvent) → AreDistinct es → (k : ℕ) (fates 
     changed (id_of e) (given_way f) (all_given_way (take k fates) es) ≡ all_given_way (take (suc k) fates) es
 step_given es once k fates f e low is at =
     let parts : es ≡ take k es ++ e ∷ drop (suc k) es =
-    sym (take-append-drop k es) ∙ ap (λ (ys : List PlainEvent). take k es ++ ys) (drop-item es k e at) in
-    let absent = absent_given (take k fates) (take k es) (id_of e) (distinct-absent (take k es) (drop (suc k) es) e (subst AreDistinct parts once)) in
-    ap (changed (id_of e) (given_way f)) (split_given k fates es ∙ ap (λ (ys : List PlainEvent). all_given_way (take k fates) (take k es) ++ ys) (drop-item es k e at))
+    sym (take-append-drop k es) ∙ ap (λ (ys : List PlainEvent). take k es ++ ys) (drop_item es k e at) in
+    let absent = absent_given (take k fates) (take k es) (id_of e) (distinct_absent (take k es) (drop (suc k) es) e (subst AreDistinct parts once)) in
+    ap (changed (id_of e) (given_way f)) (split_given k fates es ∙ ap (λ (ys : List PlainEvent). all_given_way (take k fates) (take k es) ++ ys) (drop_item es k e at))
     ∙ changed_after (given_way f) (all_given_way (take k fates) (take k es)) (drop (suc k) es) e absent
     ∙ sym (next_given k fates es f e low is at)
 

@@ -13,7 +13,7 @@ use Rattle.plain_model.specs.Lookups.{find_event, id_of}
 use Rattle.plain_model.specs.Paths.{Bytes}
 use Rattle.plain_model.specs.Soundness.{IsCommitOf, IsSound, has_id}
 use Rattle.plain_model.specs.Trees.{IsTree, Tree}
-use Rattle.history_laws.proofs.SoundOnce.{has_id-find}
+use Rattle.history_laws.proofs.SoundOnce.{has_id_find}
 use Rattle.edit_laws.specs.Equations.{Fits}
 use Rattle.edit_laws.proofs.Lists.{OfNodes, own_here}
 use Rattle.graph_walk.proofs.TurnLemmas.{all_at}
@@ -64,7 +64,7 @@ module _ (events : List PlainEvent) (h : IsSound events) (k id mark : ℕ) (bran
       where
         go : (ps : List ℕ) → AllByRecursion (λ p. IsSome (find_event (any.Commit p) events)) ps → AllByRecursion (IsCommitOf events) ps
         go [] a = tt
-        go (p ∷ ps) a = (has_id-find events (any.Commit p) ∙ a.0, go ps a.1)
+        go (p ∷ ps) a = (has_id_find events (any.Commit p) ∙ a.0, go ps a.1)
 
     -- it has a tree
     pub has_tree : IsSome (folded ops (begun (tree events) parents))

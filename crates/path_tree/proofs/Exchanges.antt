@@ -14,7 +14,7 @@ use Rattle.path_tree.specs.Rows.{row_if, IsFound, IsPlace, IsExchange}
 use Rattle.path_tree.specs.Setting.{FitsIf, PutsUnder}
 use Rattle.path_tree.proofs.Keys.{at_flat}
 use Rattle.path_tree.proofs.Splices.{around, at_exchanged, spliced_sound}
-use Rattle.path_tree.proofs.Searching.{found_rows, place_rows, rows_of-append}
+use Rattle.path_tree.proofs.Searching.{found_rows, place_rows, rows_of_append}
 use Rattle.path_tree.proofs.Measures.{extent_spliced}
 
 -- ---- what follows from an exchange
@@ -99,7 +99,7 @@ rows_set (b ∷ cs) (suc i) c h =
 
 pub rows_inserted : (cs : List Child) (i : ℕ) (c : Child) → rows_of (take i cs ++ c ∷ drop i cs) ≡ rows_of (take i cs) ++
     ((c.key.value.items, member_of c.node) ∷ rows_of (drop i cs))
-rows_inserted cs i c = rows_of-append (take i cs) (c ∷ drop i cs)
+rows_inserted cs i c = rows_of_append (take i cs) (c ∷ drop i cs)
 
 -- what is at an index fits its key
 pub fits_index : (cs : List Child) (i : ℕ) (d : Child) → i < length cs → AllFit (rows_of cs)
@@ -111,7 +111,7 @@ fits_index (c ∷ cs) (suc i) d h f = fits_index cs i d (omega (arith, h)) f.1
 pub rows_removed : (cs : List Child) (i : ℕ) → rows_of (take i cs ++ drop (suc i) cs) ≡ rows_of (take i cs) ++ rows_of (drop (i + 1) cs)
 rows_removed cs i =
     let next : suc i ≡ i + 1 = omega arith in
-    rows_of-append (take i cs) (drop (suc i) cs) ∙ ap (λ n. rows_of (take i cs) ++ rows_of (drop n cs)) next
+    rows_of_append (take i cs) (drop (suc i) cs) ∙ ap (λ n. rows_of (take i cs) ++ rows_of (drop n cs)) next
 
 -- the removed one was set before
 pub rows_removed_set : (cs : List Child) (i : ℕ) (c : Child)

@@ -107,9 +107,9 @@ at_prefixed q k (e ∷ es) h =
     by false b o = refl
 
 module _ {X : Type 0} where
-  pub at-append : (a b : TreeOf X) (q : Bytes) → at (a ++ b) q ≡ option_or (at a q) (at b q)
-  at-append [] b q = refl
-  at-append (e ∷ a) b q = ap (λ o. cond (eq_by_cmp by_bytes q e.0) (Some e.1) o) (at-append a b q) ∙ by (eq_by_cmp by_bytes q e.0) (at a q) (at b q)
+  pub at_append : (a b : TreeOf X) (q : Bytes) → at (a ++ b) q ≡ option_or (at a q) (at b q)
+  at_append [] b q = refl
+  at_append (e ∷ a) b q = ap (λ o. cond (eq_by_cmp by_bytes q e.0) (Some e.1) o) (at_append a b q) ∙ by (eq_by_cmp by_bytes q e.0) (at a q) (at b q)
     where
       by : (t : Bool) (o p : Option X) → cond t (Some e.1) (option_or o p) ≡ option_or (cond t (Some e.1) o) p
       by true o p = refl
@@ -126,7 +126,7 @@ sound_rest r rs s = record { in_order = second _ _ s.in_order; all_fit = s.all_f
 pub at_flat : (rows : TreeOf Member) (q : Bytes) → AreSound rows → at (flat rows) q ≡ at_member (at rows (key_of q)) (rest_of q)
 at_flat [] q s = refl
 at_flat (r ∷ rs) q s =
-    at-append (prefixed r.0 (member_tree r.1)) (flat rs) q
+    at_append (prefixed r.0 (member_tree r.1)) (flat rs) q
     ∙ ap (λ o. option_or o (at (flat rs) q)) (at_prefixed q r.0 (member_tree r.1) (member_splits r.0 r.1 s.all_fit.0))
     ∙ ap (λ o. option_or (cond (eq_by_cmp by_bytes (key_of q) r.0) (at (member_tree r.1) (rest_of q)) None) o) (at_flat rs q (sound_rest r rs s))
     ∙ by (eq_by_cmp by_bytes (key_of q) r.0) refl
@@ -203,17 +203,17 @@ pub lt_of : (o : Ordering) → o ≡ Less → T (is_lt o)
 lt_of o h = subst (λ r. T (is_lt r)) (sym h) tt
 
 module _ {X : Type 0} where
-  before-append : (p : Bytes) (a b : TreeOf X) → T (is_before p a) → T (is_before p b) → T (is_before p (a ++ b))
-  before-append p [] b h k = k
-  before-append p (e ∷ a) b h k = both _ _ (first _ _ h) (before-append p a b (second _ _ h) k)
+  before_append : (p : Bytes) (a b : TreeOf X) → T (is_before p a) → T (is_before p b) → T (is_before p (a ++ b))
+  before_append p [] b h k = k
+  before_append p (e ∷ a) b h k = both _ _ (first _ _ h) (before_append p a b (second _ _ h) k)
 
   abbrev AllBefore : TreeOf X → TreeOf X → Type 0
   AllBefore [] b = Unit {0}
   AllBefore (e ∷ a) b = T (is_before e.0 b) × AllBefore a b
 
-  sorted-append : (a b : TreeOf X) → IsInOrder a → IsInOrder b → AllBefore a b → IsInOrder (a ++ b)
-  sorted-append [] b h k l = k
-  sorted-append (e ∷ a) b h k l = both _ _ (before-append e.0 a b (first _ _ h) l.0) (sorted-append a b (second _ _ h) k l.1)
+  sorted_append : (a b : TreeOf X) → IsInOrder a → IsInOrder b → AllBefore a b → IsInOrder (a ++ b)
+  sorted_append [] b h k l = k
+  sorted_append (e ∷ a) b h k l = both _ _ (before_append e.0 a b (first _ _ h) l.0) (sorted_append a b (second _ _ h) k l.1)
 
 before_prefixed : (x k : Bytes) (t : Tree) → ((v : Bytes) → by_bytes x (k ++ v) ≡ Less) → T (is_before x (prefixed k t))
 before_prefixed x k [] h = tt
@@ -222,7 +222,7 @@ before_prefixed x k (e ∷ es) h = both _ _ (lt_of _ (h e.0)) (before_prefixed x
 before_flat : (k u : Bytes) (rs : TreeOf Member) → Extends k u → T (is_before k rs) → AllFit rs → T (is_before (k ++ u) (flat rs))
 before_flat k u [] ext h f = tt
 before_flat k u (r ∷ rs) ext h f =
-    before-append (k ++ u) (prefixed r.0 (member_tree r.1)) (flat rs)
+    before_append (k ++ u) (prefixed r.0 (member_tree r.1)) (flat rs)
     (before_prefixed (k ++ u) r.0 (member_tree r.1) (λ v. less_apart k u r.0 v ext (fits_key r.0 r.1 f.0) (less_of _ (first _ _ h))))
     (before_flat k u rs ext (second _ _ h) f.1)
 
@@ -249,5 +249,5 @@ member_in_order k (folder tree) f = f.2
 pub flat_in_order : (rows : TreeOf Member) → AreSound rows → IsInOrder (flat rows)
 flat_in_order [] s = tt
 flat_in_order (r ∷ rs) s =
-    sorted-append (prefixed r.0 (member_tree r.1)) (flat rs) (prefixed_in_order r.0 (member_tree r.1) (member_in_order r.0 r.1 s.all_fit.0))
+    sorted_append (prefixed r.0 (member_tree r.1)) (flat rs) (prefixed_in_order r.0 (member_tree r.1) (member_in_order r.0 r.1 s.all_fit.0))
     (flat_in_order rs (sound_rest r rs s)) (member_before r.0 r.1 rs s.all_fit.0 (first _ _ s.in_order) s.all_fit.1)

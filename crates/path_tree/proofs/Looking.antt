@@ -12,12 +12,12 @@ use Rattle.path_tree.specs.Folders.Member.{file, folder}
 use Rattle.path_tree.specs.Setting.{FitsIf}
 use Rattle.path_tree.proofs.Keys.{whole, at_flat}
 
-pub length-both : (a b : Bytes) → length (a ++ b) ≡ length a + length b
-length-both [] b = omega arith
-length-both (x ∷ a) b = omega (arith, length-both a b)
+pub length_both : (a b : Bytes) → length (a ++ b) ≡ length a + length b
+length_both [] b = omega arith
+length_both (x ∷ a) b = omega (arith, length_both a b)
 
 pub rest_shorter : (q : Bytes) → 0 < length (key_of q) → length (rest_of q) < length q
-rest_shorter q h = omega (arith, h, length-both (key_of q) (rest_of q), ap (λ (x : Bytes). length x) (whole q))
+rest_shorter q h = omega (arith, h, length_both (key_of q) (rest_of q), ap (λ (x : Bytes). length x) (whole q))
 
 -- what is under a key fits it
 pub fits_at : (k : Bytes) (p : Member) (rows : TreeOf Member) → AllFit rows → at rows k ≡ Some p → Fits k p

@@ -7,30 +7,30 @@ use Rattle.path_tree.specs.Folders.{Member, prefixed, member_tree, flat, longest
 use Rattle.path_tree.specs.declared.folder.extent.Extent.{Extent}
 use Rattle.path_tree.specs.Inside.{rows_of, row_tree, bounded, extent_of}
 
-length-both : (a b : Bytes) → length (a ++ b) ≡ length a + length b
-length-both [] b = omega arith
-length-both (x ∷ a) b = omega (arith, length-both a b)
+length_both : (a b : Bytes) → length (a ++ b) ≡ length a + length b
+length_both [] b = omega arith
+length_both (x ∷ a) b = omega (arith, length_both a b)
 
-pub length-prefixed : (k : Bytes) (t : Tree) → length (prefixed k t) ≡ length t
-length-prefixed k [] = refl
-length-prefixed k (e ∷ t) = omega (arith, length-prefixed k t)
+pub length_prefixed : (k : Bytes) (t : Tree) → length (prefixed k t) ≡ length t
+length_prefixed k [] = refl
+length_prefixed k (e ∷ t) = omega (arith, length_prefixed k t)
 
-pub longest-prefixed : (k : Bytes) (t : Tree) → 0 < length t → longest (prefixed k t) ≡ length k + longest t
-longest-prefixed k [] h = absurd (omega arith)
-longest-prefixed k (e ∷ []) h = omega (arith, length-both k e.0)
-longest-prefixed k (e ∷ f ∷ t) h = omega (arith, length-both k e.0, longest-prefixed k (f ∷ t) (omega arith))
+pub longest_prefixed : (k : Bytes) (t : Tree) → 0 < length t → longest (prefixed k t) ≡ length k + longest t
+longest_prefixed k [] h = absurd (omega arith)
+longest_prefixed k (e ∷ []) h = omega (arith, length_both k e.0)
+longest_prefixed k (e ∷ f ∷ t) h = omega (arith, length_both k e.0, longest_prefixed k (f ∷ t) (omega arith))
 
-pub trees-append : (a b : Tree) → length (a ++ b) ≡ length a + length b
-trees-append [] b = omega arith
-trees-append (e ∷ a) b = omega (arith, trees-append a b)
+pub trees_append : (a b : Tree) → length (a ++ b) ≡ length a + length b
+trees_append [] b = omega arith
+trees_append (e ∷ a) b = omega (arith, trees_append a b)
 
-pub longest-append : (a b : Tree) → longest (a ++ b) ≡ max (longest a) (longest b)
-longest-append [] b = omega arith
-longest-append (e ∷ a) b = omega (arith, longest-append a b)
+pub longest_append : (a b : Tree) → longest (a ++ b) ≡ max (longest a) (longest b)
+longest_append [] b = omega arith
+longest_append (e ∷ a) b = omega (arith, longest_append a b)
 
-pub flat-push : (cs : List Child) (c : Child) → flat (rows_of (cs ++ c ∷ [])) ≡ flat (rows_of cs) ++ row_tree c
-flat-push [] c = append-nil (row_tree c)
-flat-push (b ∷ cs) c = ap (λ (t : Tree). row_tree b ++ t) (flat-push cs c) ∙ sym (append_assoc (row_tree b) (flat (rows_of cs)) (row_tree c))
+pub flat_push : (cs : List Child) (c : Child) → flat (rows_of (cs ++ c ∷ [])) ≡ flat (rows_of cs) ++ row_tree c
+flat_push [] c = append-nil (row_tree c)
+flat_push (b ∷ cs) c = ap (λ (t : Tree). row_tree b ++ t) (flat_push cs c) ∙ sym (append_assoc (row_tree b) (flat (rows_of cs)) (row_tree c))
 
 pub extent_by : (s t : Tree) → length s ≡ length t → longest s ≡ longest t → extent_of s ≡ extent_of t
 extent_by s t n l = ap (λ x. extent_from x (longest s)) n ∙ ap (λ x. extent_from (length t) x) l
@@ -42,18 +42,18 @@ extent_by s t n l = ap (λ x. extent_from x (longest s)) n ∙ ap (λ x. extent_
 pub extent_turned : (a r b : Tree) → extent_of (a ++ (r ++ b)) ≡ extent_of ((a ++ b) ++ r)
 extent_turned a r b =
     extent_by (a ++ (r ++ b)) ((a ++ b) ++ r)
-    (omega (arith, trees-append a (r ++ b), trees-append r b, trees-append (a ++ b) r, trees-append a b))
-    (omega (arith, longest-append a (r ++ b), longest-append r b, longest-append (a ++ b) r, longest-append a b))
+    (omega (arith, trees_append a (r ++ b), trees_append r b, trees_append (a ++ b) r, trees_append a b))
+    (omega (arith, longest_append a (r ++ b), longest_append r b, longest_append (a ++ b) r, longest_append a b))
 
-pub flat-append : (a b : TreeOf Member) → flat (a ++ b) ≡ flat a ++ flat b
-flat-append [] b = refl
-flat-append (r ∷ a) b =
-    ap (λ (t : Tree). prefixed r.0 (member_tree r.1) ++ t) (flat-append a b) ∙ sym (append_assoc (prefixed r.0 (member_tree r.1)) (flat a) (flat b))
+pub flat_append : (a b : TreeOf Member) → flat (a ++ b) ≡ flat a ++ flat b
+flat_append [] b = refl
+flat_append (r ∷ a) b =
+    ap (λ (t : Tree). prefixed r.0 (member_tree r.1) ++ t) (flat_append a b) ∙ sym (append_assoc (prefixed r.0 (member_tree r.1)) (flat a) (flat b))
 
 -- the paths of one row, and those of the rows around it
 pub extent_spliced : (a r b : TreeOf Member) → extent_of (flat (a ++ (r ++ b))) ≡ extent_of ((flat a ++ flat b) ++ flat r)
 extent_spliced a r b =
-    ap extent_of (flat-append a (r ++ b) ∙ ap (λ (t : Tree). flat a ++ t) (flat-append r b)) ∙ extent_turned (flat a) (flat r) (flat b)
+    ap extent_of (flat_append a (r ++ b) ∙ ap (λ (t : Tree). flat a ++ t) (flat_append r b)) ∙ extent_turned (flat a) (flat r) (flat b)
 
 -- the parts of an extent
 pub count_is : (e : Extent) (t : Tree) → e ≡ extent_of t → e.count ≡ bounded (length t)

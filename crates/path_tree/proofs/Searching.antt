@@ -77,20 +77,20 @@ absent_by key cs (Err i) sorted range h =
 
 -- ---- the rows around it
 
-pub rows_of-append : (a b : List Child) → rows_of (a ++ b) ≡ rows_of a ++ rows_of b
-rows_of-append [] b = refl
-rows_of-append (c ∷ a) b = ap (λ (l : TreeOf Member). (key_in c, member_of c.node) ∷ l) (rows_of-append a b)
+pub rows_of_append : (a b : List Child) → rows_of (a ++ b) ≡ rows_of a ++ rows_of b
+rows_of_append [] b = refl
+rows_of_append (c ∷ a) b = ap (λ (l : TreeOf Member). (key_in c, member_of c.node) ∷ l) (rows_of_append a b)
 
 pub found_rows : (key : Bytes) (cs : List Child) (i : ℕ) (d : Child) → IsFound key cs i
     → rows_of cs ≡ rows_of (take i cs) ++ (row_if key (Some (member_of (slice_index_or cs i d).node)) ++ rows_of (drop (i + 1) cs))
 found_rows key cs i d f =
     ap rows_of (sym (take-append-drop i cs))
-    ∙ rows_of-append (take i cs) (drop i cs)
+    ∙ rows_of_append (take i cs) (drop i cs)
     ∙ ap (λ (l : List Child). rows_of (take i cs) ++ rows_of l) (drop_more cs i d f.within)
     ∙ ap (λ (k : Bytes). rows_of (take i cs) ++ (k, member_of (slice_index_or cs i d).node) ∷ rows_of (drop (i + 1) cs)) (f.key_is d)
 
 pub place_rows : (cs : List Child) (i : ℕ) → rows_of cs ≡ rows_of (take i cs) ++ rows_of (drop i cs)
-place_rows cs i = ap rows_of (sym (take-append-drop i cs)) ∙ rows_of-append (take i cs) (drop i cs)
+place_rows cs i = ap rows_of (sym (take-append-drop i cs)) ∙ rows_of_append (take i cs) (drop i cs)
 
 pub found_at : (key : Bytes) (cs : List Child) (i : ℕ) (d : Child) → IsInOrder (rows_of cs) → IsFound key cs i
     → Some (member_of (slice_index_or cs i d).node) ≡ at (rows_of cs) key

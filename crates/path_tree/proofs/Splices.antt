@@ -14,7 +14,7 @@ use Rattle.path_tree.specs.Setting.{FitsIf}
 use Rattle.path_tree.specs.PathMaps.{IsInOrder}
 use Rattle.path_tree.specs.Rows.{AllBefore, AllAfter, row_if}
 use Rattle.path_tree.proofs.Orders.{both, first, second, less, is_before, none_before, turned_bytes}
-use Rattle.path_tree.proofs.Keys.{at-append, lt_of}
+use Rattle.path_tree.proofs.Keys.{at_append, lt_of}
 
 module _ {X : Type 0} where
   -- a key that comes after all rows isn't among them
@@ -41,8 +41,8 @@ module _ {X : Type 0} where
   pub at_spliced : (k : Bytes) (a : TreeOf X) (o : Option X) (b : TreeOf X) → AllBefore k a → AllAfter k b → (q : Bytes)
       → at (a ++ (row_if k o ++ b)) q ≡ cond (bytes_eq k q) o (at (a ++ b) q)
   at_spliced k a o b before after q =
-      at-append a (row_if k o ++ b) q
-      ∙ ap (option_or (at a q)) (at-append (row_if k o) b q)
+      at_append a (row_if k o ++ b) q
+      ∙ ap (option_or (at a q)) (at_append (row_if k o) b q)
       ∙ by (bytes_eq k q) refl
     where
       by : (t : Bool) → bytes_eq k q ≡ t → option_or (at a q) (option_or (at (row_if k o) q) (at b q)) ≡ cond t o (at (a ++ b) q)
@@ -52,7 +52,7 @@ module _ {X : Type 0} where
           ∙ ap (λ x. option_or x (at b k)) (at_own k o)
           ∙ ap (option_or o) (none_before k b after)
           ∙ or_none o
-      by false e = ap (λ x. option_or (at a q) (option_or x (at b q))) (at_row k q o e) ∙ sym (at-append a b q)
+      by false e = ap (λ x. option_or (at a q) (option_or x (at b q))) (at_row k q o e) ∙ sym (at_append a b q)
 
   pub at_exchanged : (k : Bytes) (a b : TreeOf X) (old new : Option X) → AllBefore k a → AllAfter k b → (q : Bytes)
       → at (a ++ (row_if k new ++ b)) q ≡ cond (bytes_eq k q) new (at (a ++ (row_if k old ++ b)) q)

@@ -25,7 +25,7 @@ use Rattle.path_tree.specs.Setting.{ends_with_slash, suffixes, Finds, FitsNode, 
 use Rattle.history_laws.specs.SoundTrees.{AllPaths}
 use Rattle.path_tree.proofs.Orders.{turned_bytes, same_tree}
 use Rattle.path_tree.proofs.Keys.{prefixed_in_order}
-use Rattle.path_tree.proofs.Measures.{longest-prefixed, length-prefixed}
+use Rattle.path_tree.proofs.Measures.{longest_prefixed, length_prefixed}
 use Rattle.path_tree.proofs.Placing.{drop_own}
 
 pub suffixes_in_order : (m : Option Member) → FitsNode m → IsInOrder (suffixes m)
@@ -256,7 +256,7 @@ has_long (e ∷ es) = ap (λ t. nat_lt MAX_PATH_BYTES (length e.0) || t) (has_lo
 pub some_suffixes : (m : Option Member) → FitsNode m → not (is_some m) ≡ false → 0 < length (suffixes m)
 some_suffixes None f h = absurd (true≢false h)
 some_suffixes (Some (file x)) f h = omega arith
-some_suffixes (Some (folder t)) f h = omega (arith, f.0, length-prefixed (47 ∷ []) t)
+some_suffixes (Some (folder t)) f h = omega (arith, f.0, length_prefixed (47 ∷ []) t)
 
 change_moves : (keep : Bool) (s t : Bytes) (old : Tree) → change (moves keep s t) old ≡ placed s t (subtree s old) (cond keep old (without s old))
 change_moves true s t old = refl
@@ -299,7 +299,7 @@ ends (b ∷ p) = ap (λ e. cond e (b == 47) (ends_with_slash (p ++ 47 ∷ []))) 
 -- a folder has paths below the target
 pub long_folder : (t : Bytes) (below : Tree) → 0 < length below → longest (prefixed t (prefixed (47 ∷ []) below)) ≡ length t + (longest below + 1)
 long_folder t below some =
-    omega (arith, longest-prefixed t (prefixed (47 ∷ []) below) (omega (arith, some, length-prefixed (47 ∷ []) below)), longest-prefixed (47 ∷ []) below some)
+    omega (arith, longest_prefixed t (prefixed (47 ∷ []) below) (omega (arith, some, length_prefixed (47 ∷ []) below)), longest_prefixed (47 ∷ []) below some)
 
 pub empty_of_count : (t : Tree) → bounded (length t) ≡ 0 → t ≡ []
 empty_of_count [] h = refl

@@ -12,9 +12,9 @@ use Rattle.path_tree.specs.declared.folder.Node.TheVariants.{File, Subfolder}
 use Rattle.path_tree.specs.Folders.{prefixed, flat, member_tree, total, is_folder_key, Fits, AllFit}
 use Rattle.path_tree.specs.Inside.{member_of, rows_of, tree_of, IsSoundFolder}
 
-pub total-append : (a b : Tree) → total (a ++ b) ≡ total a + total b
-total-append [] b = omega arith
-total-append (e ∷ a) b = omega (arith, total-append a b)
+pub total_append : (a b : Tree) → total (a ++ b) ≡ total a + total b
+total_append [] b = omega arith
+total_append (e ∷ a) b = omega (arith, total_append a b)
 
 length-append : (a b : Bytes) → length (a ++ b) ≡ length a + length b
 length-append [] b = omega arith
@@ -24,13 +24,13 @@ pub key_long : (key : Bytes) → is_folder_key key ≡ true → 0 < length key
 key_long [] h = absurd (true≢false (sym h))
 key_long (b ∷ key) h = omega arith
 
-pub total-prefixed : (key : Bytes) (a : Tree) → 0 < length key → total a + length a ≤ total (prefixed key a)
-total-prefixed key [] h = omega arith
-total-prefixed key (e ∷ a) h = omega (arith, h, length-append key e.0, total-prefixed key a h)
+pub total_prefixed : (key : Bytes) (a : Tree) → 0 < length key → total a + length a ≤ total (prefixed key a)
+total_prefixed key [] h = omega arith
+total_prefixed key (e ∷ a) h = omega (arith, h, length-append key e.0, total_prefixed key a h)
 
 node_falls : (key : Bytes) (n : Node) → Fits key (member_of n) → deep-Node n ≤ total (prefixed key (member_tree (member_of n)))
 node_falls key (File entry) h = omega arith
-node_falls key (Subfolder below) h = omega (arith, h.1, total-prefixed key below.value (key_long key h.0))
+node_falls key (Subfolder below) h = omega (arith, h.1, total_prefixed key below.value (key_long key h.0))
 
 children_fall : (cs : List Child) → AllFit (rows_of cs) → most deep-Child cs ≤ total (flat (rows_of cs))
 children_fall [] h = omega arith
@@ -39,7 +39,7 @@ children_fall (c ∷ cs) h =
       arith,
       node_falls c.key.value.items c.node h.0,
       children_fall cs h.1,
-      total-append (prefixed c.key.value.items (member_tree (member_of c.node))) (flat (rows_of cs)),
+      total_append (prefixed c.key.value.items (member_tree (member_of c.node))) (flat (rows_of cs)),
     )
 
 pub falls : (a : Inside) → IsSoundFolder a → deep-Folder a ≤ total (tree_of a)

@@ -9,7 +9,7 @@ use Rattle.plain_model.specs.declared.event.PlainEvent.{PlainEvent}
 use Rattle.plain_model.specs.Histories.{Node, nodes}
 use Rattle.plain_model.specs.Lookups.{is_listed}
 use Rattle.history_laws.proofs.Commits.{nodes_append}
-use Rattle.event_arena.proofs.ListLemmas.{take-item}
+use Rattle.event_arena.proofs.ListLemmas.{take_item}
 use Rattle.commit_laws.specs.Selected.{listed}
 
 filter_append : (test : Node → Bool) (xs ys : List Node) → filter test (xs ++ ys) ≡ filter test xs ++ filter test ys
@@ -31,4 +31,4 @@ module _ (set : List AnyId) where
 
   -- one event more
   pub listed_more : (es : List PlainEvent) (k : ℕ) (e : PlainEvent) → slice_get es k ≡ Some e → listed set (take (suc k) es) ≡ listed set (take k es) ++ listed set (e ∷ [])
-  listed_more es k e is = ap (listed set) (take-item es k e is) ∙ listed_append (take k es) (e ∷ [])
+  listed_more es k e is = ap (listed set) (take_item es k e is) ∙ listed_append (take k es) (e ∷ [])

@@ -16,7 +16,7 @@ use Rattle.edit_laws.specs.Parts.{tally}
 use Rattle.edit_laws.proofs.Limits.{not_many}
 use Rattle.edit_laws.proofs.Lists.{tally_append}
 use Rattle.event_arena.specs.Weights.{event_weight, weight_of}
-use Rattle.event_arena.proofs.ListLemmas.{take-item}
+use Rattle.event_arena.proofs.ListLemmas.{take_item}
 use Rattle.edit_laws.proofs.Tallies.{aliases_counted, ops_counted}
 use Rattle.plan_steps.specs.Counts.{IsSum, count_of, total_of}
 use Rattle.plan_steps.specs.declared.limits.Sum.{Sum}
@@ -29,7 +29,7 @@ use Rattle.plan_steps.specs.declared.limits.Counted.TheVariants.{Operations, Ali
 pub tally_item : (f : PlainEvent → ℕ) (es : List PlainEvent) (k : ℕ) (e : PlainEvent) → slice_get es k ≡ Some e →
     tally f (take (suc k) es) ≡ tally f (take k es) + f e
 tally_item f es k e at =
-    let more : tally f (take (suc k) es) ≡ tally f (take k es ++ e ∷ []) = ap (tally f) (take-item es k e at) in
+    let more : tally f (take (suc k) es) ≡ tally f (take k es ++ e ∷ []) = ap (tally f) (take_item es k e at) in
     let both = tally_append f (take k es) (e ∷ []) in
     omega arith
 
@@ -106,5 +106,5 @@ any_item test (x ∷ es) (suc k) e at it = ap (λ b. test x || b) (any_item test
 pub none_item : (test : PlainEvent → Bool) (es : List PlainEvent) (k : ℕ) (e : PlainEvent) → slice_get es k ≡ Some e →
     list_any test (take k es) ≡ false → test e ≡ false → list_any test (take (suc k) es) ≡ false
 none_item test es k e at none own =
-    ap (list_any test) (take-item es k e at) ∙ list_any-append test (take k es) (e ∷ [])
+    ap (list_any test) (take_item es k e at) ∙ list_any-append test (take k es) (e ∷ [])
     ∙ ap (λ b. b || (test e || false)) none ∙ ap (λ b. b || false) own

@@ -15,10 +15,10 @@ use Rattle.plain_model.specs.Paths.{Bytes}
 use Rattle.plain_model.specs.Soundness.{are_distinct}
 use Rattle.event_arena.specs.Changes.{changed, with_parents}
 use Rattle.event_arena.specs.Graphs.{Change}
-use Rattle.history_laws.proofs.SoundOnce.{has_id-find}
+use Rattle.history_laws.proofs.SoundOnce.{has_id_find}
 use Rattle.history_laws.specs.Once.{AreDistinct}
 use Rattle.history_laws.proofs.Lists.{item_at}
-use Rattle.event_arena.proofs.ListLemmas.{drop-item}
+use Rattle.event_arena.proofs.ListLemmas.{drop_item}
 use Rattle.event_arena.proofs.StepLemmas.{none_left}
 use Rattle.edit_laws.specs.Removal.{expand, expand_all, once_each}
 use Rattle.edit_laws.proofs.Following.{expand_itself}
@@ -162,7 +162,7 @@ module _ (set : List AnyId) (takes : Takings) (events : List PlainEvent) (once :
         ∙ so_far_all keep same get k events (omega arith)
     further (suc n) k counted =
         let item = item_at events k (omega arith) in
-        ap (λ es. with_all_parents (flat_map (own_change events set) es) (so_far keep same get k events)) (drop-item events k item.0 item.1)
+        ap (λ es. with_all_parents (flat_map (own_change events set) es) (so_far keep same get k events)) (drop_item events k item.0 item.1)
         ∙ parents_append (own_change events set item.0) (flat_map (own_change events set) (drop (suc k) events)) (so_far keep same get k events)
         ∙ ap (with_all_parents (flat_map (own_change events set) (drop (suc k) events))) (one_more k item.0 item.1 (all_at (λ x. IsTrue (are_distinct (event_parents x))) events k item.0 parents_once item.1))
         ∙ further n (suc k) (omega arith)
@@ -199,7 +199,7 @@ parents_push (d ∷ cs) c es = parents_push cs c (changed (any.Commit d.0) (with
 
 -- an event that has a place is there
 pub found_is : (id : AnyId) (es : List PlainEvent) → is_some (find_event id es) ≡ is_some (place_of id es)
-found_is id es = sym (has_id-find es id) ∙ has_id_place es id
+found_is id es = sym (has_id_find es id) ∙ has_id_place es id
 
 -- a list that changes twice is another list of the same plan
 pub same_but : (p q r : Change) (x y : List PlainEvent) → p ≡ record q { after = x } → q ≡ record r { after = y } → p ≡ record r { after = p.after }

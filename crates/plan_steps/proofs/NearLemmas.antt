@@ -13,9 +13,9 @@ use Rattle.plain_model.specs.declared.event.PlainEvent.{PlainEvent}
 use Rattle.plain_model.specs.declared.event.PlainEvent.TheVariants.{Blob, Commit, Tag, Reset, Pass}
 use Rattle.plain_model.specs.Lookups.{event_parents, find_event, id_of, is_listed, same_id}
 use Rattle.plain_model.specs.Soundness.{IsSound}
-use Rattle.history_laws.proofs.Ids.{same_id-refl, same_id-true}
+use Rattle.history_laws.proofs.Ids.{same_id_refl, same_id_true}
 use Rattle.event_arena.specs.Pointers.{AreAmong, HasPointers, is_pointer}
-use Rattle.history_laws.proofs.SoundOnce.{sound-once}
+use Rattle.history_laws.proofs.SoundOnce.{sound_once}
 use Rattle.graph_walk.specs.Children.{children_of_all}
 use Rattle.graph_walk.specs.Flags.{FlagsOf, is_flagged_commit}
 use Rattle.graph_walk.proofs.ChildLemmas.{no_child}
@@ -42,7 +42,7 @@ among_all f [] id x h own = absurd (true≢false (sym h))
 among_all f (y ∷ ids) id x h own = elim (cases_Bool (same_id id y)) [
   | inl it ↦
       ap (is_listed x) (flat_map-cons f y ids)
-      ∙ all_front (f y) (flat_map f ids) x (subst (λ z. is_listed x (f z) ≡ true) (same_id-true id y it) own)
+      ∙ all_front (f y) (flat_map f ids) x (subst (λ z. is_listed x (f z) ≡ true) (same_id_true id y it) own)
   | inr other ↦ ap (is_listed x) (flat_map-cons f y ids) ∙ all_back (f y) (flat_map f ids) x (among_all f ids id x (rw other at h) own)
 ]
 
@@ -56,17 +56,17 @@ module _ (set : List AnyId) (events : List PlainEvent) (sound : IsSound events) 
       by None found there = absurd (true≢false (sym there))
       by (Some d) found there =
           let a = found_at events sound t d found in
-          flag_of flags events a.place t d (sound-once events sound).ids a.at a.own ∙ f.flag a.place d a.at ∙ ap (λ id. is_listed id set) (sym a.own)
+          flag_of flags events a.place t d (sound_once events sound).ids a.at a.own ∙ f.flag a.place d a.at ∙ ap (λ id. is_listed id set) (sym a.own)
 
   -- one on a removed commit is found under its id
   on_listed : (k t : ℕ) (e : PlainEvent) → slice_get events k ≡ Some e → target_for Some e ≡ Some t → is_removed set t ≡ true →
       is_listed (id_of e) (on_flagged flags events (id_of e)) ≡ true
   on_listed k t e at is gone =
-      let found = (place_found events k e at (sound-once events sound).ids).1 in
+      let found = (place_found events k e at (sound_once events sound).ids).1 in
       let on : option_map_or (is_on (is_flagged_commit flags events)) (find_event (id_of e) events) false ≡ true =
       ap (λ o. option_map_or (is_on (is_flagged_commit flags events)) o false) found
       ∙ ap (λ o. option_map_or (is_flagged_commit flags events) o false) is ∙ flag_is k t e at is ∙ gone in
-      ap (λ b. is_listed (id_of e) (cond b (id_of e ∷ []) [])) on ∙ or_left (same_id (id_of e) (id_of e)) false (same_id-refl (id_of e))
+      ap (λ b. is_listed (id_of e) (cond b (id_of e ∷ []) [])) on ∙ or_left (same_id (id_of e) (id_of e)) false (same_id_refl (id_of e))
 
   points : (t : ℕ) (e : PlainEvent) → target_for Some e ≡ Some t → is_pointer (id_of e) ≡ true
   points t (Tag id name target tagger comment mark) is = refl
@@ -79,7 +79,7 @@ module _ (set : List AnyId) (events : List PlainEvent) (sound : IsSound events) 
       AreAmong (flat_map (on_flagged flags events) pointers) ids → slice_get events k ≡ Some e → target_for Some e ≡ Some t →
       is_removed set t ≡ true → is_listed (id_of e) ids ≡ true
   on_is k t e pointers ids all more at is gone =
-      let place = (place_found events k e at (sound-once events sound).ids).0 in
+      let place = (place_found events k e at (sound_once events sound).ids).0 in
       more (id_of e) (among_all (on_flagged flags events) pointers (id_of e) (id_of e) (all (id_of e) k (points t e is) place) (on_listed k t e at is gone))
 
   -- flags of all these are flags of what is near

@@ -12,7 +12,7 @@ use Rattle.plain_model.specs.Lookups.{event_ops, event_parents, find_event, id_o
 use Rattle.plain_model.specs.Soundness.{IsCommitOf, IsSound, has_id}
 use Rattle.ancestry_laws.proofs.Pasts.{all_reverse, linked_past}
 use Rattle.history_laws.specs.Once.{AreDistinct}
-use Rattle.history_laws.proofs.SoundOnce.{has_id-find, sound-once}
+use Rattle.history_laws.proofs.SoundOnce.{has_id_find, sound_once}
 use Rattle.edit_laws.specs.Settling.{is_ready}
 use Rattle.edit_laws.proofs.Lists.{OfNodes, all_true, nodes_of_events}
 use Rattle.edit_laws.proofs.Settles.{sound_settles}
@@ -35,7 +35,7 @@ pub record IsAt (events : List PlainEvent) (c : ℕ) (e : PlainEvent) : Type 0 w
 
 module _ (events : List PlainEvent) (h : IsSound events) where
   once : AreDistinct events
-  once = (sound-once events h).ids
+  once = (sound_once events h).ids
 
   pub found_at : (c : ℕ) (e : PlainEvent) → find_event (any.Commit c) events ≡ Some e → IsAt events c e
   found_at c e is = by (place_of (any.Commit c) events) refl (found_place events (any.Commit c) (ap is_some is))
@@ -85,7 +85,7 @@ module _ (events : List PlainEvent) (h : IsSound events) where
       on : (c : ℕ) → list_all (has_id events) (any.Commit c ∷ []) ≡ true → Some c ≡ Some t → IsSome (find_event (any.Commit t) events)
       on c ready same =
           subst (λ x. IsSome (find_event (any.Commit x) events)) (same_Some c t same)
-          (sym (has_id-find events (any.Commit c)) ∙ (all_true (has_id events) (any.Commit c ∷ []) ready).0)
+          (sym (has_id_find events (any.Commit c)) ∙ (all_true (has_id events) (any.Commit c ∷ []) ready).0)
 
       by : (e : PlainEvent) → is_ready events e ≡ true → target_for Some e ≡ Some t → IsSome (find_event (any.Commit t) events)
       by (Tag id name target tagger comment mark) ready is = on target ready is

@@ -15,9 +15,9 @@ use Rattle.plain_model.specs.Lookups.{event_ops, event_parents, find_event, id_o
 use Rattle.plain_model.specs.Snapshots.{commit_mark}
 use Rattle.plain_model.specs.Soundness.{IsSound}
 use Rattle.plain_model.proofs.Numbers.{eqb_turned}
-use Rattle.history_laws.proofs.Ids.{find-id}
+use Rattle.history_laws.proofs.Ids.{find_id}
 use Rattle.ancestry_laws.proofs.Pasts.{known_past}
-use Rattle.history_laws.proofs.SoundOnce.{has_id-find}
+use Rattle.history_laws.proofs.SoundOnce.{has_id_find}
 use Rattle.edit_laws.proofs.Lists.{OfNodes}
 use Rattle.commit_laws.specs.Selected.{node_of}
 use Rattle.commit_laws.proofs.Given.{IsGiven, IsHere, all_given, parents_here, rank}
@@ -46,7 +46,7 @@ module _ (events : List PlainEvent) where
   -- one that isn't there has no parents and no operations
   pub absent_node : (c : ℕ) → find_event (any.Commit c) events ≡ None → node_of events c ≡ no_node c
   absent_node c h =
-      ap (λ (o : Option Node). unwrap_or o (no_node c)) (unknown_node (past events) c (known_past events c ∙ has_id-find events (any.Commit c) ∙ ap is_some h))
+      ap (λ (o : Option Node). unwrap_or o (no_node c)) (unknown_node (past events) c (known_past events c ∙ has_id_find events (any.Commit c) ∙ ap is_some h))
 
   -- one that the past finds as it is
   pub found_parts : (n : Node) → node_at (past events) n.id ≡ Some n → node_of events n.id ≡ n
@@ -60,7 +60,7 @@ module _ (events : List PlainEvent) where
     -- a commit that is found has its parents and its operations
     pub found_node : (c : ℕ) (e : PlainEvent) → find_event (any.Commit c) events ≡ Some e → node_of events c ≡ record { id = c; parents = event_parents e; ops = event_ops e }
     found_node c e h =
-        ap (λ (o : Option Node). unwrap_or o (no_node c)) (own e (find-id (any.Commit c) events e h) (given (any.Commit c) e h).found)
+        ap (λ (o : Option Node). unwrap_or o (no_node c)) (own e (find_id (any.Commit c) events e h) (given (any.Commit c) e h).found)
       where
         own : (e : PlainEvent) → any.Commit c ≡ id_of e → OfNodes (λ (n : Node). node_at (past events) n.id ≡ Some n) e → node_at (past events) c ≡ Some (record { id = c; parents = event_parents e; ops = event_ops e })
         own (Commit id mark branch author committer encoding comment parents ops aliases) same f =

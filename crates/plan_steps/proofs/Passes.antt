@@ -6,11 +6,11 @@ use Rattle.std.specs.Prelude.{slice_get}
 use Rattle.plain_model.specs.declared.id.AnyId.{AnyId}
 use Rattle.plain_model.specs.declared.event.PlainEvent.{PlainEvent}
 use Rattle.plain_model.specs.Lookups.{find_event, id_of, same_id}
-use Rattle.history_laws.proofs.Ids.{absent-cons, cons-absent}
+use Rattle.history_laws.proofs.Ids.{absent_cons, cons_absent}
 use Rattle.event_arena.specs.Changes.{changed}
 use Rattle.history_laws.specs.Once.{AreDistinct}
-use Rattle.event_arena.proofs.ListLemmas.{drop-item, take-all, take-item}
-use Rattle.event_arena.proofs.OnceLemmas.{distinct-absent}
+use Rattle.event_arena.proofs.ListLemmas.{drop_item, take_all, take_item}
+use Rattle.event_arena.proofs.OnceLemmas.{distinct_absent}
 use Rattle.event_arena.proofs.StepLemmas.{changed_after, map_push, none_left}
 use Rattle.plan_steps.specs.Passes.{so_far}
 
@@ -21,16 +21,16 @@ pub absent_mapped : (f : PlainEvent → PlainEvent) → ((e : PlainEvent) → id
     find_event id es ≡ None → find_event id (map f es) ≡ None
 absent_mapped f same id [] h = refl
 absent_mapped f same id (x ∷ es) h =
-    let rest = absent-cons id x es h in
-    cons-absent id (f x) (map f es) (ap (same_id id) (same x) ∙ rest.0) (absent_mapped f same id es rest.1)
+    let rest = absent_cons id x es h in
+    cons_absent id (f x) (map f es) (ap (same_id id) (same x) ∙ rest.0) (absent_mapped f same id es rest.1)
 
 pub absent_filtered : (test : PlainEvent → Bool) (id : AnyId) (es : List PlainEvent) → find_event id es ≡ None →
     find_event id (filter test es) ≡ None
 absent_filtered test id [] h = refl
 absent_filtered test id (x ∷ es) h =
-    let rest = absent-cons id x es h in
+    let rest = absent_cons id x es h in
     elim (cases_Bool (test x)) [
-      | inl it ↦ rw it (cons-absent id x (filter test es) rest.0 (absent_filtered test id es rest.1))
+      | inl it ↦ rw it (cons_absent id x (filter test es) rest.0 (absent_filtered test id es rest.1))
       | inr no_it ↦ rw no_it (absent_filtered test id es rest.1)
     ]
 
@@ -53,7 +53,7 @@ module _ (keep : PlainEvent → Bool) (p g : PlainEvent → PlainEvent) where
   -- all of them
   pub so_far_all : (k : ℕ) (events : List PlainEvent) → length events ≤ k → so_far keep p g k events ≡ map g (filter keep events)
   so_far_all k events h =
-      ap (λ (xs : List PlainEvent). map g (filter keep xs) ++ map p (filter keep (drop k events))) (take-all events k h)
+      ap (λ (xs : List PlainEvent). map g (filter keep xs) ++ map p (filter keep (drop k events))) (take_all events k h)
       ∙ ap (λ (ys : List PlainEvent). map g (filter keep events) ++ map p (filter keep ys)) (none_left k events h)
       ∙ append-nil (map g (filter keep events))
 
@@ -65,11 +65,11 @@ module _ (keep : PlainEvent → Bool) (p g : PlainEvent → PlainEvent) where
     rest = filter keep (drop (suc k) events)
 
     here : so_far keep p g k events ≡ map g front ++ map p (filter keep (e ∷ drop (suc k) events))
-    here = ap (λ (ys : List PlainEvent). map g front ++ map p (filter keep ys)) (drop-item events k e is)
+    here = ap (λ (ys : List PlainEvent). map g front ++ map p (filter keep ys)) (drop_item events k e is)
 
     further : so_far keep p g (suc k) events ≡ map g (front ++ filter keep (e ∷ [])) ++ map p rest
     further =
-        ap (λ (xs : List PlainEvent). map g (filter keep xs) ++ map p rest) (take-item events k e is)
+        ap (λ (xs : List PlainEvent). map g (filter keep xs) ++ map p rest) (take_item events k e is)
         ∙ ap (λ (xs : List PlainEvent). map g xs ++ map p rest) (filter_append keep (take k events) (e ∷ []))
 
     -- one that goes
@@ -106,8 +106,8 @@ module _ (keep : PlainEvent → Bool) (p g : PlainEvent → PlainEvent) where
       absent : find_event (id_of (p e)) (map g front) ≡ None
       absent =
           let parts : events ≡ take k events ++ e ∷ drop (suc k) events =
-          sym (take-append-drop k events) ∙ ap (λ (ys : List PlainEvent). take k events ++ ys) (drop-item events k e is) in
-          let before = distinct-absent (take k events) (drop (suc k) events) e (subst AreDistinct parts once) in
+          sym (take-append-drop k events) ∙ ap (λ (ys : List PlainEvent). take k events ++ ys) (drop_item events k e is) in
+          let before = distinct_absent (take k events) (drop (suc k) events) e (subst AreDistinct parts once) in
           ap (λ id. find_event id (map g front)) (p_id e)
           ∙ absent_mapped g g_id (id_of e) front (absent_filtered keep (id_of e) (take k events) before)
 

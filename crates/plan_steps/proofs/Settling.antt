@@ -8,7 +8,7 @@ use Rattle.plain_model.specs.declared.event.PlainEvent.{PlainEvent}
 use Rattle.plain_model.specs.Histories.{IsLinkedPast, past}
 use Rattle.plain_model.specs.Lookups.{referents_of}
 use Rattle.plain_model.specs.Soundness.{has_id}
-use Rattle.history_laws.proofs.Ids.{has_id-append}
+use Rattle.history_laws.proofs.Ids.{has_id_append}
 use Rattle.history_laws.proofs.Lists.{all_imply}
 use Rattle.edit_laws.specs.Parts.{AreComplete, AreInOrder, AreOnce, one_if, tally}
 use Rattle.edit_laws.specs.Settling.{is_ready, settle}
@@ -28,7 +28,7 @@ all_ready : (whole earlier es : List PlainEvent) → ((id : AnyId) → has_id (e
     AllByRecursion (λ e. is_ready whole e ≡ true) es
 all_ready whole earlier [] more o = tt
 all_ready whole earlier (e ∷ es) more o = (
-  ready_more earlier whole e (λ id h. more id (has_id-append earlier (e ∷ es) id ∙ or_left (has_id earlier id) (has_id (e ∷ es) id) h)) o.0,
+  ready_more earlier whole e (λ id h. more id (has_id_append earlier (e ∷ es) id ∙ or_left (has_id earlier id) (has_id (e ∷ es) id) h)) o.0,
   all_ready whole (earlier ++ e ∷ []) es (λ id h. more id (ap (λ (l : List PlainEvent). has_id l id) (sym (append_assoc earlier (e ∷ []) es)) ∙ h)) o.1,
 )
 

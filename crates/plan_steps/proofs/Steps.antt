@@ -9,12 +9,12 @@ use Rattle.plain_model.specs.declared.operation.FileOp.{FileOp}
 use Rattle.plain_model.specs.declared.event.PlainEvent.{PlainEvent}
 use Rattle.plain_model.specs.declared.event.PlainEvent.TheVariants.{Blob, Commit, Tag, Reset, Pass}
 use Rattle.plain_model.specs.Lookups.{find_event, id_of, same_id}
-use Rattle.history_laws.proofs.Ids.{absent-cons, cons-absent}
+use Rattle.history_laws.proofs.Ids.{absent_cons, cons_absent}
 use Rattle.event_arena.specs.Changes.{changed, with_ops}
 use Rattle.event_arena.specs.Graphs.{Change}
 use Rattle.history_laws.specs.Once.{AreDistinct}
-use Rattle.event_arena.proofs.ListLemmas.{drop-item, take-item}
-use Rattle.event_arena.proofs.OnceLemmas.{distinct-absent}
+use Rattle.event_arena.proofs.ListLemmas.{drop_item, take_item}
+use Rattle.event_arena.proofs.OnceLemmas.{distinct_absent}
 use Rattle.event_arena.proofs.StepLemmas.{changed_after, changed_same, find_after, found_holds, map_push}
 
 -- ---- changes of one event
@@ -45,7 +45,7 @@ still_there x f same (e ∷ es) id = elim (cases_Bool (same_id x (id_of e))) [
 pub changed_nowhere : (id : AnyId) (f : PlainEvent → PlainEvent) (es : List PlainEvent) → find_event id es ≡ None → changed id f es ≡ es
 changed_nowhere id f [] h = refl
 changed_nowhere id f (e ∷ es) h =
-    let rest = absent-cons id e es h in
+    let rest = absent_cons id e es h in
     rw rest.0 (ap (λ ys. e ∷ ys) (changed_nowhere id f es rest.1))
 
 -- ---- an event between others
@@ -67,8 +67,8 @@ module _ (g : PlainEvent → PlainEvent) where
     pub absent_mapped : (id : AnyId) (es : List PlainEvent) → find_event id es ≡ None → find_event id (map g es) ≡ None
     absent_mapped id [] h = refl
     absent_mapped id (x ∷ es) h =
-        let rest = absent-cons id x es h in
-        cons-absent id (g x) (map g es) (ap (same_id id) (same x) ∙ rest.0) (absent_mapped id es rest.1)
+        let rest = absent_cons id x es h in
+        cons_absent id (g x) (map g es) (ap (same_id id) (same x) ∙ rest.0) (absent_mapped id es rest.1)
 
     -- and what is there is
     pub found_mapped : (id : AnyId) (es : List PlainEvent) → is_some (find_event id (map g es)) ≡ is_some (find_event id es)
@@ -82,22 +82,22 @@ module _ (g : PlainEvent → PlainEvent) where
       absent : find_event (id_of e) (map g (take k events)) ≡ None
       absent =
           let parts : events ≡ take k events ++ e ∷ drop (suc k) events =
-          sym (take-append-drop k events) ∙ ap (λ (ys : List PlainEvent). take k events ++ ys) (drop-item events k e is) in
-          absent_mapped (id_of e) (take k events) (distinct-absent (take k events) (drop (suc k) events) e (subst AreDistinct parts once))
+          sym (take-append-drop k events) ∙ ap (λ (ys : List PlainEvent). take k events ++ ys) (drop_item events k e is) in
+          absent_mapped (id_of e) (take k events) (distinct_absent (take k events) (drop (suc k) events) e (subst AreDistinct parts once))
 
       -- the next one is found
       pub step_found : find_event (id_of e) (so_far k events) ≡ Some e
       step_found =
-          ap (λ (ys : List PlainEvent). find_event (id_of e) (map g (take k events) ++ ys)) (drop-item events k e is)
+          ap (λ (ys : List PlainEvent). find_event (id_of e) (map g (take k events) ++ ys)) (drop_item events k e is)
           ∙ find_after (map g (take k events)) (drop (suc k) events) e absent
 
       -- and changed
       pub step_changed : changed (id_of e) g (so_far k events) ≡ so_far (suc k) events
       step_changed =
-          ap (λ (ys : List PlainEvent). changed (id_of e) g (map g (take k events) ++ ys)) (drop-item events k e is)
+          ap (λ (ys : List PlainEvent). changed (id_of e) g (map g (take k events) ++ ys)) (drop_item events k e is)
           ∙ changed_after g (map g (take k events)) (drop (suc k) events) e absent
           ∙ sym (append_assoc (map g (take k events)) (g e ∷ []) (drop (suc k) events))
-          ∙ ap (λ (xs : List PlainEvent). xs ++ drop (suc k) events) (sym (map_push g (take k events) e) ∙ ap (map g) (sym (take-item events k e is)))
+          ∙ ap (λ (xs : List PlainEvent). xs ++ drop (suc k) events) (sym (map_push g (take k events) e) ∙ ap (map g) (sym (take_item events k e is)))
 
 -- ---- facts of calls
 

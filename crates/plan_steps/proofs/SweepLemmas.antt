@@ -13,10 +13,10 @@ use Rattle.plain_model.specs.declared.id.AnyId.TheVariants as any
 use Rattle.plain_model.specs.declared.event.PlainEvent.{PlainEvent}
 use Rattle.plain_model.specs.declared.event.PlainEvent.TheVariants.{Blob, Commit, Tag, Reset, Pass}
 use Rattle.plain_model.specs.Lookups.{find_event, id_of, is_listed, op_blobs, place_of, referents_of, same_id}
-use Rattle.history_laws.proofs.Ids.{absent-cons, one_place, same_id-comm, same_id-refl, same_id-true}
+use Rattle.history_laws.proofs.Ids.{absent_cons, one_place, same_id_comm, same_id_refl, same_id_true}
 use Rattle.event_arena.specs.Changes.{without_all}
 use Rattle.history_laws.specs.Once.{AreDistinct}
-use Rattle.event_arena.proofs.ListLemmas.{take-item}
+use Rattle.event_arena.proofs.ListLemmas.{take_item}
 use Rattle.edit_laws.specs.Sweeping.{is_left_over, is_named, swept}
 use Rattle.graph_walk.proofs.FlagLemmas.{no_flag}
 use Rattle.graph_walk.proofs.PlaceLemmas.{place_found, place_within}
@@ -38,12 +38,12 @@ adds_push events ids own p old mid once counted there f = record { count = lengt
     more k e at = elim (cases_eq p k) [
       | inl is ↦
           let same : own ≡ id_of e = one_place own (id_of e) events p there ((place_found events k e at once).0 ∙ ap Some (sym is)) in
-          let here : same_id (id_of e) own ≡ true = ap (same_id (id_of e)) same ∙ same_id-refl (id_of e) in
+          let here : same_id (id_of e) own ≡ true = ap (same_id (id_of e)) same ∙ same_id_refl (id_of e) in
           ap (λ j. get_or (set mid p true) j false) (sym is) ∙ get_or-set_same mid p true false low
           ∙ sym (ap (λ b. get_or old k false || b) (list_any-append (same_id (id_of e)) ids (own ∷ []) ∙ ap (λ b. is_listed (id_of e) ids || (b || false)) here ∙ or-true (is_listed (id_of e) ids)) ∙ or-true (get_or old k false))
       | inr other ↦
           let apart : same_id (id_of e) own ≡ false =
-          false_from_ne_true (same_id (id_of e) own) (λ t. other (same_Some p k (sym there ∙ ap (λ id. place_of id events) (sym (same_id-true (id_of e) own t)) ∙ (place_found events k e at once).0))) in
+          false_from_ne_true (same_id (id_of e) own) (λ t. other (same_Some p k (sym there ∙ ap (λ id. place_of id events) (sym (same_id_true (id_of e) own t)) ∙ (place_found events k e at once).0))) in
           get_or-set_other mid p k true false (λ e. other (sym e)) ∙ f.more k e at
           ∙ sym (ap (λ b. get_or old k false || b) (list_any-append (same_id (id_of e)) ids (own ∷ []) ∙ ap (λ b. is_listed (id_of e) ids || (b || false)) apart ∙ or-false (is_listed (id_of e) ids)))
     ]
@@ -54,7 +54,7 @@ adds_skip events ids own old mid once absent f = record {
   count = f.count;
   more = λ k e at.
       let apart : same_id (id_of e) own ≡ false =
-      false_from_ne_true (same_id (id_of e) own) (λ t. none-some k (sym absent ∙ ap (λ id. place_of id events) (sym (same_id-true (id_of e) own t)) ∙ (place_found events k e at once).0)) in
+      false_from_ne_true (same_id (id_of e) own) (λ t. none-some k (sym absent ∙ ap (λ id. place_of id events) (sym (same_id_true (id_of e) own t)) ∙ (place_found events k e at once).0)) in
       f.more k e at ∙ sym (ap (λ b. get_or old k false || b) (list_any-append (same_id (id_of e)) ids (own ∷ []) ∙ ap (λ b. is_listed (id_of e) ids || (b || false)) apart ∙ or-false (is_listed (id_of e) ids)));
 }
 
@@ -69,7 +69,7 @@ names_more events named j d old new at f a = record {
   count = a.count ∙ f.count;
   flag = λ k e here.
       a.more k e here ∙ ap (λ b. b || is_listed (id_of e) (event_blobs d)) (f.flag k e here)
-      ∙ sym (ap (list_any (λ x. is_listed (id_of e) (event_blobs x))) (take-item named j d at) ∙ list_any-append (λ x. is_listed (id_of e) (event_blobs x)) (take j named) (d ∷ [])
+      ∙ sym (ap (list_any (λ x. is_listed (id_of e) (event_blobs x))) (take_item named j d at) ∙ list_any-append (λ x. is_listed (id_of e) (event_blobs x)) (take j named) (d ∷ [])
       ∙ ap (λ b. list_any (λ x. is_listed (id_of e) (event_blobs x)) (take j named) || b) (or-false (is_listed (id_of e) (event_blobs d))));
 }
 
@@ -95,7 +95,7 @@ named_by_ops b (e ∷ es) =
 
 filter_item : (test : PlainEvent → Bool) (es : List PlainEvent) (k : ℕ) (e : PlainEvent) → slice_get es k ≡ Some e →
     map id_of (filter test (take (suc k) es)) ≡ map id_of (filter test (take k es)) ++ (cond (test e) (id_of e ∷ []) [])
-filter_item test es k e at = ap (λ xs. map id_of (filter test xs)) (take-item es k e at) ∙ push (take k es)
+filter_item test es k e at = ap (λ xs. map id_of (filter test xs)) (take_item es k e at) ∙ push (take k es)
   where
     push : (xs : List PlainEvent) → map id_of (filter test (xs ++ e ∷ [])) ≡ map id_of (filter test xs) ++ (cond (test e) (id_of e ∷ []) [])
     push [] = one (test e)
@@ -231,7 +231,7 @@ pub ids_push : (events : List PlainEvent) (ids : List AnyId) (own : AnyId) (flag
 ids_push events ids own flags once so is k e at listed = elim (or_cases (is_listed (id_of e) ids) (is_listed (id_of e) (own ∷ [])) (sym (list_any-append (same_id (id_of e)) ids (own ∷ [])) ∙ listed)) [
   | inl before ↦ so k e at before
   | inr now ↦
-      let same = same_id-true (id_of e) own (sym (or-false (same_id (id_of e) own)) ∙ now) in
+      let same = same_id_true (id_of e) own (sym (or-false (same_id (id_of e) own)) ∙ now) in
       is k (ap (λ id. place_of id events) (sym same) ∙ (place_found events k e at once).0)
 ]
 
@@ -239,12 +239,12 @@ ids_push events ids own flags once so is k e at listed = elim (or_cases (is_list
 pub filter_in : (p : PlainEvent → Bool) (es : List PlainEvent) (k : ℕ) (e : PlainEvent) → slice_get es k ≡ Some e → p e ≡ true →
     filter p (take (suc k) es) ≡ filter p (take k es) ++ e ∷ []
 filter_in p es k e at it =
-    ap (filter p) (take-item es k e at) ∙ filter_append p (take k es) (e ∷ []) ∙ ap (λ b. filter p (take k es) ++ cond b (e ∷ []) []) it
+    ap (filter p) (take_item es k e at) ∙ filter_append p (take k es) (e ∷ []) ∙ ap (λ b. filter p (take k es) ++ cond b (e ∷ []) []) it
 
 pub filter_out : (p : PlainEvent → Bool) (es : List PlainEvent) (k : ℕ) (e : PlainEvent) → slice_get es k ≡ Some e → p e ≡ false →
     filter p (take (suc k) es) ≡ filter p (take k es)
 filter_out p es k e at out =
-    ap (filter p) (take-item es k e at) ∙ filter_append p (take k es) (e ∷ []) ∙ ap (λ b. filter p (take k es) ++ cond b (e ∷ []) []) out
+    ap (filter p) (take_item es k e at) ∙ filter_append p (take k es) (e ∷ []) ∙ ap (λ b. filter p (take k es) ++ cond b (e ∷ []) []) out
     ∙ append-nil (filter p (take k es))
 
 pub flags_push : (events named : List PlainEvent) (d : PlainEvent) (flags : List Bool) → FlagsAll events named flags → FlagsIds events (event_blobs d) flags →
@@ -302,7 +302,7 @@ pub listed_filter : (test : PlainEvent → Bool) (es : List PlainEvent) (own : A
     is_listed own (map id_of (filter test es)) ≡ false
 listed_filter test [] own h = refl
 listed_filter test (x ∷ es) own h =
-    let rest = absent-cons own x es h in
+    let rest = absent_cons own x es h in
     elim (cases_Bool (test x)) [
       | inl it ↦ rw (it, rest.0) (listed_filter test es own rest.1)
       | inr no_it ↦ rw no_it (listed_filter test es own rest.1)
@@ -313,8 +313,8 @@ pub without_front : (own : AnyId) (ids : List AnyId) (es : List PlainEvent) → 
     without_all (own ∷ ids) es ≡ without_all ids es
 without_front own ids [] h = refl
 without_front own ids (x ∷ es) h =
-    let rest = absent-cons own x es h in
-    let same : is_listed (id_of x) (own ∷ ids) ≡ is_listed (id_of x) ids = ap (λ b. b || is_listed (id_of x) ids) (same_id-comm (id_of x) own ∙ rest.0) in
+    let rest = absent_cons own x es h in
+    let same : is_listed (id_of x) (own ∷ ids) ≡ is_listed (id_of x) ids = ap (λ b. b || is_listed (id_of x) ids) (same_id_comm (id_of x) own ∙ rest.0) in
     rw same (ap (λ ys. cond (not (is_listed (id_of x) ids)) (x ∷ ys) ys) (without_front own ids es rest.1))
 
 pub without_passing : (test : PlainEvent → Bool) (es : List PlainEvent) → AreDistinct es →
@@ -324,7 +324,7 @@ without_passing test (x ∷ es) once = by (test x) (without_passing test es once
   where
     by : (b : Bool) → without_all (map id_of (filter test es)) es ≡ filter (λ e. not (test e)) es →
         without_all (map id_of (cond b (x ∷ filter test es) (filter test es))) (x ∷ es) ≡ cond (not b) (x ∷ filter (λ e. not (test e)) es) (filter (λ e. not (test e)) es)
-    by true more = rw (same_id-refl (id_of x)) (without_front (id_of x) (map id_of (filter test es)) es once.0 ∙ more)
+    by true more = rw (same_id_refl (id_of x)) (without_front (id_of x) (map id_of (filter test es)) es once.0 ∙ more)
     by false more = rw (listed_filter test es (id_of x) once.0) (ap (λ ys. x ∷ ys) more)
 
 -- one event more among those that pass

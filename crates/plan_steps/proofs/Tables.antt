@@ -3,7 +3,7 @@ use Rattle.std.proofs.Common.{◌≡◌, ◌∙◌, ℕ, zero, suc, ◌<◌, Lis
 use Rattle.std.proofs.Math.ListN.{drop_of_length-le}
 use Rattle.std.proofs.lemmas.Option.{slice_get_within}
 use Rattle.plain_model.specs.declared.event.PlainEvent.{PlainEvent}
-use Rattle.event_arena.proofs.ListLemmas.{take-all}
+use Rattle.event_arena.proofs.ListLemmas.{take_all}
 use Rattle.plan_steps.specs.Tables.{IsTable, IsTableTo}
 
 -- what stands at a place doesn't hang on what stands past the end
@@ -16,7 +16,7 @@ any_default (x ∷ xs) (suc k) a b low = any_default xs k a b (omega arith)
 pub refilled : {X : Type 0} (n : ℕ) (new old : List X) → length new ≡ n → length old ≡ n → take n (new ++ drop (length new) old) ≡ new
 refilled n new old a b =
     ap (λ ys. take n (new ++ ys)) (drop_of_length-le old (omega arith)) ∙ ap (take n) (append-nil new)
-    ∙ take-all new n (omega arith)
+    ∙ take_all new n (omega arith)
 
 module _ {X : Type 0} (default : X) (ok : PlainEvent → X → Type 0) (events : List PlainEvent) where
   pub table_all : (k : ℕ) (table : List X) → k ≡ length events → IsTableTo default ok events k table → IsTable default ok events table

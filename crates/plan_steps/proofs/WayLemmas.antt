@@ -20,7 +20,7 @@ use Rattle.plain_model.specs.Paths.{Bytes}
 use Rattle.plain_model.specs.Soundness.{IsCommitOf, IsSound}
 use Rattle.ancestry_laws.proofs.Pasts.{linked_past}
 use Rattle.history_laws.specs.Once.{AreDistinct}
-use Rattle.event_arena.proofs.ListLemmas.{drop-item}
+use Rattle.event_arena.proofs.ListLemmas.{drop_item}
 use Rattle.edit_laws.specs.Removal.{back, forward}
 use Rattle.edit_laws.proofs.Following.{back_at, back_itself}
 use Rattle.graph_walk.proofs.EarlierLemmas.{is_earlier, parents_before}
@@ -202,7 +202,7 @@ module _ (set : List AnyId) (events : List PlainEvent) (h : IsSound events) wher
       step (Commit id mark branch author committer encoding comment parents ops aliases) c at is =
           let same : id ≡ own = same_Some id own is in
           ap (λ i. cond (list_any (λ p. p == c) parents) (leads_to k i) (later (suc k) c)) (sym same)
-          ∙ ap (λ (es : List PlainEvent). forward (is_removed set) (nodes es) c) (sym (drop-item events k (Commit id mark branch author committer encoding comment parents ops aliases) at))
+          ∙ ap (λ (es : List PlainEvent). forward (is_removed set) (nodes es) c) (sym (drop_item events k (Commit id mark branch author committer encoding comment parents ops aliases) at))
       step (Blob id mark bytes) c at is = absurd (none-some own is)
       step (Tag id name target tagger comment mark) c at is = absurd (none-some own is)
       step (Reset id branch target) c at is = absurd (none-some own is)
@@ -218,7 +218,7 @@ module _ (set : List AnyId) (events : List PlainEvent) (h : IsSound events) wher
     where
       step : (e : PlainEvent) (c : ℕ) → slice_get events k ≡ Some e → commit_id e ≡ None → later (suc k) c ≡ later k c
       step (Commit id mark branch author committer encoding comment parents ops aliases) c at none = absurd (none-some id (sym none))
-      step (Blob id mark bytes) c at none = ap (λ (es : List PlainEvent). forward (is_removed set) (nodes es) c) (sym (drop-item events k (Blob id mark bytes) at))
-      step (Tag id name target tagger comment mark) c at none = ap (λ (es : List PlainEvent). forward (is_removed set) (nodes es) c) (sym (drop-item events k (Tag id name target tagger comment mark) at))
-      step (Reset id branch target) c at none = ap (λ (es : List PlainEvent). forward (is_removed set) (nodes es) c) (sym (drop-item events k (Reset id branch target) at))
-      step (Pass id line) c at none = ap (λ (es : List PlainEvent). forward (is_removed set) (nodes es) c) (sym (drop-item events k (Pass id line) at))
+      step (Blob id mark bytes) c at none = ap (λ (es : List PlainEvent). forward (is_removed set) (nodes es) c) (sym (drop_item events k (Blob id mark bytes) at))
+      step (Tag id name target tagger comment mark) c at none = ap (λ (es : List PlainEvent). forward (is_removed set) (nodes es) c) (sym (drop_item events k (Tag id name target tagger comment mark) at))
+      step (Reset id branch target) c at none = ap (λ (es : List PlainEvent). forward (is_removed set) (nodes es) c) (sym (drop_item events k (Reset id branch target) at))
+      step (Pass id line) c at none = ap (λ (es : List PlainEvent). forward (is_removed set) (nodes es) c) (sym (drop_item events k (Pass id line) at))

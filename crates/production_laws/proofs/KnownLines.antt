@@ -73,7 +73,7 @@ module _ (j : ℕ → Bool) (n : ℕ) (judges : j n ≡ true) (s : State) where
           blocks.line_made stream j n s text line block there new (next_by extent) (step_is line (Ok (new, next_by extent)) made)
               ∙ blocks.block_there stream j n line (next_by extent) new extent block bytes b.0 (extent_is line extent spelled) (cursors.extent_has_delimiter line extent spelled) b.1
               ∙ ap (λ (l : Bytes). from j (number_after (n + 1) block l) (data_arrived new bytes) l) (sym b.2),
-          subst (λ (l : Bytes). line_count l ≤ line_count block) (sym b.2) (blocks.line_count-block extent block bytes b.0 b.1),
+          subst (λ (l : Bytes). line_count l ≤ line_count block) (sym b.2) (blocks.line_count_block extent block bytes b.0 b.1),
         )
 
     pub block_misses : (why : Why) → block_in line block ≡ Err why → from j n s text ≡ Misses n

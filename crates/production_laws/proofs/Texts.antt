@@ -89,7 +89,7 @@ module _ (n : ℕ) (s : State) (text line block : Bytes) (there : line_at text �
         blocks.line_made stream none n s text line block there new (next_by extent) made
             ∙ blocks.block_there stream none n line (next_by extent) new extent block bytes b.0 (extent_is line extent spelled) (cursors.extent_has_delimiter line extent spelled) b.1
             ∙ ap (λ (l : Bytes). from (number_after (n + 1) block (skip_lf b.0)) (data_arrived new bytes) l) (sym b.2),
-        subst (λ (l : Bytes). line_count l ≤ line_count block) (sym b.2) (blocks.line_count-block extent block bytes b.0 b.1),
+        subst (λ (l : Bytes). line_count l ≤ line_count block) (sym b.2) (blocks.line_count_block extent block bytes b.0 b.1),
       )
 
   block_misses : (why : Why) → block_in line block ≡ Err why → from n s text ≡ Misses n

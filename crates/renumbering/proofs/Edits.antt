@@ -12,14 +12,14 @@ use Rattle.edit_laws.proofs.Edits.{fewer_below}
 use Rattle.edit_laws.proofs.Sound.{in_parts}
 use Rattle.renumbering.specs.Renumbered.{renumbered, renumbered_from}
 use Rattle.renumbering.proofs.Kept.{has_id_same, length_same, nodes_same}
-use Rattle.renumbering.proofs.Marks.{length-from}
+use Rattle.renumbering.proofs.Marks.{length_from}
 use Rattle.renumbering.proofs.Sound.{sound_again}
 
 aliases_same : (n : ℕ) (events : List PlainEvent) → alias_count (renumbered_from n events) ≡ alias_count events
 aliases_same n [] = refl
 aliases_same n (Blob id mark bytes ∷ events) = aliases_same (n + 1) events
 aliases_same n (Commit id mark branch author committer encoding comment parents ops aliases ∷ events) =
-    ap (λ k. k + alias_count (renumbered_from (n + suc (length aliases)) events)) (length-from (n + 1) aliases)
+    ap (λ k. k + alias_count (renumbered_from (n + suc (length aliases)) events)) (length_from (n + 1) aliases)
     ∙ ap (λ k. length aliases + k) (aliases_same (n + suc (length aliases)) events)
 aliases_same n (Tag id name target tagger comment mark ∷ events) = aliases_same (n + length (option_to_list mark)) events
 aliases_same n (Reset id branch target ∷ events) = aliases_same (n + 0) events

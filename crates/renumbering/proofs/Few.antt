@@ -13,7 +13,7 @@ use Rattle.plain_model.specs.declared.event.PlainEvent.TheVariants.{Blob, Commit
 use Rattle.plain_model.specs.Lookups.{event_marks, id_of, marks_of, own_marks}
 use Rattle.plain_model.specs.Marks.{IsMark}
 use Rattle.history_laws.specs.Once.{AreMarkedOnce}
-use Rattle.history_laws.proofs.SoundOnce.{sound-once}
+use Rattle.history_laws.proofs.SoundOnce.{sound_once}
 use Rattle.plain_model.specs.Soundness.{IsFormedEvent, IsSound}
 
 -- the numbers alone
@@ -79,7 +79,7 @@ pub few_marks : (events : List PlainEvent) → IsSound events → length (marks_
 few_marks events h =
     let ns = numbers (marks_of events) in
     let marks = are_marks events h.spelled in
-    let few = length-le_from_distinct_below (0 ∷ ns) (MAX_MARK + 1) (with_0 ns marks (numbers_distinct (marks_of events) (sound-once events h).marks)) below in
+    let few = length-le_from_distinct_below (0 ∷ ns) (MAX_MARK + 1) (with_0 ns marks (numbers_distinct (marks_of events) (sound_once events h).marks)) below in
     let same = numbers_length (marks_of events) in
     omega arith
   where

@@ -15,18 +15,18 @@ use Rattle.plain_model.specs.Snapshots.{Shown, ShownContent, blob_bytes, map_tre
 use Rattle.plain_model.specs.Snapshots.ShownContent.{ShownBytes}
 use Rattle.plain_model.specs.Soundness.{has_id}
 use Rattle.plain_model.specs.Trees.{TreeOf, put}
-use Rattle.history_laws.proofs.Ids.{has_id-cons}
+use Rattle.history_laws.proofs.Ids.{has_id_cons}
 use Rattle.renumbering.specs.Renumbered.{all_marked, marked_from, marks_from, renumbered_from}
-use Rattle.renumbering.proofs.Marks.{event-from, id-from, length-event, length-own, marked-twice, numbers-from}
+use Rattle.renumbering.proofs.Marks.{event_from, id_from, length_event, length_own, marked_twice, numbers_from}
 
 pub has_id_same : (n : ℕ) (events : List PlainEvent) (wanted : AnyId) → has_id (renumbered_from n events) wanted ≡ has_id events wanted
 has_id_same n [] wanted = refl
 has_id_same n (e ∷ events) wanted =
     let later = renumbered_from (n + length (event_marks e)) events in
-    has_id-cons (marked_from n e) later wanted
-    ∙ ap (λ id. same_id wanted id || has_id later wanted) (id-from n e)
+    has_id_cons (marked_from n e) later wanted
+    ∙ ap (λ id. same_id wanted id || has_id later wanted) (id_from n e)
     ∙ ap (λ b. same_id wanted (id_of e) || b) (has_id_same (n + length (event_marks e)) events wanted)
-    ∙ sym (has_id-cons e events wanted)
+    ∙ sym (has_id_cons e events wanted)
 
 pub nodes_same : (n : ℕ) (events : List PlainEvent) → nodes (renumbered_from n events) ≡ nodes events
 nodes_same n [] = refl
@@ -48,7 +48,7 @@ refs_same n t (Pass id line ∷ events) = refs_same (n + 0) t events
 
 pub ids_same : (n : ℕ) (events : List PlainEvent) → map id_of (renumbered_from n events) ≡ map id_of events
 ids_same n [] = refl
-ids_same n (e ∷ events) = λ i. id-from n e i ∷ ids_same (n + length (event_marks e)) events i
+ids_same n (e ∷ events) = λ i. id_from n e i ∷ ids_same (n + length (event_marks e)) events i
 
 pub length_same : (n : ℕ) (events : List PlainEvent) → length (renumbered_from n events) ≡ length events
 length_same n [] = refl
@@ -63,7 +63,7 @@ pub marks_same : (n : ℕ) (events : List PlainEvent) → marks_of (renumbered_f
 marks_same n [] = refl
 marks_same n (e ∷ events) =
     (λ i. own i ++ marks_same (n + length (event_marks e)) events i)
-    ∙ ap (λ k. enumerate_from n ids ++ enumerate_from (n + k) (marked_ids events)) (sym (length-map (own_marks e) (λ (own : ℕ × AnyId). own.1) ∙ length-own e))
+    ∙ ap (λ k. enumerate_from n ids ++ enumerate_from (n + k) (marked_ids events)) (sym (length-map (own_marks e) (λ (own : ℕ × AnyId). own.1) ∙ length_own e))
     ∙ sym (enumerated n ids (marked_ids events))
     ∙ ap (enumerate_from n) (sym (map-append (λ (own : ℕ × AnyId). own.1) (own_marks e) (marks_of events)))
   where
@@ -71,7 +71,7 @@ marks_same n (e ∷ events) =
     ids = map (λ (own : ℕ × AnyId). own.1) (own_marks e)
 
     own : own_marks (marked_from n e) ≡ enumerate_from n (map (λ (own : ℕ × AnyId). own.1) (own_marks e))
-    own = (λ i. map (λ m. (m, id-from n e i)) (event-from n e i)) ∙ numbers-from n (id_of e) (event_marks e)
+    own = (λ i. map (λ m. (m, id_from n e i)) (event_from n e i)) ∙ numbers_from n (id_of e) (event_marks e)
 
     enumerated : (n : ℕ) (xs ys : List AnyId) → enumerate_from n (xs ++ ys) ≡ enumerate_from n xs ++ enumerate_from (n + length xs) ys
     enumerated n [] ys = ap (λ k. enumerate_from k ys) (let is : n ≡ n + 0 = omega arith in is)
@@ -100,7 +100,7 @@ others_same n (e ∷ events) m = λ i. one n e i ∷ others_same (n + length (ev
 pub numbered_twice : (n : ℕ) (events : List PlainEvent) → renumbered_from n (renumbered_from n events) ≡ renumbered_from n events
 numbered_twice n [] = refl
 numbered_twice n (e ∷ events) =
-    (λ i. marked-twice n e i ∷ renumbered_from (n + length-event n e i) (renumbered_from (n + length (event_marks e)) events))
+    (λ i. marked_twice n e i ∷ renumbered_from (n + length_event n e i) (renumbered_from (n + length (event_marks e)) events))
     ∙ ap (λ es. marked_from n e ∷ es) (numbered_twice (n + length (event_marks e)) events)
 
 -- ---- trees

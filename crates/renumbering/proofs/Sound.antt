@@ -15,12 +15,12 @@ use Rattle.plain_model.specs.declared.event.PlainEvent.TheVariants.{Blob, Commit
 use Rattle.plain_model.specs.Lookups.{event_marks, marks_of, own_marks}
 use Rattle.plain_model.specs.Soundness.{AreSoundAfter, IsCommitOf, IsFormedEvent, IsSound, IsSoundEvent, RefersBack, has_id}
 use Rattle.plain_model.specs.Streams.{is_among, is_marked}
-use Rattle.history_laws.proofs.SoundOnce.{is_marked-own}
-use Rattle.history_laws.proofs.Ids.{has_id-append, is_marked-append}
+use Rattle.history_laws.proofs.SoundOnce.{is_marked_own}
+use Rattle.history_laws.proofs.Ids.{has_id_append, is_marked_append}
 use Rattle.renumbering.specs.Renumbered.{marked_from, marks_from, renumbered, renumbered_from}
 use Rattle.renumbering.proofs.Few.{few_marks}
 use Rattle.renumbering.proofs.Kept.{has_id_same, tree_same}
-use Rattle.renumbering.proofs.Marks.{among-from, distinct-from, event-from, length-own, marks-are}
+use Rattle.renumbering.proofs.Marks.{among_from, distinct_from, event_from, length_own, marks_are}
 
 -- the two have the same ids, and the marks of the second are below the next one
 record IsAfter (old new : List PlainEvent) (next : ℕ) : Type 0 where
@@ -34,17 +34,17 @@ first_after next = record { ids = λ id. refl; below = λ m h. absurd cc }
 -- one event more
 after_more : (old new : List PlainEvent) (next : ℕ) (e : PlainEvent) → IsAfter old new next →
     IsAfter (old ++ e ∷ []) (new ++ marked_from next e ∷ []) (next + length (event_marks e))
-after_more old new next e b = record { ids = ids; below = λ m h. below m (or_cases (is_marked new m) (is_marked (marked_from next e ∷ []) m) (sym (is_marked-append new (marked_from next e ∷ []) m) ∙ h)) }
+after_more old new next e b = record { ids = ids; below = λ m h. below m (or_cases (is_marked new m) (is_marked (marked_from next e ∷ []) m) (sym (is_marked_append new (marked_from next e ∷ []) m) ∙ h)) }
   where
     ids : (id : AnyId) → has_id (old ++ e ∷ []) id ≡ has_id (new ++ marked_from next e ∷ []) id
     ids id =
-        has_id-append old (e ∷ []) id
+        has_id_append old (e ∷ []) id
         ∙ (λ i. b.ids id i || sym (has_id_same next (e ∷ []) id) i)
-        ∙ sym (has_id-append new (marked_from next e ∷ []) id)
+        ∙ sym (has_id_append new (marked_from next e ∷ []) id)
 
     below : (m : ℕ) → (is_marked new m ≡ true) ⊎ (is_marked (marked_from next e ∷ []) m ≡ true) → m < next + length (event_marks e)
     below m (inl before) = let low = b.below m before in omega arith
-    below m (inr own) = (among-from next (event_marks e) m (sym (is_marked-own (marked_from next e) m ∙ ap (λ ms. is_among ms m) (event-from next e)) ∙ own)).1
+    below m (inr own) = (among_from next (event_marks e) m (sym (is_marked_own (marked_from next e) m ∙ ap (λ ms. is_among ms m) (event_from next e)) ∙ own)).1
 
 -- a mark that isn't below the next one is nowhere yet
 is_new : (old new : List PlainEvent) (next m : ℕ) → IsAfter old new next → next ≤ m → is_marked new m ≡ false
@@ -94,7 +94,7 @@ event_still old new next (Commit id mark branch author committer encoding commen
   h.8,
   ops_still old new b.ids ops h.9,
   are_new old new next (next + 1) aliases b (omega arith),
-  distinct-from next (mark ∷ aliases),
+  distinct_from next (mark ∷ aliases),
 )
 event_still old new next (Tag id name target tagger comment None) b h = (sym (b.ids (any.Tag id)) ∙ h.0, h.1, sym (b.ids (any.Commit target)) ∙ h.2, h.3, tt)
 event_still old new next (Tag id name target tagger comment (Some mark)) b h =
@@ -114,7 +114,7 @@ formed_still old new next (e ∷ events) b h = (
 spelled_event : (next : ℕ) (e : PlainEvent) → 1 ≤ next → next + length (event_marks e) ≤ MAX_MARK + 1 → IsFormedEvent e → IsFormedEvent (marked_from next e)
 spelled_event next (Blob id mark bytes) low few h = (low, omega arith)
 spelled_event next (Commit id mark branch author committer encoding comment parents ops aliases) low few h =
-    ((low, omega arith), h.1, marks-are (next + 1) aliases (omega arith) (omega arith))
+    ((low, omega arith), h.1, marks_are (next + 1) aliases (omega arith) (omega arith))
 spelled_event next (Tag id name target tagger comment None) low few h = tt
 spelled_event next (Tag id name target tagger comment (Some mark)) low few h = (low, omega arith)
 spelled_event next (Reset id branch target) low few h = tt
@@ -124,7 +124,7 @@ spelled_still : (next : ℕ) (events : List PlainEvent) → 1 ≤ next → next 
 spelled_still next [] low few h = tt
 spelled_still next (e ∷ events) low few h =
     let both = length-append (own_marks e) (marks_of events) in
-    let own = length-own e in
+    let own = length_own e in
     (spelled_event next e low (omega arith) h.0, spelled_still (next + length (event_marks e)) events (omega arith) (omega arith) h.1)
 
 pub sound_again : (events : List PlainEvent) → IsSound events → IsSound (renumbered events)

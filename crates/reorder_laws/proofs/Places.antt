@@ -10,7 +10,7 @@ use Rattle.plain_model.specs.declared.event.PlainEvent.TheVariants.{Blob, Commit
 use Rattle.plain_model.specs.Lookups.{find_event, id_of, same_id}
 use Rattle.plain_model.specs.Soundness.{are_distinct, has_id}
 use Rattle.edit_laws.specs.Parts.{of_id, one_if, tally}
-use Rattle.history_laws.proofs.Ids.{has_id-append, has_id-cons}
+use Rattle.history_laws.proofs.Ids.{has_id_append, has_id_cons}
 use Rattle.history_laws.proofs.Lists.{all_join}
 use Rattle.edit_laws.proofs.Lists.{none_passing, own_id, some_passing, tally_append}
 use Rattle.commit_laws.specs.Selected.{chosen}
@@ -70,7 +70,7 @@ found_sum f w (e ∷ es) o = go (same_id (any.Commit w) (id_of e)) (ap one_if (o
 
 found_one : (w : ℕ) (es : List PlainEvent) → IsHere es w → tally (λ e. 1) (option_to_list (find_event (any.Commit w) es)) ≡ 1
 found_one w [] k = absurd (true≢false (sym k))
-found_one w (e ∷ es) k = go (same_id (any.Commit w) (id_of e)) (sym (has_id-cons e es (any.Commit w)) ∙ k) (λ x. found_one w es x)
+found_one w (e ∷ es) k = go (same_id (any.Commit w) (id_of e)) (sym (has_id_cons e es (any.Commit w)) ∙ k) (λ x. found_one w es x)
   where
     go : (b : Bool) → b || has_id es (any.Commit w) ≡ true → (IsHere es w → tally (λ e. 1) (option_to_list (find_event (any.Commit w) es)) ≡ 1) → tally (λ e. 1) (option_to_list (cond b (Some e) (find_event (any.Commit w) es))) ≡ 1
     go true x f = omega arith
@@ -175,8 +175,8 @@ module _ (set : List AnyId) (apart : are_apart set ≡ true) where
         elim (cases_Bool (has_id (filled set whole (chosen set) whole) id)) [
           | inl it ↦ it
           | inr absent ↦
-              let some = some_passing (λ l. has_id l id) (λ xs ys. has_id-append xs ys id) refl whole k in
-              let none = none_passing (λ l. has_id l id) (λ xs ys. has_id-append xs ys id) refl (filled set whole (chosen set) whole) absent in
+              let some = some_passing (λ l. has_id l id) (λ xs ys. has_id_append xs ys id) refl whole k in
+              let none = none_passing (λ l. has_id l id) (λ xs ys. has_id_append xs ys id) refl (filled set whole (chosen set) whole) absent in
               let same = filled_same a (of_id id) in
               absurd (omega arith)
         ]

@@ -14,7 +14,7 @@ use Rattle.plain_model.specs.Lookups.{alias_count}
 use Rattle.plain_model.specs.Soundness.{IsSound, has_id}
 use Rattle.plain_model.specs.Streams.{is_marked}
 use Rattle.history_laws.specs.FirstParents.{ops_along}
-use Rattle.history_laws.proofs.Ids.{is_marked-append}
+use Rattle.history_laws.proofs.Ids.{is_marked_append}
 use Rattle.edit_laws.specs.Checking.{tree_check}
 use Rattle.edit_laws.specs.Equations.{Fits}
 use Rattle.edit_laws.specs.Keeping.{HasOperationsOf}
@@ -220,7 +220,7 @@ done_aliases set events new h sel d =
 pub done_marks : (set : List AnyId) (events new : List PlainEvent) → IsSound events → IsSelection events set →
     reorder_of set events ≡ Ok new → (m : ℕ) → is_marked new m ≡ is_marked events m
 done_marks set events new h sel d m =
-    reorder_tests set events h sel new d (λ l. is_marked l m) (λ xs ys. is_marked-append xs ys m) refl (mark_alike m)
+    reorder_tests set events h sel new d (λ l. is_marked l m) (λ xs ys. is_marked_append xs ys m) refl (mark_alike m)
 
 pub done_limits : (set : List AnyId) (events new : List PlainEvent) → IsSound events → IsSelection events set →
     IsWithinLimits events → reorder_of set events ≡ Ok new → IsWithinLimits new

@@ -15,7 +15,7 @@ use Rattle.plain_model.specs.Lookups.{id_of, is_listed, op_blobs, referents_of, 
 use Rattle.plain_model.specs.Soundness.{IsFormedEvent, IsSound, are_distinct, has_id}
 use Rattle.edit_laws.specs.Parts.{AreOnce, CanBeSettled, HasFewParents, IsAbove, IsLawful, of_id, of_mark, one_if, tally}
 use Rattle.edit_laws.specs.Settling.{is_ready}
-use Rattle.history_laws.proofs.Ids.{has_id-append}
+use Rattle.history_laws.proofs.Ids.{has_id_append}
 use Rattle.history_laws.proofs.Lists.{all_imply, all_join}
 use Rattle.edit_laws.specs.Keeping.{HasOperationsOf}
 use Rattle.edit_laws.proofs.Lists.{OfNodes, all_rear, all_true, events_of_nodes, none_passing, own_id, some_passing, true_all}
@@ -73,9 +73,9 @@ module _ (set : List AnyId) (events : List PlainEvent) (h : IsSound events) (sel
   ids_same : (es : List PlainEvent) (id : AnyId) → has_id (map link es) id ≡ has_id es id
   ids_same [] id = refl
   ids_same (e ∷ es) id =
-      has_id-append (link e ∷ []) (map link es) id
+      has_id_append (link e ∷ []) (map link es) id
       ∙ (λ i. one_same e id i || ids_same es id i)
-      ∙ sym (has_id-append (e ∷ []) es id)
+      ∙ sym (has_id_append (e ∷ []) es id)
 
   mark_same : (m : ℕ) (e : PlainEvent) → of_mark m (link e) ≡ of_mark m e
   mark_same m (Commit id mark branch author committer encoding comment parents ops aliases) = refl
@@ -260,8 +260,8 @@ module _ (set : List AnyId) (events : List PlainEvent) (h : IsSound events) (sel
     | inr absent ↦
         elim (cases_Bool (has_id left id)) [
           | inl there ↦
-              let some = some_passing (λ l. has_id l id) (λ xs ys. has_id-append xs ys id) refl left there in
-              let none = none_passing (λ l. has_id l id) (λ xs ys. has_id-append xs ys id) refl whole (ids_same events id ∙ absent) in
+              let some = some_passing (λ l. has_id l id) (λ xs ys. has_id_append xs ys id) refl left there in
+              let none = none_passing (λ l. has_id l id) (λ xs ys. has_id_append xs ys id) refl whole (ids_same events id ∙ absent) in
               let same = left_sum (of_id id) in
               absurd (omega arith)
           | inr gone ↦ gone ∙ sym absent

@@ -13,8 +13,8 @@ use Rattle.plain_model.specs.Paths.{Bytes}
 use Rattle.plain_model.specs.Soundness.{IsSound, has_id}
 use Rattle.plain_model.specs.Streams.{is_marked}
 use Rattle.history_laws.specs.FirstParents.{ops_along}
-use Rattle.history_laws.proofs.Ids.{each_found, has_id-append, is_marked-append}
-use Rattle.history_laws.proofs.SoundOnce.{sound-once}
+use Rattle.history_laws.proofs.Ids.{each_found, has_id_append, is_marked_append}
+use Rattle.history_laws.proofs.SoundOnce.{sound_once}
 use Rattle.edit_laws.specs.Keeping.{AddsNothing}
 use Rattle.edit_laws.specs.Parts.{HasFewParents, of_id, of_mark, one_if, tally}
 use Rattle.edit_laws.specs.Passing.{IsWithinLimits}
@@ -49,7 +49,7 @@ module _ (c : ℕ) (how : Rewrite) where
   one_of_all events h =
       all_new c how (λ e. find_event (id_of e) events ≡ Some e) (IsOneOf c how events)
       (λ e f. (e, ap (λ id. find_event id events) (rewritten_id e) ∙ f, refl))
-      events (each_found events (sound-once events h).ids)
+      events (each_found events (sound_once events h).ids)
 
 -- ---- sums
 
@@ -77,8 +77,8 @@ module _ (c : ℕ) (how : Rewrite) (events new : List PlainEvent) (taken : (f : 
   pub adds_nothing : AddsNothing events new
   adds_nothing = record {
     events = let fewer = same_no_more one (λ e. refl) in let before = counted events in let after = counted new in omega arith;
-    ids = λ id there. none_new (λ l. has_id l id) (λ xs ys. has_id-append xs ys id) refl events new (same_no_more (of_id id) (λ e. ap one_if (own_id (rewritten c how e) id ∙ ap (same_id id) (rewritten_id c how e) ∙ sym (own_id e id)))) there;
-    marks = λ m there. none_new (λ l. is_marked l m) (λ xs ys. is_marked-append xs ys m) refl events new (same_no_more (of_mark m) (alike c how (of_mark m) (λ i mark branch author committer encoding comment parents others ops more aliases. refl))) there;
+    ids = λ id there. none_new (λ l. has_id l id) (λ xs ys. has_id_append xs ys id) refl events new (same_no_more (of_id id) (λ e. ap one_if (own_id (rewritten c how e) id ∙ ap (same_id id) (rewritten_id c how e) ∙ sym (own_id e id)))) there;
+    marks = λ m there. none_new (λ l. is_marked l m) (λ xs ys. is_marked_append xs ys m) refl events new (same_no_more (of_mark m) (alike c how (of_mark m) (λ i mark branch author committer encoding comment parents others ops more aliases. refl))) there;
     aliases =
         let fewer = same_no_more own_aliases (alike c how own_aliases (λ i mark branch author committer encoding comment parents others ops more aliases. refl)) in
         let before = aliases_counted events in

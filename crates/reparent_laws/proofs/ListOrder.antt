@@ -12,13 +12,13 @@ use Rattle.plain_model.specs.Soundness.{IsCommitOf, IsSound, has_id}
 use Rattle.plain_model.proofs.Numbers.{eqb_turned}
 use Rattle.history_laws.specs.Finding.{event_number}
 use Rattle.history_laws.specs.Once.{AreDistinct}
-use Rattle.history_laws.proofs.Ids.{found-place, place-at, some_suc}
-use Rattle.history_laws.proofs.SoundOnce.{has_id-find, sound-once}
+use Rattle.history_laws.proofs.Ids.{found_place, place_at, some_suc}
+use Rattle.history_laws.proofs.SoundOnce.{has_id_find, sound_once}
 use Rattle.commit_laws.specs.Selected.{listed}
 
 -- what has a place is there
 placed_there : (es : List PlainEvent) (id : AnyId) (p : ℕ) → place_of id es ≡ Some p → has_id es id ≡ true
-placed_there es id p at = has_id-find es id ∙ ap is_some (place-at id es p at).2
+placed_there es id p at = has_id_find es id ∙ ap is_some (place_at id es p at).2
 
 -- a set of two commits
 module _ (set : List AnyId) (low high : ℕ) (has_low : is_listed (any.Commit low) set ≡ true) (has_high : is_listed (any.Commit high) set ≡ true)
@@ -59,7 +59,7 @@ module _ (set : List AnyId) (low high : ℕ) (has_low : is_listed (any.Commit lo
         go true it k f =
             let is : i ≡ high = eqb-true i high it in
             listed_more true n es (ap (λ x. is_listed (any.Commit x) set) is ∙ has_high)
-            ∙ (λ j. is j ∷ neither es lows.1 (ap (λ x. has_id es (any.Commit x)) (sym is) ∙ has_id-find es (any.Commit i) ∙ ap is_some d.0) j)
+            ∙ (λ j. is j ∷ neither es lows.1 (ap (λ x. has_id es (any.Commit x)) (sym is) ∙ has_id_find es (any.Commit i) ∙ ap is_some d.0) j)
         go false it k f = listed_more false n es (no_other i lows.0 it) ∙ f k
     high_alone (Blob i mark bytes ∷ es) d l k = high_alone es d.1 l k
     high_alone (Tag i name target tagger comment mark ∷ es) d l k = high_alone es d.1 l k
@@ -94,7 +94,7 @@ module _ (set : List AnyId) (low high : ℕ) (has_low : is_listed (any.Commit lo
             let is : i ≡ low = sym (eqb-true low i x) in
             let at = some_suc (place_of (any.Commit high) es) q k in
             listed_more true n es (ap (λ z. is_listed (any.Commit z) set) is ∙ has_low)
-            ∙ (λ j. is j ∷ high_alone es d.1 (ap (λ z. has_id es (any.Commit z)) (sym is) ∙ has_id-find es (any.Commit i) ∙ ap is_some d.0) (placed_there es (any.Commit high) at.0 at.1) j)
+            ∙ (λ j. is j ∷ high_alone es d.1 (ap (λ z. has_id es (any.Commit z)) (sym is) ∙ has_id_find es (any.Commit i) ∙ ap is_some d.0) (placed_there es (any.Commit high) at.0 at.1) j)
         go false x false y l k f =
             listed_more false n es (no_other i (eqb_turned i low ∙ x) (eqb_turned i high ∙ y)) ∙ later es p q l k less f
     both (Blob i mark bytes ∷ es) d p q l k less = later es p q l k less (both es d.1)
@@ -107,11 +107,11 @@ module _ (set : List AnyId) (low high : ℕ) (has_low : is_listed (any.Commit lo
     by_number events h l k less = go (place_of (any.Commit low) events) refl (placed low l) (place_of (any.Commit high) events) refl (placed high k) less
       where
         placed : (c : ℕ) → IsCommitOf events c → is_some (place_of (any.Commit c) events) ≡ true
-        placed c there = found-place (any.Commit c) events (sym (has_id-find events (any.Commit c)) ∙ there)
+        placed c there = found_place (any.Commit c) events (sym (has_id_find events (any.Commit c)) ∙ there)
 
         go : (o : Option ℕ) → place_of (any.Commit low) events ≡ o → is_some o ≡ true → (u : Option ℕ) → place_of (any.Commit high) events ≡ u → is_some u ≡ true
             → unwrap_or (option_map (λ place. place + 1) o) 0 < unwrap_or (option_map (λ place. place + 1) u) 0 → listed set events ≡ low ∷ high ∷ []
-        go (Some p) x s (Some q) y t less = both events (sound-once events h).ids p q x y (omega arith)
+        go (Some p) x s (Some q) y t less = both events (sound_once events h).ids p q x y (omega arith)
         go None x s u y t less = absurd (true≢false (sym s))
         go (Some p) x s None y t less = absurd (true≢false (sym t))
 

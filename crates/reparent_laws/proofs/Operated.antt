@@ -24,7 +24,7 @@ use Rattle.plain_model.specs.Histories.{Node, nodes, tree}
 use Rattle.plain_model.specs.Lookups.{event_marks, find_mark, id_of, marks_of, op_blobs, same_id}
 use Rattle.plain_model.specs.Paths.{Bytes, IsPath}
 use Rattle.plain_model.specs.Soundness.{IsFormedEvent, IsSound, has_id}
-use Rattle.history_laws.proofs.Ids.{has_id-append, has_id-cons}
+use Rattle.history_laws.proofs.Ids.{has_id_append, has_id_cons}
 use Rattle.history_laws.proofs.Lists.{all_join}
 use Rattle.edit_laws.specs.Equations.{Fits}
 use Rattle.edit_laws.specs.Keeping.{AddsNothing, HasOperationsOf, IsNoBlob}
@@ -67,7 +67,7 @@ among_own test own id (m ∷ marks) others h = go (test m) h (among_own test own
 
 marked_there : (mark : ℕ) (id : AnyId) (es : List PlainEvent) → find_mark mark es ≡ Some id → has_id es id ≡ true
 marked_there mark id [] h = absurd cc
-marked_there mark id (e ∷ es) h = has_id-append (e ∷ []) es id ∙ elim (among_own (λ m. mark == m) (id_of e) id (event_marks e) (marks_of es) h) [
+marked_there mark id (e ∷ es) h = has_id_append (e ∷ []) es id ∙ elim (among_own (λ m. mark == m) (id_of e) id (event_marks e) (marks_of es) h) [
   | inl own ↦ or_left (has_id (e ∷ []) id) (has_id es id) (ap (has_id (e ∷ [])) own ∙ has_own_id e)
   | inr later ↦ or_right (has_id (e ∷ []) id) (has_id es id) (marked_there mark id es later)
 ]
@@ -342,7 +342,7 @@ not_a_blob (any.Pass x) b n = refl
 
 -- an event before lists that have the same ids
 has_more : (e : PlainEvent) (xs ys : List PlainEvent) (id : AnyId) → has_id xs id ≡ has_id ys id → has_id (e ∷ xs) id ≡ has_id (e ∷ ys) id
-has_more e xs ys id same = has_id-cons e xs id ∙ ap (λ x. same_id id (id_of e) || x) same ∙ sym (has_id-cons e ys id)
+has_more e xs ys id same = has_id_cons e xs id ∙ ap (λ x. same_id id (id_of e) || x) same ∙ sym (has_id_cons e ys id)
 
 -- sweeping takes blobs alone
 module _ (old new : List PlainEvent) (id : AnyId) (n : IsNoBlob id) where
@@ -359,7 +359,7 @@ module _ (old new : List PlainEvent) (id : AnyId) (n : IsNoBlob id) where
       ∙ sym (no_blob es)
     where
       no_blob : (l : List PlainEvent) → has_id (Blob b mark bytes ∷ l) id ≡ has_id l id
-      no_blob l = has_id-cons (Blob b mark bytes) l id ∙ ap (λ x. x || has_id l id) (not_a_blob id b n)
+      no_blob l = has_id_cons (Blob b mark bytes) l id ∙ ap (λ x. x || has_id l id) (not_a_blob id b n)
   swept_others (Commit i mark branch author committer encoding comment parents ops aliases ∷ es) = has_more (Commit i mark branch author committer encoding comment parents ops aliases) (stay es) es id (swept_others es)
   swept_others (Tag i name target tagger comment mark ∷ es) = has_more (Tag i name target tagger comment mark) (stay es) es id (swept_others es)
   swept_others (Reset i branch target ∷ es) = has_more (Reset i branch target) (stay es) es id (swept_others es)

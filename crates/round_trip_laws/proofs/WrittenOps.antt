@@ -25,7 +25,7 @@ use Rattle.plain_model.specs.Soundness.{IsFormedContent, IsFormedOp, RefersBack,
 use Rattle.plain_model.specs.Text.{LF, quoted_byte, quoted, begins_quoted, last_path, source_path, raw_content_text, raw_op_text, raw_content, raw_op}
 use Rattle.plain_model.specs.Parts.{has_no_lf}
 use Rattle.plain_model.specs.Objects.{is_hex, is_object}
-use Rattle.field_laws.proofs.Words.{after_space-space, first_word-space}
+use Rattle.field_laws.proofs.Words.{after_space_space, first_word_space}
 use Rattle.field_laws.proofs.FieldSteps.{ok_then}
 use Rattle.field_laws.proofs.Persons.{all_pass}
 use Rattle.field_laws.proofs.FieldsAgain.{content_again, last_path_again, hex_isnt, spaceless, both}
@@ -146,11 +146,11 @@ module _ (done : List PlainEvent) (mode : Mode) (raw : RawContent) (content : Co
   fields_are = append_assoc (raw_content_text raw) (codes " ") (last_path path)
 
   pub first_field : first_word fields ≡ raw_content_text raw
-  first_field = ap first_word fields_are ∙ first_word-space (raw_content_text raw) (last_path path) (spaceless raw fits)
+  first_field = ap first_word fields_are ∙ first_word_space (raw_content_text raw) (last_path path) (spaceless raw fits)
 
   fields_again : (content_in mode (first_word fields) >>= λ r. placed done r >>= λ c. last_path_in (after_space fields) >>= λ p. modified mode c p) ≡ modified mode content path
   fields_again =
-      let after : after_space fields ≡ Some (last_path path) = ap after_space fields_are ∙ after_space-space (raw_content_text raw) (last_path path) (spaceless raw fits) in
+      let after : after_space fields ≡ Some (last_path path) = ap after_space fields_are ∙ after_space_space (raw_content_text raw) (last_path path) (spaceless raw fits) in
       ok_then (content_in mode (first_word fields)) (λ r. placed done r >>= λ c. last_path_in (after_space fields) >>= λ p. modified mode c p) raw (modified mode content path)
       (ap (content_in mode) first_field ∙ content_again mode raw path its fits)
       (ok_then (placed done raw) (λ c. last_path_in (after_space fields) >>= λ p. modified mode c p) content (modified mode content path) there

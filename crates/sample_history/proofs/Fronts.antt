@@ -26,7 +26,7 @@ use Rattle.plain_model.specs.Streams.{is_marked}
 use Rattle.plain_model.specs.Trees.{Tree, TreeOf, cleared_for, put, where_path, without}
 use Rattle.history_laws.specs.Counts.{ops_in}
 use Rattle.history_laws.proofs.Commits.{nodes_append}
-use Rattle.history_laws.proofs.Ids.{has_id-append, has_id_after, has_id_step, has_id_still, has_own, ids-below, is_marked-append, same_number}
+use Rattle.history_laws.proofs.Ids.{has_id_append, has_id_after, has_id_step, has_id_still, has_own, ids_below, is_marked_append, same_number}
 use Rattle.sample_history.specs.Sample.{blob_number, blob_of, commit_number, commit_of, file, folder, ops_of, parents_of, path_in, sample, sample_from, signed_at, drawn, stepped}
 use Rattle.plain_model.specs.declared.limit.TheConstants.{MAX_SAMPLE_COMMITS}
 use Rattle.sample_history.proofs.Files.{is_file}
@@ -120,7 +120,7 @@ not_same a b other = elim (cases_Bool (same_id a b)) [
 still_new : (es : List PlainEvent) (e : PlainEvent) (id : AnyId) → has_id es id ≡ false
     → (id_number (id_of e) ≡ id_number id → ⊥) → has_id (es ++ e ∷ []) id ≡ false
 still_new es e id new other =
-    rw (has_id-append es (e ∷ []) id, new, has_id_step e [] id, not_same (id_of e) id other) refl
+    rw (has_id_append es (e ∷ []) id, new, has_id_step e [] id, not_same (id_of e) id other) refl
 
 -- ---- the events up to a commit
 
@@ -169,7 +169,7 @@ module _ (n r : ℕ) (es : List PlainEvent) (front : IsFront n es) (low : n + 1 
       let second = λ (at_least : 3 ≤ i). mod-lt (r / 10) {m = i - 2} (omega arith) in
       let named = has_own es [] blob in (
         new,
-        rw (is_marked-append es (blob ∷ []) (commit_number i), unmarked, other) refl,
+        rw (is_marked_append es (blob ∷ []) (commit_number i), unmarked, other) refl,
         refl,
         signed,
         signed,
@@ -223,7 +223,7 @@ module _ (n r : ℕ) (es : List PlainEvent) (front : IsFront n es) (low : n + 1 
     | inl there ↦ there
     | inr absent ↦
         let none : has_id (es ++ blob ∷ commit ∷ []) (any.Commit c) ≡ false =
-        rw (has_id-append es (blob ∷ commit ∷ []) (any.Commit c), absent, other) refl
+        rw (has_id_append es (blob ∷ commit ∷ []) (any.Commit c), absent, other) refl
         in
         absurd (true≢false (sym it ∙ none))
   ]
@@ -241,7 +241,7 @@ module _ (n r : ℕ) (es : List PlainEvent) (front : IsFront n es) (low : n + 1 
             (λ (same : commit_number i ≡ id_number id). omega (arith, same, high)));
         new_mark = λ m high.
             rw (
-              is_marked-append es (blob ∷ commit ∷ []) m,
+              is_marked_append es (blob ∷ commit ∷ []) m,
               front.new_mark m (omega (arith, high)),
               ne_eqb (blob_number i) m (λ same. omega (arith, same, high)),
               ne_eqb (commit_number i) m (λ same. omega (arith, same, high)),
@@ -344,7 +344,7 @@ pub sample_low : (count start : ℕ) → AreIdsBelow (2 ^ 62) (sample count star
 unfolding sample
 sample_low count start =
     let low = at_most count in
-    ids-below (2 ^ 62) (sample count start) (low_from (min count MAX_SAMPLE_COMMITS) 0 start (omega (arith, low)))
+    ids_below (2 ^ 62) (sample count start) (low_from (min count MAX_SAMPLE_COMMITS) 0 start (omega (arith, low)))
 
 pub sample_events_few : (count start : ℕ) → length (sample count start) ≤ MAX_EVENTS
 unfolding sample

@@ -17,7 +17,7 @@ use Rattle.selection_parser.specs.declared.field.FieldSet.{FieldSet}
 use Rattle.selection_parser.specs.declared.function.Function.{Function}
 use Rattle.selection_parser.specs.declared.selection.Selection.{Selection}
 use Rattle.selection_parser.specs.declared.selection.Selection.TheVariants as selection
-use Rattle.selection_parser.proofs.Layers.{plain-Union, plain-Both, plain-Not, plain-Near, plain-Call, plain-Search, plain-AtPattern}
+use Rattle.selection_parser.proofs.Layers.{plain_Union, plain_Both, plain_Not, plain_Near, plain_Call, plain_Search, plain_AtPattern}
 use Rattle.selection_eval.specs.Denoted.{denote, in_turn, joined}
 use Rattle.selection_eval.specs.Names.{Names}
 use Rattle.selection_eval.specs.Turning.{JudgesSet, step, turn}
@@ -44,31 +44,31 @@ text_at all i one texts lt is =
 
 pub texts_of_all : (all : Vec Selection Global) → IsTrue (has_utf8_texts (plain_of (selection.Union all)))
     → All (λ one. IsTrue (has_utf8_texts (plain_of one))) all.items
-texts_of_all all h = each all.items (rw (plain-Union all) at h)
+texts_of_all all h = each all.items (rw (plain_Union all) at h)
 
 pub texts_of_each : (all : Vec Selection Global) → IsTrue (has_utf8_texts (plain_of (selection.Both all)))
     → All (λ one. IsTrue (has_utf8_texts (plain_of one))) all.items
-texts_of_each all h = each all.items (rw (plain-Both all) at h)
+texts_of_each all h = each all.items (rw (plain_Both all) at h)
 
 pub texts_of_not : (x : Box Selection Global) → IsTrue (has_utf8_texts (plain_of (selection.Not x)))
     → IsTrue (has_utf8_texts (plain_of x.value))
-texts_of_not x h = rw (plain-Not x) at h
+texts_of_not x h = rw (plain_Not x) at h
 
 pub texts_of_near : (times : ℕ) (x : Box Selection Global) → IsTrue (has_utf8_texts (plain_of (selection.Near times x)))
     → IsTrue (has_utf8_texts (plain_of x.value))
-texts_of_near times x h = rw (plain-Near times x) at h
+texts_of_near times x h = rw (plain_Near times x) at h
 
 pub texts_of_call : (f : Function) (x : Box Selection Global) → IsTrue (has_utf8_texts (plain_of (selection.Call f x)))
     → IsTrue (has_utf8_texts (plain_of x.value))
-texts_of_call f x h = rw (plain-Call f x) at h
+texts_of_call f x h = rw (plain_Call f x) at h
 
 pub texts_of_search : (pattern : Bytes) (fields : FieldSet)
     → IsTrue (has_utf8_texts (plain_of (selection.Search pattern fields))) → IsTrue (is_utf8 pattern)
-texts_of_search pattern fields h = rw (plain-Search pattern fields) at h
+texts_of_search pattern fields h = rw (plain_Search pattern fields) at h
 
 pub texts_of_paths : (pattern : Bytes) (whole : Bool)
     → IsTrue (has_utf8_texts (plain_of (selection.AtPattern pattern whole))) → IsTrue (is_utf8 pattern)
-texts_of_paths pattern whole h = rw (plain-AtPattern pattern whole) at h
+texts_of_paths pattern whole h = rw (plain_AtPattern pattern whole) at h
 
 -- ---- one after another
 

@@ -6,7 +6,7 @@ use Rattle.std.specs.Map.{lookup}
 use Rattle.plain_model.specs.Lookups.{event_at, event_marks, find_mark, id_of, is_listed, marks_of, same_id}
 use Rattle.plain_model.specs.declared.id.AnyId.{AnyId}
 use Rattle.plain_model.specs.declared.event.PlainEvent.{PlainEvent}
-use Rattle.history_laws.proofs.Ids.{same_id-refl}
+use Rattle.history_laws.proofs.Ids.{same_id_refl}
 use Rattle.event_sets.specs.Once.{AreLive}
 use Rattle.event_sets.specs.Sets.{Ids, common, passing, union}
 use Rattle.selection_eval.proofs.OnceParts.{or_second}
@@ -49,7 +49,7 @@ stand_more x whole (e ∷ events) h =
 pub stand_all : (events : List PlainEvent) → Stand events events
 stand_all [] = tt
 stand_all (e ∷ events) = (
-  subst (λ (b : Bool). (b || is_listed (id_of e) (map id_of events)) ≡ true) (sym (same_id-refl (id_of e))) refl,
+  subst (λ (b : Bool). (b || is_listed (id_of e) (map id_of events)) ≡ true) (sym (same_id_refl (id_of e))) refl,
   stand_more e events events (stand_all events),
 )
 

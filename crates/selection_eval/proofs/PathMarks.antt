@@ -12,35 +12,35 @@ use Rattle.plain_model.specs.Lookups.{id_of, is_listed, same_id}
 use Rattle.plain_model.specs.declared.id.AnyId.{AnyId}
 use Rattle.plain_model.specs.declared.event.PlainEvent.{PlainEvent}
 use Rattle.history_laws.specs.Once.{AreDistinct}
-use Rattle.event_arena.proofs.ChangeLemmas.{is_listed-append, listed-more}
-use Rattle.event_arena.proofs.ListLemmas.{append-nil, flat-take-item, take-all, take-more}
+use Rattle.event_arena.proofs.ChangeLemmas.{is_listed_append, listed_more}
+use Rattle.event_arena.proofs.ListLemmas.{append-nil, flat_take_item, take_all, take_more}
 use Rattle.event_sets.specs.Bits.{Adds, bits_of}
 use Rattle.event_sets.specs.Sets.{Ids, passing}
-use Rattle.event_sets.proofs.BitLemmas.{picks-passing, picks-tied}
-use Rattle.event_sets.proofs.SetLemmas.{place-own}
+use Rattle.event_sets.proofs.BitLemmas.{picks_passing, picks_tied}
+use Rattle.event_sets.proofs.SetLemmas.{place_own}
 
 -- ---- lists, one item more
 
-pub any-more : {X : Type 0} (p : X → Bool) (xs : List X) (k : ℕ) (x : X) → k < length xs → x ≡ get_or xs k x →
+pub any_more : {X : Type 0} (p : X → Bool) (xs : List X) (k : ℕ) (x : X) → k < length xs → x ≡ get_or xs k x →
     list_any p (take (suc k) xs) ≡ list_any p (take k xs) || p x
-any-more p xs k x low at =
-    ap (list_any p) (take-more xs k x low at) ∙ list_any-append p (take k xs) (x ∷ [])
+any_more p xs k x low at =
+    ap (list_any p) (take_more xs k x low at) ∙ list_any-append p (take k xs) (x ∷ [])
     ∙ ap (λ b. list_any p (take k xs) || b) (or-false (p x))
 
-pub flat-more : {X Y : Type 0} (f : X → List Y) (xs : List X) (k : ℕ) (x : X) → k < length xs → x ≡ get_or xs k x →
+pub flat_more : {X Y : Type 0} (f : X → List Y) (xs : List X) (k : ℕ) (x : X) → k < length xs → x ≡ get_or xs k x →
     flat_map f (take (suc k) xs) ≡ flat_map f (take k xs) ++ f x
-flat-more f xs k x low at =
-    ap (flat_map f) (take-more xs k x low at) ∙ flat_map-append f (take k xs) (x ∷ [])
+flat_more f xs k x low at =
+    ap (flat_map f) (take_more xs k x low at) ∙ flat_map-append f (take k xs) (x ∷ [])
     ∙ ap (λ ys. flat_map f (take k xs) ++ ys) (append-nil (f x))
 
 -- where two tests are the same at each item, so are they together with a third
-map-or : {X : Type 0} (p q r : X → Bool) (xs : List X) → map p xs ≡ map q xs →
+map_or : {X : Type 0} (p q r : X → Bool) (xs : List X) → map p xs ≡ map q xs →
     map (λ x. p x || r x) xs ≡ map (λ x. q x || r x) xs
-map-or p q r [] h = refl
-map-or p q r (x ∷ xs) h =
+map_or p q r [] h = refl
+map_or p q r (x ∷ xs) h =
     let first : p x ≡ q x = cc in
     let rest : map p xs ≡ map q xs = cc in
-    λ i. (first i || r x) ∷ map-or p q r xs rest i
+    λ i. (first i || r x) ∷ map_or p q r xs rest i
 
 -- ---- events that pass a test, and the ids that each event names
 
@@ -52,40 +52,40 @@ module _ (f : PlainEvent → Bool) (g : PlainEvent → Ids) where
   abbrev pub Marked : List PlainEvent → ℕ → List Bool → Type 0
   Marked es k bits = bits ≡ bits_of es (flat_map marks (take k es))
 
-  pub marked-own : (es : List PlainEvent) (k : ℕ) (e : PlainEvent) (old mid : List Bool) → AreDistinct es →
+  pub marked_own : (es : List PlainEvent) (k : ℕ) (e : PlainEvent) (old mid : List Bool) → AreDistinct es →
       slice_get es k ≡ Some e → f e ≡ true → Adds es (g e) old mid → Marked es k old →
       Marked es (suc k) (set mid k true)
-  marked-own es k e old mid once at is adds so_far =
+  marked_own es k e old mid once at is adds so_far =
       let before = flat_map marks (take k es) in
       let one : marks e ≡ g e ++ id_of e ∷ [] = rw is refl in
       ap (λ bits. set bits k true) (adds before so_far)
-      ∙ listed-more es (before ++ g e) (id_of e) k once (place-own es k e once at)
+      ∙ listed_more es (before ++ g e) (id_of e) k once (place_own es k e once at)
       ∙ ap (bits_of es) (
       append_assoc before (g e) (id_of e ∷ []) ∙ ap (λ ids. before ++ ids) (sym one)
-      ∙ sym (flat-take-item marks es k e at)
+      ∙ sym (flat_take_item marks es k e at)
       )
 
-  pub marked-not : (es : List PlainEvent) (k : ℕ) (e : PlainEvent) (old new : List Bool) →
+  pub marked_not : (es : List PlainEvent) (k : ℕ) (e : PlainEvent) (old new : List Bool) →
       slice_get es k ≡ Some e → f e ≡ false → Adds es (g e) old new → Marked es k old → Marked es (suc k) new
-  marked-not es k e old new at isnt adds so_far =
+  marked_not es k e old new at isnt adds so_far =
       let before = flat_map marks (take k es) in
       let one : marks e ≡ g e = rw isnt (append-nil (g e)) in
       adds before so_far
-      ∙ ap (bits_of es) (ap (λ ids. before ++ ids) (sym one) ∙ sym (flat-take-item marks es k e at))
+      ∙ ap (bits_of es) (ap (λ ids. before ++ ids) (sym one) ∙ sym (flat_take_item marks es k e at))
 
-  listed-marks : (id : AnyId) (es : List PlainEvent) →
+  listed_marks : (id : AnyId) (es : List PlainEvent) →
       is_listed id (flat_map marks es) ≡ is_listed id (passing f es) || is_listed id (flat_map g es)
-  listed-marks id [] = refl
-  listed-marks id (e ∷ es) = elim (cases_Bool (f e)) [
+  listed_marks id [] = refl
+  listed_marks id (e ∷ es) = elim (cases_Bool (f e)) [
     | inl it ↦ rw it (
-        is_listed-append (g e ++ id_of e ∷ []) (flat_map marks es) id
-        ∙ (λ i. is_listed-append (g e) (id_of e ∷ []) id i || listed-marks id es i)
+        is_listed_append (g e ++ id_of e ∷ []) (flat_map marks es) id
+        ∙ (λ i. is_listed_append (g e) (id_of e ∷ []) id i || listed_marks id es i)
         ∙ with_own named (same_id id (id_of e)) passed others
         ∙ ap (λ b. is_listed id (id_of e ∷ passing f es) || b) (sym all)
         )
     | inr no_it ↦ rw no_it (
-        is_listed-append (g e ++ []) (flat_map marks es) id
-        ∙ (λ i. is_listed id (append-nil (g e) i) || listed-marks id es i)
+        is_listed_append (g e ++ []) (flat_map marks es) id
+        ∙ (λ i. is_listed id (append-nil (g e) i) || listed_marks id es i)
         ∙ without named passed others
         ∙ ap (λ b. passed || b) (sym all)
         )
@@ -101,7 +101,7 @@ module _ (f : PlainEvent → Bool) (g : PlainEvent → Ids) where
       others = is_listed id (flat_map g es)
 
       all : is_listed id (g e ++ flat_map g es) ≡ is_listed id (g e) || is_listed id (flat_map g es)
-      all = is_listed-append (g e) (flat_map g es) id
+      all = is_listed_append (g e) (flat_map g es) id
 
       with_own : (a b c d : Bool) → (a || (b || false)) || (c || d) ≡ (b || c) || (a || d)
       with_own true true c d = refl
@@ -115,16 +115,16 @@ module _ (f : PlainEvent → Bool) (g : PlainEvent → Ids) where
       without true false d = refl
       without false c d = refl
 
-  own-bits : (es : List PlainEvent) → AreDistinct es → bits_of es (passing f es) ≡ map f es
-  own-bits es once =
-      ap (bits_of es) (sym (picks-passing f es)) ∙ sym (picks-tied (map f es) es once (length-map es f))
+  own_bits : (es : List PlainEvent) → AreDistinct es → bits_of es (passing f es) ≡ map f es
+  own_bits es once =
+      ap (bits_of es) (sym (picks_passing f es)) ∙ sym (picks_tied (map f es) es once (length-map es f))
 
   -- at the end they are those of the events that pass the test or are named
-  pub marked-all : (es : List PlainEvent) (k : ℕ) (bits : List Bool) → length es ≤ k → AreDistinct es →
+  pub marked_all : (es : List PlainEvent) (k : ℕ) (bits : List Bool) → length es ≤ k → AreDistinct es →
       Marked es k bits → bits ≡ map (λ e. f e || is_listed (id_of e) (flat_map g es)) es
-  marked-all es k bits all once so_far =
+  marked_all es k bits all once so_far =
       so_far
-      ∙ ap (λ xs. bits_of es (flat_map marks xs)) (take-all es k all)
-      ∙ (λ i. map (λ e. listed-marks (id_of e) es i) es)
-      ∙ map-or (λ e. is_listed (id_of e) (passing f es)) f (λ e. is_listed (id_of e) (flat_map g es)) es
-      (own-bits es once)
+      ∙ ap (λ xs. bits_of es (flat_map marks xs)) (take_all es k all)
+      ∙ (λ i. map (λ e. listed_marks (id_of e) es i) es)
+      ∙ map_or (λ e. is_listed (id_of e) (passing f es)) f (λ e. is_listed (id_of e) (flat_map g es)) es
+      (own_bits es once)

@@ -17,7 +17,7 @@ use Rattle.plain_model.specs.declared.id.AnyId.{AnyId}
 use Rattle.plain_model.specs.declared.id.AnyId.TheVariants as any
 use Rattle.plain_model.specs.declared.event.PlainEvent.{PlainEvent}
 use Rattle.plain_model.specs.declared.event.PlainEvent.TheVariants.{Blob, Commit, Tag, Reset, Pass}
-use Rattle.history_laws.proofs.Ids.{same_id-refl, same_id-true}
+use Rattle.history_laws.proofs.Ids.{same_id_refl, same_id_true}
 use Rattle.event_sets.specs.Once.{AreLive, IsOnce}
 use Rattle.selection_eval.specs.Given.{AreTipsLive, HaveOwnIds}
 use Rattle.selection_eval.specs.Spots.{tip_of}
@@ -55,7 +55,7 @@ listed_front id (e ∷ a) b h = go (same_id id (id_of e)) h (listed_front id a b
     go false h rec = rec h
 
 listed_last : (e : PlainEvent) (a : List PlainEvent) → is_listed (id_of e) (map id_of (a ++ e ∷ [])) ≡ true
-listed_last e [] = rw (same_id-refl (id_of e)) refl
+listed_last e [] = rw (same_id_refl (id_of e)) refl
 listed_last e (x ∷ a) = or_second (same_id (id_of e) (id_of x)) (is_listed (id_of e) (map id_of (a ++ e ∷ []))) (listed_last e a)
 
 -- events after earlier ones stand once, and are none of those
@@ -70,7 +70,7 @@ own_after earlier (e ∷ events) h =
   where
     go : (x : Bool) (id : AnyId) → same_id id (id_of e) ≡ x → is_listed id (map id_of earlier) ≡ true → is_listed id (map id_of events) ≡ false → (x || is_listed id (map id_of events)) ≡ false
     go true id is listed off =
-        let there : is_listed (id_of e) (map id_of earlier) ≡ true = subst (λ (y : AnyId). is_listed y (map id_of earlier) ≡ true) (same_id-true id (id_of e) is) listed in
+        let there : is_listed (id_of e) (map id_of earlier) ≡ true = subst (λ (y : AnyId). is_listed y (map id_of earlier) ≡ true) (same_id_true id (id_of e) is) listed in
         let new : is_listed (id_of e) (map id_of earlier) ≡ false = new_id earlier e h.0 in
         absurd cc
     go false id is listed off = off

@@ -8,7 +8,7 @@ use Rattle.plain_model.specs.Soundness.{IsSound}
 use Rattle.plain_model.specs.Trees.{TreeOf, at}
 use Rattle.plain_model.specs.declared.id.AnyId.TheVariants as any
 use Rattle.plain_model.specs.declared.event.PlainEvent.{PlainEvent}
-use Rattle.event_arena.proofs.ListLemmas.{drop-item}
+use Rattle.event_arena.proofs.ListLemmas.{drop_item}
 use Rattle.branch_tips.proofs.Noted.{noted}
 use Rattle.event_sets.specs.Once.{AreLive}
 use Rattle.selection_eval.specs.Spots.{tip_of}
@@ -21,7 +21,7 @@ pub next_tips : (tips now : TreeOf ℕ) (events : List PlainEvent) (k : ℕ) (e 
     → refs_after now (drop (suc k) events) ≡ refs events
 next_tips tips now events k e at_k is h =
     let rest : refs_after tips (e ∷ drop (suc k) events) ≡ refs events =
-    subst (λ (l : List PlainEvent). refs_after tips l ≡ refs events) (drop-item events k e at_k) h in
+    subst (λ (l : List PlainEvent). refs_after tips l ≡ refs events) (drop_item events k e at_k) h in
     rw (is, sym (noted tips e (drop (suc k) events))) rest
 
 -- the tip of a branch is a commit of the history

@@ -21,77 +21,77 @@ pub record Closes (b : ℕ) : Type 0 where
   pub kind : (kinds : KindSet) → with_kind kinds b ≡ None
   pub field : (fields : FieldSet) → with_field fields b ≡ None
 
-pub closes-question : Closes 63
+pub closes_question : Closes 63
 unfolding with_kind with_field
-closes-question = record { digit = refl; comma = refl; point = refl; kind = λ k. refl; field = λ f. refl }
+closes_question = record { digit = refl; comma = refl; point = refl; kind = λ k. refl; field = λ f. refl }
 
-pub closes-and : Closes 38
+pub closes_and : Closes 38
 unfolding with_kind with_field
-closes-and = record { digit = refl; comma = refl; point = refl; kind = λ k. refl; field = λ f. refl }
+closes_and = record { digit = refl; comma = refl; point = refl; kind = λ k. refl; field = λ f. refl }
 
-pub closes-or : Closes 124
+pub closes_or : Closes 124
 unfolding with_kind with_field
-closes-or = record { digit = refl; comma = refl; point = refl; kind = λ k. refl; field = λ f. refl }
+closes_or = record { digit = refl; comma = refl; point = refl; kind = λ k. refl; field = λ f. refl }
 
-pub closes-parenthesis : Closes 41
+pub closes_parenthesis : Closes 41
 unfolding with_kind with_field
-closes-parenthesis = record { digit = refl; comma = refl; point = refl; kind = λ k. refl; field = λ f. refl }
+closes_parenthesis = record { digit = refl; comma = refl; point = refl; kind = λ k. refl; field = λ f. refl }
 
-pub closes-space : Closes 32
+pub closes_space : Closes 32
 unfolding with_kind with_field
-closes-space = record { digit = refl; comma = refl; point = refl; kind = λ k. refl; field = λ f. refl }
+closes_space = record { digit = refl; comma = refl; point = refl; kind = λ k. refl; field = λ f. refl }
 
-pub closes-tab : Closes 9
+pub closes_tab : Closes 9
 unfolding with_kind with_field
-closes-tab = record { digit = refl; comma = refl; point = refl; kind = λ k. refl; field = λ f. refl }
+closes_tab = record { digit = refl; comma = refl; point = refl; kind = λ k. refl; field = λ f. refl }
 
-after_spot-closed : (before : List Item) (start : Option Spot) (here : Spot) (b : ℕ) → Closes b → after_spot before start here b ≡ None
+after_spot_closed : (before : List Item) (start : Option Spot) (here : Spot) (b : ℕ) → Closes b → after_spot before start here b ≡ None
 unfolding after_spot
-after_spot-closed before start here b c = rw (c.comma, c.point) refl
+after_spot_closed before start here b c = rw (c.comma, c.point) refl
 
 -- inside such a primary, the byte leads nowhere
-pub inside-closed : (at : State) (p : ℕ × PlainSelection) → near_at at ≡ Some p → (b : ℕ) → Closes b → within at b ≡ None
+pub inside_closed : (at : State) (p : ℕ × PlainSelection) → near_at at ≡ Some p → (b : ℕ) → Closes b → within at b ≡ None
 unfolding inside in_spot
-inside-closed (After times x) p h b c = refl
-inside-closed (Inside (place.InKinds kinds)) p h b c = ap (placed place.InKinds) (c.kind kinds)
-inside-closed (Inside (place.InFields pattern fields)) p h b c = ap (placed (place.InFields pattern)) (c.field fields)
-inside-closed (Inside (place.InItems before start (spot.Digits marked (n, count)))) p h b c =
-    rw c.digit (after_spot-closed before start (number_spot marked n) b c)
-inside-closed (Inside (place.InItems before start (spot.After here))) p h b c = after_spot-closed before start here b c
-inside-closed (Inside (place.AfterPath path)) p h b c = refl
-inside-closed (Inside (place.AfterBracket pattern whole)) p h b c = refl
-inside-closed (Inside (place.InItems before start spot.Start)) p h b c = absurd cc
-inside-closed (Inside (place.InItems before start spot.AfterColon)) p h b c = absurd cc
-inside-closed (Inside (place.InItems before start (spot.InText text))) p h b c = absurd cc
-inside-closed (Inside (place.InItems before start (spot.AfterDot here))) p h b c = absurd cc
-inside-closed (Inside place.Start) p h b c = absurd cc
-inside-closed (Inside (place.InName name)) p h b c = absurd cc
-inside-closed (Inside place.AfterEquals) p h b c = absurd cc
-inside-closed (Inside (place.InPattern bracketed pattern)) p h b c = absurd cc
-inside-closed (Inside (place.InPath path)) p h b c = absurd cc
-inside-closed (Inside (place.AfterPathPattern pattern whole)) p h b c = absurd cc
+inside_closed (After times x) p h b c = refl
+inside_closed (Inside (place.InKinds kinds)) p h b c = ap (placed place.InKinds) (c.kind kinds)
+inside_closed (Inside (place.InFields pattern fields)) p h b c = ap (placed (place.InFields pattern)) (c.field fields)
+inside_closed (Inside (place.InItems before start (spot.Digits marked (n, count)))) p h b c =
+    rw c.digit (after_spot_closed before start (number_spot marked n) b c)
+inside_closed (Inside (place.InItems before start (spot.After here))) p h b c = after_spot_closed before start here b c
+inside_closed (Inside (place.AfterPath path)) p h b c = refl
+inside_closed (Inside (place.AfterBracket pattern whole)) p h b c = refl
+inside_closed (Inside (place.InItems before start spot.Start)) p h b c = absurd cc
+inside_closed (Inside (place.InItems before start spot.AfterColon)) p h b c = absurd cc
+inside_closed (Inside (place.InItems before start (spot.InText text))) p h b c = absurd cc
+inside_closed (Inside (place.InItems before start (spot.AfterDot here))) p h b c = absurd cc
+inside_closed (Inside place.Start) p h b c = absurd cc
+inside_closed (Inside (place.InName name)) p h b c = absurd cc
+inside_closed (Inside place.AfterEquals) p h b c = absurd cc
+inside_closed (Inside (place.InPattern bracketed pattern)) p h b c = absurd cc
+inside_closed (Inside (place.InPath path)) p h b c = absurd cc
+inside_closed (Inside (place.AfterPathPattern pattern whole)) p h b c = absurd cc
 
 -- nothing nests after it
-pub nesting-closed : (at : State) (p : ℕ × PlainSelection) → near_at at ≡ Some p → (parts : Parts) (frames : List Frame) (b : ℕ)
+pub nesting_closed : (at : State) (p : ℕ × PlainSelection) → near_at at ≡ Some p → (parts : Parts) (frames : List Frame) (b : ℕ)
     → nesting at parts frames b ≡ None
 unfolding nesting
-nesting-closed (After times x) p h parts frames b = refl
-nesting-closed (Inside place.Start) p h parts frames b = absurd cc
-nesting-closed (Inside (place.InName name)) p h parts frames b = absurd cc
-nesting-closed (Inside place.AfterEquals) p h parts frames b = refl
-nesting-closed (Inside (place.InKinds kinds)) p h parts frames b = refl
-nesting-closed (Inside (place.InItems before start at)) p h parts frames b = refl
-nesting-closed (Inside (place.InPattern bracketed pattern)) p h parts frames b = refl
-nesting-closed (Inside (place.InFields pattern fields)) p h parts frames b = refl
-nesting-closed (Inside (place.InPath path)) p h parts frames b = refl
-nesting-closed (Inside (place.AfterPathPattern pattern whole)) p h parts frames b = refl
-nesting-closed (Inside (place.AfterPath path)) p h parts frames b = refl
-nesting-closed (Inside (place.AfterBracket pattern whole)) p h parts frames b = refl
+nesting_closed (After times x) p h parts frames b = refl
+nesting_closed (Inside place.Start) p h parts frames b = absurd cc
+nesting_closed (Inside (place.InName name)) p h parts frames b = absurd cc
+nesting_closed (Inside place.AfterEquals) p h parts frames b = refl
+nesting_closed (Inside (place.InKinds kinds)) p h parts frames b = refl
+nesting_closed (Inside (place.InItems before start at)) p h parts frames b = refl
+nesting_closed (Inside (place.InPattern bracketed pattern)) p h parts frames b = refl
+nesting_closed (Inside (place.InFields pattern fields)) p h parts frames b = refl
+nesting_closed (Inside (place.InPath path)) p h parts frames b = refl
+nesting_closed (Inside (place.AfterPathPattern pattern whole)) p h parts frames b = refl
+nesting_closed (Inside (place.AfterPath path)) p h parts frames b = refl
+nesting_closed (Inside (place.AfterBracket pattern whole)) p h parts frames b = refl
 
 -- so it is judged by what is around the primary
-pub step-closed : (r : Reader) (p : ℕ × PlainSelection) → near_at r.state ≡ Some p → (b : ℕ) → Closes b
+pub step_closed : (r : Reader) (p : ℕ × PlainSelection) → near_at r.state ≡ Some p → (b : ℕ) → Closes b
     → step r b ≡ after_near (Some p) r.parts r.frames b
 unfolding step
-step-closed r p h b c =
-    rw (nesting-closed r.state p h r.parts r.frames b, inside-closed r.state p h b c)
+step_closed r p h b c =
+    rw (nesting_closed r.state p h r.parts r.frames b, inside_closed r.state p h b c)
     (ap (λ q. after_near q r.parts r.frames b) h)

@@ -23,7 +23,7 @@ use Rattle.selection_parser.specs.Reading.{spot_begun, in_spot, in_pattern, in_p
 use Rattle.selection_parser.specs.Reading.{called, State, Parts, Frame, Reader}
 use Rattle.selection_parser.specs.Reading.State.{Inside, After}
 use Rattle.selection_parser.specs.Reading.Frame.{Opened, Negation}
-use Rattle.selection_parser.proofs.Places.{ends_in_backslash-push}
+use Rattle.selection_parser.proofs.Places.{ends_in_backslash_push}
 use Rattle.selection_parser.proofs.HasRead.{inner_at, near_term, not_term, whole_spelled, sign_of, FramesHaveRead, PlaceHasRead, StateHasRead, HasRead}
 use Rattle.selection_parser.proofs.PlaceSteps.{place_has_read, primary_at_spelled}
 use Rattle.selection_parser.proofs.Steps.{called_spelled}
@@ -62,7 +62,7 @@ pattern_ends : (bracketed : Bool) (pattern : Bytes)
     → in_pattern bracketed (pattern ++ 120 ∷ []) 47
     ≡ cond bracketed (Some (place.AfterPathPattern (pattern ++ 120 ∷ []) false)) (Some (place.InFields (pattern ++ 120 ∷ []) no_fields))
 unfolding in_pattern
-pattern_ends bracketed pattern = rw (ends_in_backslash-push pattern 120, pushed_filled pattern 120) refl
+pattern_ends bracketed pattern = rw (ends_in_backslash_push pattern 120, pushed_filled pattern 120) refl
 
 closing_finishes : (pattern : Bytes) (trees : Bool) → Finishes (place.AfterPathPattern pattern trees)
 unfolding inside after_path_pattern

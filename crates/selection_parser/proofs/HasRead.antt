@@ -224,10 +224,10 @@ unwound (Negation ∷ frames) deep parts front back x h k =
 unwound (Opened f outer ∷ frames) deep parts front back x h k =
     record { deep = deep; front = front; back = back; so_far = h; spelled = k; joined = refl }
 
-pub around-outer : (frames : List Frame) → IsOuter (around frames)
-around-outer [] = tt
-around-outer (Negation ∷ frames) = around-outer frames
-around-outer (Opened f parts ∷ frames) = tt
+pub around_outer : (frames : List Frame) → IsOuter (around frames)
+around_outer [] = tt
+around_outer (Negation ∷ frames) = around_outer frames
+around_outer (Opened f parts ∷ frames) = tt
 
 -- the parts of the innermost depth, and that others may take their place
 pub record Innermost (deep : ℕ) (frames : List Frame) (parts : Parts) (text : Bytes) : Type 0 where

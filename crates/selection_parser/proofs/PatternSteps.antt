@@ -39,34 +39,34 @@ all_push p (x ∷ xs) b h k =
 
 -- ---- patterns
 
-pub escaped-append : (x y : Bytes) → escaped (x ++ y) ≡ escaped x ++ escaped y
-escaped-append [] y = refl
-escaped-append (b ∷ bs) y =
+pub escaped_append : (x y : Bytes) → escaped (x ++ y) ≡ escaped x ++ escaped y
+escaped_append [] y = refl
+escaped_append (b ∷ bs) y =
     elim (cases_Bool (b == 47)) [
-      | inl slash ↦ rw slash (ap (λ t. 92 ∷ 47 ∷ t) (escaped-append bs y))
-      | inr other ↦ rw other (ap (λ t. b ∷ t) (escaped-append bs y))
+      | inl slash ↦ rw slash (ap (λ t. 92 ∷ 47 ∷ t) (escaped_append bs y))
+      | inr other ↦ rw other (ap (λ t. b ∷ t) (escaped_append bs y))
     ]
 
-escaped-push : (x : Bytes) (b : ℕ) → (b == 47) ≡ false → escaped (x ++ b ∷ []) ≡ escaped x ++ b ∷ []
-escaped-push x b h = escaped-append x (b ∷ []) ∙ ap (λ c. escaped x ++ cond c (92 ∷ 47 ∷ []) (b ∷ [])) h
+escaped_push : (x : Bytes) (b : ℕ) → (b == 47) ≡ false → escaped (x ++ b ∷ []) ≡ escaped x ++ b ∷ []
+escaped_push x b h = escaped_append x (b ∷ []) ∙ ap (λ c. escaped x ++ cond c (92 ∷ 47 ∷ []) (b ∷ [])) h
 
 pub ends_split : (p : Bytes) → ends_in_backslash p ≡ true → (front : Bytes) × (p ≡ front ++ 92 ∷ [])
 ends_split [] h = absurd cc
 ends_split (b ∷ []) h = ([], ap (λ c. c ∷ []) (eqb-true b 92 h))
 ends_split (b ∷ c ∷ bs) h = let rest = ends_split (c ∷ bs) h in (b ∷ rest.0, ap (λ t. b ∷ t) rest.1)
 
-take-pushed : (xs : Bytes) (b : ℕ) → take (length (xs ++ b ∷ []) - 1) (xs ++ b ∷ []) ≡ xs
-take-pushed xs b = grind (arith, common_steps)
+take_pushed : (xs : Bytes) (b : ℕ) → take (length (xs ++ b ∷ []) - 1) (xs ++ b ∷ []) ≡ xs
+take_pushed xs b = grind (arith, common_steps)
 
 -- a slash after a backslash
 slash_escaped : (p : Bytes) → ends_in_backslash p ≡ true → escaped (take (length p - 1) p ++ 47 ∷ []) ≡ escaped p ++ 47 ∷ []
 slash_escaped p h =
     let split = ends_split p h in
-    let front : take (length p - 1) p ≡ split.0 = ap (λ t. take (length t - 1) t) split.1 ∙ take-pushed split.0 92 in
+    let front : take (length p - 1) p ≡ split.0 = ap (λ t. take (length t - 1) t) split.1 ∙ take_pushed split.0 92 in
     ap (λ t. escaped (t ++ 47 ∷ [])) front
-    ∙ escaped-append split.0 (47 ∷ [])
+    ∙ escaped_append split.0 (47 ∷ [])
     ∙ sym (append_assoc (escaped split.0) (92 ∷ []) (47 ∷ []))
-    ∙ ap (λ t. t ++ 47 ∷ []) (sym (escaped-append split.0 (92 ∷ [])) ∙ ap escaped (sym split.1))
+    ∙ ap (λ t. t ++ 47 ∷ []) (sym (escaped_append split.0 (92 ∷ [])) ∙ ap escaped (sym split.1))
 
 pub pattern_has_read : (deep : ℕ) (bracketed : Bool) (pattern text : Bytes) (b : ℕ) (q : Place) → PlaceHasRead deep (place.InPattern bracketed pattern) text
     → in_pattern bracketed pattern b ≡ Some q → PlaceHasRead deep q (text ++ b ∷ [])
@@ -79,7 +79,7 @@ pattern_has_read deep bracketed pattern text b q h k =
           let is : place.InPattern bracketed (pattern ++ b ∷ []) ≡ q = cc in
           subst (λ z. PlaceHasRead deep z (text ++ b ∷ [])) is
           (ap (λ t. t ++ b ∷ []) h ∙ append_assoc (pattern_sign bracketed) (escaped pattern) (b ∷ [])
-          ∙ ap (λ t. pattern_sign bracketed ++ t) (sym (escaped-push pattern b (not-true (b == 47) other.0))))
+          ∙ ap (λ t. pattern_sign bracketed ++ t) (sym (escaped_push pattern b (not-true (b == 47) other.0))))
       | inr slash ↦ at_slash (is_slash (b == 47) refl slash.0) slash.1
     ]
   where

@@ -27,17 +27,17 @@ use Rattle.selection_parser.proofs.PatternSteps.{chosen, was_placed, adds_push, 
 
 numeral_push : (ds : Bytes) (n b : ℕ) → IsNumeral ds n → is_digit b ≡ true → IsNumeral (ds ++ b ∷ []) (10 * n + (b - 48))
 numeral_push ds n b h k = record {
-  some = (let more = length-push ds b in omega arith);
+  some = (let more = length_push ds b in omega arith);
   all = all_push is_digit ds b h.all k;
   value = value_push 0 ds b ∙ ap (λ v. 10 * v + (b - 48)) h.value;
 }
   where
-    length-push : (xs : Bytes) (c : ℕ) → 1 ≤ length (xs ++ c ∷ [])
-    length-push [] c = omega arith
-    length-push (x ∷ xs) c = omega arith
+    length_push : (xs : Bytes) (c : ℕ) → 1 ≤ length (xs ++ c ∷ [])
+    length_push [] c = omega arith
+    length_push (x ∷ xs) c = omega arith
 
-length-pushed : (xs : Bytes) (c : ℕ) → length (xs ++ c ∷ []) ≡ length xs + 1
-length-pushed xs c = grind (arith, common_steps)
+length_pushed : (xs : Bytes) (c : ℕ) → length (xs ++ c ∷ []) ≡ length xs + 1
+length_pushed xs c = grind (arith, common_steps)
 
 one_digit : (b : ℕ) → is_digit b ≡ true → IsNumeral (b ∷ []) (b - 48)
 one_digit b h = record { some = omega arith; all = all_push is_digit [] b refl h; value = zero-add (b - 48) }
@@ -168,7 +168,7 @@ spot_has_read deep before start (spot.Digits marked (n, count)) text b q h k =
           (items_have_read before start (spot.Digits marked (n, count)) (spot.Digits marked (10 * n + (b - 48), count + 1)) text b h (
             so_far.0 ++ b ∷ [],
             numeral_push so_far.0 n b so_far.1 p.0,
-            length-pushed so_far.0 b ∙ ap (λ c. c + 1) so_far.2,
+            length_pushed so_far.0 b ∙ ap (λ c. c + 1) so_far.2,
             below_19 count p.1,
             ap (λ t. t ++ b ∷ []) so_far.4 ∙ append_assoc (mark_sign marked) so_far.0 (b ∷ []),
           ) tt)

@@ -35,21 +35,21 @@ Leads p text q = (parts : Parts) (frames : List Frame) → run (at p parts frame
 abbrev pub NestsNone : Place → ℕ → Type 0
 NestsNone p b = (parts : Parts) (frames : List Frame) → nesting (Inside p) parts frames b ≡ None
 
-pub step-inside : (p q : Place) (b : ℕ) → NestsNone p b → inside p b ≡ Some q → (parts : Parts) (frames : List Frame)
+pub step_inside : (p q : Place) (b : ℕ) → NestsNone p b → inside p b ≡ Some q → (parts : Parts) (frames : List Frame)
     → step (at p parts frames) b ≡ Goes (at q parts frames)
 unfolding step
-step-inside p q b none h parts frames = rw (none parts frames, h) refl
+step_inside p q b none h parts frames = rw (none parts frames, h) refl
 
 pub leads_on : (p q z : Place) (b : ℕ) (text : Bytes) → NestsNone p b → inside p b ≡ Some q → Leads q text z → Leads p (b ∷ text) z
 leads_on p q z b text none h rest parts frames =
-    run_goes (at p parts frames) (at q parts frames) b text (step-inside p q b none h parts frames) ∙ rest parts frames
+    run_goes (at p parts frames) (at q parts frames) b text (step_inside p q b none h parts frames) ∙ rest parts frames
 
 pub leads_joined : (p q z : Place) (x y : Bytes) → Leads p x q → Leads q y z → Leads p (x ++ y) z
 leads_joined p q z x y h k parts frames =
     run_joined (at p parts frames) (at q parts frames) (at z parts frames) x y (h parts frames) (k parts frames)
 
-pub push-append : (xs ys : Bytes) (b : ℕ) → (xs ++ b ∷ []) ++ ys ≡ xs ++ b ∷ ys
-push-append xs ys b = append_assoc xs (b ∷ []) ys
+pub push_append : (xs ys : Bytes) (b : ℕ) → (xs ++ b ∷ []) ++ ys ≡ xs ++ b ∷ ys
+push_append xs ys b = append_assoc xs (b ∷ []) ys
 
 -- ---- kinds and fields
 
@@ -70,23 +70,23 @@ fields_lead (b ∷ letters) pattern set new h =
 
 -- ---- patterns
 
-pub ends_in_backslash-push : (xs : Bytes) (b : ℕ) → ends_in_backslash (xs ++ b ∷ []) ≡ (b == 92)
-ends_in_backslash-push [] b = refl
-ends_in_backslash-push (x ∷ []) b = refl
-ends_in_backslash-push (x ∷ y ∷ xs) b = ends_in_backslash-push (y ∷ xs) b
+pub ends_in_backslash_push : (xs : Bytes) (b : ℕ) → ends_in_backslash (xs ++ b ∷ []) ≡ (b == 92)
+ends_in_backslash_push [] b = refl
+ends_in_backslash_push (x ∷ []) b = refl
+ends_in_backslash_push (x ∷ y ∷ xs) b = ends_in_backslash_push (y ∷ xs) b
 
-pub take-push : (xs : Bytes) (b : ℕ) → take (length (xs ++ b ∷ []) - 1) (xs ++ b ∷ []) ≡ xs
-take-push xs b = grind (arith, common_steps)
+pub take_push : (xs : Bytes) (b : ℕ) → take (length (xs ++ b ∷ []) - 1) (xs ++ b ∷ []) ≡ xs
+take_push xs b = grind (arith, common_steps)
 
-in_pattern-other : (bracketed : Bool) (so_far : Bytes) (b : ℕ) → (b == 47) ≡ false
+in_pattern_other : (bracketed : Bool) (so_far : Bytes) (b : ℕ) → (b == 47) ≡ false
     → in_pattern bracketed so_far b ≡ Some (place.InPattern bracketed (so_far ++ b ∷ []))
 unfolding in_pattern
-in_pattern-other bracketed so_far b h = rw h refl
+in_pattern_other bracketed so_far b h = rw h refl
 
-in_pattern-slash : (bracketed : Bool) (so_far : Bytes)
+in_pattern_slash : (bracketed : Bool) (so_far : Bytes)
     → in_pattern bracketed (so_far ++ 92 ∷ []) 47 ≡ Some (place.InPattern bracketed (so_far ++ 47 ∷ []))
 unfolding in_pattern
-in_pattern-slash bracketed so_far = rw (ends_in_backslash-push so_far 92, take-push so_far 92) refl
+in_pattern_slash bracketed so_far = rw (ends_in_backslash_push so_far 92, take_push so_far 92) refl
 
 pub pattern_leads : (pattern so_far : Bytes) (bracketed : Bool)
     → Leads (place.InPattern bracketed so_far) (escaped pattern) (place.InPattern bracketed (so_far ++ pattern))
@@ -95,7 +95,7 @@ pattern_leads [] so_far bracketed = λ parts frames. ap (λ p. Some (at (place.I
 pattern_leads (b ∷ bs) so_far bracketed =
     let ih : Leads (place.InPattern bracketed (so_far ++ b ∷ [])) (escaped bs) (place.InPattern bracketed (so_far ++ b ∷ bs)) =
     subst (λ z. Leads (place.InPattern bracketed (so_far ++ b ∷ [])) (escaped bs) (place.InPattern bracketed z))
-    (push-append so_far bs b) (pattern_leads bs (so_far ++ b ∷ []) bracketed) in
+    (push_append so_far bs b) (pattern_leads bs (so_far ++ b ∷ []) bracketed) in
     elim (cases_Bool (b == 47)) [
       | inl slash ↦
           let is : b ≡ 47 = eqb-true b 47 slash in
@@ -103,14 +103,14 @@ pattern_leads (b ∷ bs) so_far bracketed =
           subst (λ c. Leads (place.InPattern bracketed (so_far ++ c ∷ [])) (escaped bs) (place.InPattern bracketed (so_far ++ b ∷ bs))) is ih in
           rw slash
           (leads_on (place.InPattern bracketed so_far) (place.InPattern bracketed (so_far ++ 92 ∷ [])) (place.InPattern bracketed (so_far ++ b ∷ bs))
-          92 (47 ∷ escaped bs) (λ parts frames. refl) (in_pattern-other bracketed so_far 92 refl)
+          92 (47 ∷ escaped bs) (λ parts frames. refl) (in_pattern_other bracketed so_far 92 refl)
           (leads_on (place.InPattern bracketed (so_far ++ 92 ∷ [])) (place.InPattern bracketed (so_far ++ 47 ∷ []))
           (place.InPattern bracketed (so_far ++ b ∷ bs))
-          47 (escaped bs) (λ parts frames. refl) (in_pattern-slash bracketed so_far) from))
+          47 (escaped bs) (λ parts frames. refl) (in_pattern_slash bracketed so_far) from))
       | inr other ↦
           rw other
           (leads_on (place.InPattern bracketed so_far) (place.InPattern bracketed (so_far ++ b ∷ [])) (place.InPattern bracketed (so_far ++ b ∷ bs))
-          b (escaped bs) (λ parts frames. refl) (in_pattern-other bracketed so_far b other) ih)
+          b (escaped bs) (λ parts frames. refl) (in_pattern_other bracketed so_far b other) ih)
     ]
 
 -- ---- paths
@@ -123,7 +123,7 @@ path_leads (b ∷ bs) so_far c h =
     let p = and_parts (not (b == 93)) (list_all (λ d. not (d == 93)) bs) h in
     leads_on (place.InPath (c ∷ so_far)) (place.InPath ((c ∷ so_far) ++ b ∷ [])) (place.InPath ((c ∷ so_far) ++ b ∷ bs)) b bs
     (λ parts frames. refl) (rw (not-true (b == 93) p.0) refl)
-    (subst (λ z. Leads (place.InPath ((c ∷ so_far) ++ b ∷ [])) bs (place.InPath z)) (push-append (c ∷ so_far) bs b)
+    (subst (λ z. Leads (place.InPath ((c ∷ so_far) ++ b ∷ [])) bs (place.InPath z)) (push_append (c ∷ so_far) bs b)
     (path_leads bs (so_far ++ b ∷ []) c p.1))
 
 -- ---- spots
@@ -139,7 +139,7 @@ text_leads (b ∷ bs) so_far before start h =
     (place.InItems before start (spot.InText (so_far ++ b ∷ bs))) b bs
     (λ parts frames. refl) (rw (not-true (b == 62) p.0) refl)
     (subst (λ z. Leads (place.InItems before start (spot.InText (so_far ++ b ∷ []))) bs (place.InItems before start (spot.InText z)))
-    (push-append so_far bs b) (text_leads bs (so_far ++ b ∷ []) before start p.1))
+    (push_append so_far bs b) (text_leads bs (so_far ++ b ∷ []) before start p.1))
 
 in_digits : (before : List Item) (start : Option Spot) (marked : Bool) (n count d : ℕ) → is_digit d ≡ true → count + 1 ≤ 19
     → in_spot before start (spot.Digits marked (n, count)) d

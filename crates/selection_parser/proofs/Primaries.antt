@@ -27,7 +27,7 @@ use Rattle.selection_parser.specs.Reading.Frame.{Opened}
 use Rattle.selection_parser.specs.Reading.Next.{Goes, Stops}
 use Rattle.selection_parser.specs.Reading.{after_term}
 use Rattle.selection_parser.proofs.Runs.{gone, onto, run, run_goes, run_joined, run_push}
-use Rattle.selection_parser.proofs.Closing.{closes-parenthesis, step-closed}
+use Rattle.selection_parser.proofs.Closing.{closes_parenthesis, step_closed}
 use Rattle.selection_parser.proofs.Places.{Leads, leads_on, leads_joined, kinds_lead, fields_lead, pattern_leads, path_leads, items_lead}
 
 -- ---- items, where a primary begins
@@ -193,7 +193,7 @@ parenthesis_closes : (r : Reader) (f : Option Function) (parts : Parts) (frames 
     → step r 41 ≡ Goes (record { state = After 0 (called f x); parts = parts; frames = frames })
 unfolding after_term
 parenthesis_closes r f parts frames x h =
-    step-closed r (h.times, h.last) h.is_near 41 closes-parenthesis
+    step_closed r (h.times, h.last) h.is_near 41 closes_parenthesis
     ∙ ap (λ fs. closed (negated (near h.times h.last) r.frames) r.parts fs) h.is_around
     ∙ ap (λ y. Goes (record { state = After 0 (called f y); parts = parts; frames = frames })) h.value
 

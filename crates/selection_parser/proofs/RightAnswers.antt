@@ -10,7 +10,7 @@ use Rattle.selection_parser.specs.Reading.{after_term, negated, ended, no_parts,
 use Rattle.selection_parser.specs.Reading.{IsRightAnswer}
 use Rattle.selection_parser.specs.Reading.Next.{Goes, Ends, Stops}
 use Rattle.selection_parser.proofs.Runs.{gone, onto, run, run_goes}
-use Rattle.selection_parser.proofs.Closing.{closes-space, closes-tab, step-closed}
+use Rattle.selection_parser.proofs.Closing.{closes_space, closes_tab, step_closed}
 use Rattle.selection_parser.proofs.Primaries.{IsReady}
 use Rattle.selection_parser.proofs.Selections.{spelled_comes}
 use Rattle.selection_parser.proofs.HasRead.{HasRead}
@@ -187,14 +187,14 @@ read_along (b ∷ bs) rest n r q h =
 space_ends : (r : Reader) (x : PlainSelection) → IsReady r [] x → step r 32 ≡ Ends x
 unfolding after_term
 space_ends r x h =
-    step-closed r (h.times, h.last) h.is_near 32 closes-space
+    step_closed r (h.times, h.last) h.is_near 32 closes_space
     ∙ ap (λ fs. ended (negated (near h.times h.last) r.frames) r.parts fs) h.is_around
     ∙ ap Ends h.value
 
 tab_ends : (r : Reader) (x : PlainSelection) → IsReady r [] x → step r 9 ≡ Ends x
 unfolding after_term
 tab_ends r x h =
-    step-closed r (h.times, h.last) h.is_near 9 closes-tab
+    step_closed r (h.times, h.last) h.is_near 9 closes_tab
     ∙ ap (λ fs. ended (negated (near h.times h.last) r.frames) r.parts fs) h.is_around
     ∙ ap Ends h.value
 
@@ -213,23 +213,23 @@ read_end : (rest : Bytes) (n : ℕ) (r : Reader) (x : PlainSelection) → IsRead
 read_end [] n r x h k = ap (λ s. onward n s (λ next. Err (n + 1))) (space_ends r x h)
 read_end (b ∷ bs) n r x h k = ap (λ s. onward n s (λ next. read_from (n + 1) next bs)) (blank_ends r x b h k)
 
-pub take-drop : (n : ℕ) (xs : Bytes) → take n xs ++ drop n xs ≡ xs
-take-drop zero xs = refl
-take-drop (suc n) [] = refl
-take-drop (suc n) (x ∷ xs) = ap (λ t. x ∷ t) (take-drop n xs)
+pub take_drop : (n : ℕ) (xs : Bytes) → take n xs ++ drop n xs ≡ xs
+take_drop zero xs = refl
+take_drop (suc n) [] = refl
+take_drop (suc n) (x ∷ xs) = ap (λ t. x ∷ t) (take_drop n xs)
 
-length-taken : (n : ℕ) (xs : Bytes) → n ≤ length xs → length (take n xs) ≡ n
-length-taken zero xs h = refl
-length-taken (suc n) [] h = absurd (omega arith)
-length-taken (suc n) (x ∷ xs) h = ap suc (length-taken n xs (omega arith))
+length_taken : (n : ℕ) (xs : Bytes) → n ≤ length xs → length (take n xs) ≡ n
+length_taken zero xs h = refl
+length_taken (suc n) [] h = absurd (omega arith)
+length_taken (suc n) (x ∷ xs) h = ap suc (length_taken n xs (omega arith))
 
 -- a selection at the front is read
 read_there : (text : Bytes) (n : ℕ) (x : PlainSelection) → IsSelection text n x → selection_at text ≡ Ok (x, n)
 unfolding selection_at
 read_there text n x h =
     let comes = spelled_comes (take n text) x h.spelled in
-    let count : 0 + length (take n text) ≡ n = zero-add (length (take n text)) ∙ length-taken n text h.within in
-    ap (read_from 0 start) (sym (take-drop n text))
+    let count : 0 + length (take n text) ≡ n = zero-add (length (take n text)) ∙ length_taken n text h.within in
+    ap (read_from 0 start) (sym (take_drop n text))
     ∙ read_along (take n text) (drop n text) 0 start comes.0 comes.2
     ∙ ap (λ m. read_from m comes.0 (drop n text)) count
     ∙ read_end (drop n text) n comes.0 x comes.1 h.ends

@@ -11,7 +11,7 @@ use Rattle.selection_parser.specs.Reading.State.{After}
 use Rattle.selection_parser.specs.Reading.Frame.{Opened, Negation}
 use Rattle.selection_parser.specs.Reading.Next.{Goes}
 use Rattle.selection_parser.proofs.Runs.{run, run_goes, run_append, run_joined}
-use Rattle.selection_parser.proofs.Closing.{closes-question, closes-and, closes-or, step-closed}
+use Rattle.selection_parser.proofs.Closing.{closes_question, closes_and, closes_or, step_closed}
 use Rattle.selection_parser.proofs.Primaries.{IsReady, Reads, primary_comes}
 
 -- ---- question marks
@@ -32,7 +32,7 @@ TermComes text x parts frames = (r : Reader) × IsAfterTerm r x parts frames × 
 question : (s : State) (times : ℕ) (y : PlainSelection) (parts : Parts) (frames : List Frame) → near_at s ≡ Some (times, y)
     → step (record { state = s; parts = parts; frames = frames }) 63
     ≡ Goes (record { state = After (times + 1) y; parts = parts; frames = frames })
-question s times y parts frames h = step-closed (record { state = s; parts = parts; frames = frames }) (times, y) h 63 closes-question
+question s times y parts frames h = step_closed (record { state = s; parts = parts; frames = frames }) (times, y) h 63 closes_question
 
 -- so many question marks, one after another
 questions : (more times : ℕ) (s : State) (y : PlainSelection) (parts : Parts) (frames : List Frame) → near_at s ≡ Some (times, y)
@@ -80,15 +80,15 @@ IsOuter [] = Unit {0}
 IsOuter (Negation ∷ frames) = ⊥
 IsOuter (Opened f parts ∷ frames) = Unit {0}
 
-outer-negated : (frames : List Frame) (x : PlainSelection) → IsOuter frames → negated x frames ≡ x
-outer-negated [] x h = refl
-outer-negated (Negation ∷ frames) x h = absurd h
-outer-negated (Opened f parts ∷ frames) x h = refl
+outer_negated : (frames : List Frame) (x : PlainSelection) → IsOuter frames → negated x frames ≡ x
+outer_negated [] x h = refl
+outer_negated (Negation ∷ frames) x h = absurd h
+outer_negated (Opened f parts ∷ frames) x h = refl
 
-outer-around : (frames : List Frame) → IsOuter frames → around frames ≡ frames
-outer-around [] h = refl
-outer-around (Negation ∷ frames) h = absurd h
-outer-around (Opened f parts ∷ frames) h = refl
+outer_around : (frames : List Frame) → IsOuter frames → around frames ≡ frames
+outer_around [] h = refl
+outer_around (Negation ∷ frames) h = absurd h
+outer_around (Opened f parts ∷ frames) h = refl
 
 -- The reader is after a term of a part: these parts are done, and these terms make the last one.
 pub record IsInPart (r : Reader) (unions terms : List PlainSelection) (frames : List Frame) : Type 0 where
@@ -107,23 +107,23 @@ and_goes : (r : Reader) (x : PlainSelection) (parts : Parts) (frames : List Fram
     → step r 38 ≡ Goes (before_term (with_term x parts) frames)
 unfolding after_term
 and_goes r x parts frames outer h =
-    step-closed r (h.times, h.last) h.is_near 38 closes-and
-    ∙ ap (λ y. Goes (before_term (with_term y r.parts) (around r.frames))) (h.value ∙ outer-negated frames x outer)
+    step_closed r (h.times, h.last) h.is_near 38 closes_and
+    ∙ ap (λ y. Goes (before_term (with_term y r.parts) (around r.frames))) (h.value ∙ outer_negated frames x outer)
     ∙ ap (λ p. Goes (before_term (with_term x p) (around r.frames))) h.same_parts
-    ∙ ap (λ fs. Goes (before_term (with_term x parts) fs)) (h.is_around ∙ outer-around frames outer)
+    ∙ ap (λ fs. Goes (before_term (with_term x parts) fs)) (h.is_around ∙ outer_around frames outer)
 
 or_goes : (r : Reader) (unions terms : List PlainSelection) (frames : List Frame) → IsInPart r unions terms frames
     → step r 124 ≡ Goes (before_term (record { unions = unions ++ both_of terms ∷ []; boths = [] }) frames)
 unfolding after_term
 or_goes r unions terms frames h =
-    step-closed r (h.times, h.last) h.is_near 124 closes-or
+    step_closed r (h.times, h.last) h.is_near 124 closes_or
     ∙ ap (λ us. Goes (before_term (record { unions = us ++ last_part (negated (near h.times h.last) r.frames) r.parts ∷ []; boths = [] })
     (around r.frames))) h.same_unions
     ∙ ap (λ ts. Goes (before_term (record { unions = unions ++ both_of ts ∷ []; boths = [] }) (around r.frames))) h.same_terms
     ∙ ap (λ fs. Goes (before_term (record { unions = unions ++ both_of terms ∷ []; boths = [] }) fs)) h.is_around
 
-push-list : (xs ys : List PlainSelection) (x : PlainSelection) → (xs ++ x ∷ []) ++ ys ≡ xs ++ x ∷ ys
-push-list xs ys x = append_assoc xs (x ∷ []) ys
+push_list : (xs ys : List PlainSelection) (x : PlainSelection) → (xs ++ x ∷ []) ++ ys ≡ xs ++ x ∷ ys
+push_list xs ys x = append_assoc xs (x ∷ []) ys
 
 terms_come : (Term : Bytes → PlainSelection → Type 0) (frames : List Frame) → IsOuter frames → ReadsTerms Term frames
     → (xs : List PlainSelection) (x : PlainSelection) (text : Bytes) (parts : Parts) → SpellsFrom 38 Term x xs text
@@ -138,8 +138,8 @@ terms_come Term frames outer reads [] x text parts h =
         is_near = b.is_near;
         same_unions = ap (λ p. p.unions) b.same_parts;
         same_terms = ap (λ p. p.boths ++ negated (near b.times b.last) one.0.frames ∷ []) b.same_parts
-            ∙ ap (λ y. parts.boths ++ y ∷ []) (b.value ∙ outer-negated frames x outer);
-        is_around = b.is_around ∙ outer-around frames outer;
+            ∙ ap (λ y. parts.boths ++ y ∷ []) (b.value ∙ outer_negated frames x outer);
+        is_around = b.is_around ∙ outer_around frames outer;
       },
       one.2,
     )
@@ -147,7 +147,7 @@ terms_come Term frames outer reads (y ∷ ys) x text parts h =
     let one = reads h.0 x parts h.2 in
     let rest = terms_come Term frames outer reads ys y h.1 (with_term x parts) h.3 in (
       rest.0,
-      subst (λ ts. IsInPart rest.0 parts.unions ts frames) (push-list parts.boths (y ∷ ys) x) rest.1,
+      subst (λ ts. IsInPart rest.0 parts.unions ts frames) (push_list parts.boths (y ∷ ys) x) rest.1,
       ap (run (before_term parts frames)) h.4
           ∙ run_append (before_term parts frames) one.0 h.0 (38 ∷ h.1) one.2
           ∙ run_goes one.0 (before_term (with_term x parts) frames) 38 h.1 (and_goes one.0 x parts frames outer one.1)
@@ -186,7 +186,7 @@ boths_come Term frames outer reads (y ∷ ys) x text unions h =
     let rest = boths_come Term frames outer reads ys y h.1 (unions ++ x ∷ []) h.3 in
     let start = before_term (record { unions = unions; boths = [] }) frames in (
       rest.0,
-      subst (λ us. IsReady rest.0 frames (union_of us)) (push-list unions (y ∷ ys) x) rest.1,
+      subst (λ us. IsReady rest.0 frames (union_of us)) (push_list unions (y ∷ ys) x) rest.1,
       ap (run start) h.4
           ∙ run_append start one.0 h.0 (124 ∷ h.1) one.4
           ∙ run_goes one.0 (before_term (record { unions = unions ++ x ∷ []; boths = [] }) frames) 124 h.1

@@ -15,7 +15,7 @@ use Rattle.selection_parser.specs.Reading.State.{Inside, After}
 use Rattle.selection_parser.specs.Reading.Frame.{Opened, Negation}
 use Rattle.selection_parser.specs.Reading.Next.{Goes, Ends, Stops}
 use Rattle.selection_parser.proofs.HasRead.{inner_at, near_term, whole_spelled, with_term_has_read, with_part_has_read, sign_of, FramesHaveRead, Unwound}
-use Rattle.selection_parser.proofs.HasRead.{unwound, around-outer, innermost, StateHasRead, HasRead}
+use Rattle.selection_parser.proofs.HasRead.{unwound, around_outer, innermost, StateHasRead, HasRead}
 use Rattle.selection_parser.proofs.PatternSteps.{chosen}
 use Rattle.selection_parser.proofs.PlaceSteps.{place_has_read, primary_at_spelled}
 use Rattle.selection_parser.proofs.NestingSteps.{nested, nesting_never_ends}
@@ -47,9 +47,9 @@ term_unwound r text p h k =
     (unwound r.frames h.deep r.parts h.front h.back (near p.0 p.1) h.frames
     (near_term h.deep h.back (near p.0 p.1) (n.0, p.0, p.1, n.1, n.2, refl)))
 
-replicate-push : (times b : ℕ) → replicate times b ++ b ∷ [] ≡ replicate (times + 1) b
-replicate-push zero b = refl
-replicate-push (suc times) b = let same : suc times + 1 ≡ suc (times + 1) = omega arith in ap (λ t. b ∷ t) (replicate-push times b)
+replicate_push : (times b : ℕ) → replicate times b ++ b ∷ [] ≡ replicate (times + 1) b
+replicate_push zero b = refl
+replicate_push (suc times) b = let same : suc times + 1 ≡ suc (times + 1) = omega arith in ap (λ t. b ∷ t) (replicate_push times b)
     ∙ sym (ap (λ n. replicate n b) same)
 
 question_has_read : (r : Reader) (text : Bytes) (p : ℕ × PlainSelection) → HasRead r text → near_at r.state ≡ Some p
@@ -61,7 +61,7 @@ question_has_read r text p h k =
       front = h.front;
       back = h.back ++ 63 ∷ [];
       frames = h.frames;
-      state = (n.0, n.1, ap (λ t. t ++ 63 ∷ []) n.2 ∙ append_assoc n.0 (replicate p.0 63) (63 ∷ []) ∙ ap (λ t. n.0 ++ t) (replicate-push p.0 63));
+      state = (n.0, n.1, ap (λ t. t ++ 63 ∷ []) n.2 ∙ append_assoc n.0 (replicate p.0 63) (63 ∷ []) ∙ ap (λ t. n.0 ++ t) (replicate_push p.0 63));
       joined = ap (λ t. t ++ 63 ∷ []) h.joined ∙ append_assoc h.front h.back (63 ∷ []);
     }
 
@@ -73,7 +73,7 @@ before_term_has_read frames deep parts text h = record { deep = deep; front = te
 and_has_read : (frames : List Frame) (parts : Parts) (text : Bytes) (x : PlainSelection) (u : Unwound frames parts text x)
     → HasRead (before_term (with_term (negated x frames) parts) (around frames)) (text ++ 38 ∷ [])
 and_has_read frames parts text x u =
-    let i = innermost (around frames) u.deep parts u.front (around-outer frames) u.so_far in
+    let i = innermost (around frames) u.deep parts u.front (around_outer frames) u.so_far in
     before_term_has_read (around frames) u.deep (with_term (negated x frames) parts) (text ++ 38 ∷ [])
     (subst (FramesHaveRead u.deep (around frames) (with_term (negated x frames) parts))
     (sym (ap (λ t. t ++ 38 ∷ []) (u.joined ∙ ap (λ t. t ++ u.back) i.joined) ∙ simp append_assoc))
@@ -83,7 +83,7 @@ and_has_read frames parts text x u =
 or_has_read : (frames : List Frame) (parts : Parts) (text : Bytes) (x : PlainSelection) (u : Unwound frames parts text x)
     → HasRead (before_term (with_part (negated x frames) parts) (around frames)) (text ++ 124 ∷ [])
 or_has_read frames parts text x u =
-    let i = innermost (around frames) u.deep parts u.front (around-outer frames) u.so_far in
+    let i = innermost (around frames) u.deep parts u.front (around_outer frames) u.so_far in
     before_term_has_read (around frames) u.deep (with_part (negated x frames) parts) (text ++ 124 ∷ [])
     (subst (FramesHaveRead u.deep (around frames) (with_part (negated x frames) parts))
     (sym (ap (λ t. t ++ 124 ∷ []) (u.joined ∙ ap (λ t. t ++ u.back) i.joined) ∙ simp append_assoc))

@@ -18,7 +18,7 @@ use Rattle.selection_parser.specs.Plain.{PlainSelection, in_order, union_of, bot
 use Rattle.selection_parser.specs.Spelling.{SpellsFrom, SpellsEach, SpellsSpot, SpellsItem, SpellsPrimary, SpellsNear, SpellsBoth, SpellsUnion, SpellsTerm}
 use Rattle.selection_parser.specs.Spelling.{Nothing, escaped, whole_mark, name_of, is_blank, ends_here, IsSelection}
 use Rattle.selection_parser.specs.Spelling.SpellsPrimary.{group, call, kinds, search, at_path, at_pattern, items}
-use Rattle.selection_parser.proofs.RightAnswers.{take-drop}
+use Rattle.selection_parser.proofs.RightAnswers.{take_drop}
 use Rattle.selection_parser.specs.Texts.{is_text_spot, is_text_item, has_utf8_texts, have_utf8_texts}
 
 -- ---- cuts at an ASCII byte
@@ -201,7 +201,7 @@ front_text front (b ∷ bs) h u = before_ascii front bs b (blank_small b h) u
 pub selection_texts : (text : Bytes) (n : ℕ) (x : PlainSelection) → IsSelection text n x → IsUtf8 text → has_utf8_texts x ≡ true
 selection_texts text n x h u =
     union_spelled (SpellsTerm MAX_NESTING) (term_texts MAX_NESTING) (take n text) x h.spelled
-    (front_text (take n text) (drop n text) h.ends (subst IsUtf8 (sym (take-drop n text)) u))
+    (front_text (take n text) (drop n text) h.ends (subst IsUtf8 (sym (take_drop n text)) u))
 
 -- after such a selection the text may be cut
 pub cut_there : (text : Bytes) (n : ℕ) (x : PlainSelection) → IsSelection text n x → IsCharBoundary text n

@@ -14,7 +14,7 @@ use Rattle.plain_model.specs.Names.{is_name}
 use Rattle.plain_model.specs.Trees.{TreeOf, has, put}
 use Rattle.plain_model.specs.Soundness.{AreSoundAfter, IsCommitOf, IsFormedEvent, IsFormedSigned, IsSoundEvent, RefersBack, has_id, is_passed_line}
 use Rattle.plain_model.specs.Streams.{is_marked}
-use Rattle.history_laws.proofs.Ids.{has_id-append, has_id_still, has_own, is_marked-append}
+use Rattle.history_laws.proofs.Ids.{has_id_append, has_id_still, has_own, is_marked_append}
 use Rattle.std.proofs.Math.Bool.{or-false}
 use Rattle.shown_laws.specs.AsWritten.{reset_from}
 use Rattle.shown_laws.proofs.Tips.{without_branch}
@@ -132,17 +132,17 @@ record AreAlike (old new : List PlainEvent) : Type 0 where
 
 alike_more : (old new : List PlainEvent) (e : PlainEvent) → AreAlike old new → AreAlike (old ++ e ∷ []) (new ++ e ∷ [])
 alike_more old new e a = record {
-  blobs = λ b. has_id-append old (e ∷ []) (any.Blob b) ∙ ap (λ t. t || has_id (e ∷ []) (any.Blob b)) (a.blobs b) ∙ sym (has_id-append new (e ∷ []) (any.Blob b));
-  commits = λ c. has_id-append old (e ∷ []) (any.Commit c) ∙ ap (λ t. t || has_id (e ∷ []) (any.Commit c)) (a.commits c) ∙ sym (has_id-append new (e ∷ []) (any.Commit c));
-  marks = λ m. is_marked-append old (e ∷ []) m ∙ ap (λ t. t || is_marked (e ∷ []) m) (a.marks m) ∙ sym (is_marked-append new (e ∷ []) m);
+  blobs = λ b. has_id_append old (e ∷ []) (any.Blob b) ∙ ap (λ t. t || has_id (e ∷ []) (any.Blob b)) (a.blobs b) ∙ sym (has_id_append new (e ∷ []) (any.Blob b));
+  commits = λ c. has_id_append old (e ∷ []) (any.Commit c) ∙ ap (λ t. t || has_id (e ∷ []) (any.Commit c)) (a.commits c) ∙ sym (has_id_append new (e ∷ []) (any.Commit c));
+  marks = λ m. is_marked_append old (e ∷ []) m ∙ ap (λ t. t || is_marked (e ∷ []) m) (a.marks m) ∙ sym (is_marked_append new (e ∷ []) m);
 }
 
 -- a reset more
 alike_reset : (old new : List PlainEvent) (branch : List ℕ) → AreAlike old new → AreAlike old (new ++ Reset 0 branch None ∷ [])
 alike_reset old new branch a = record {
-  blobs = λ b. a.blobs b ∙ sym (has_id-append new (Reset 0 branch None ∷ []) (any.Blob b) ∙ or-false (has_id new (any.Blob b)));
-  commits = λ c. a.commits c ∙ sym (has_id-append new (Reset 0 branch None ∷ []) (any.Commit c) ∙ or-false (has_id new (any.Commit c)));
-  marks = λ m. a.marks m ∙ sym (is_marked-append new (Reset 0 branch None ∷ []) m ∙ or-false (is_marked new m));
+  blobs = λ b. a.blobs b ∙ sym (has_id_append new (Reset 0 branch None ∷ []) (any.Blob b) ∙ or-false (has_id new (any.Blob b)));
+  commits = λ c. a.commits c ∙ sym (has_id_append new (Reset 0 branch None ∷ []) (any.Commit c) ∙ or-false (has_id new (any.Commit c)));
+  marks = λ m. a.marks m ∙ sym (is_marked_append new (Reset 0 branch None ∷ []) m ∙ or-false (is_marked new m));
 }
 
 module _ (old new : List PlainEvent) (a : AreAlike old new) where

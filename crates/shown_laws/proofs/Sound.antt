@@ -17,7 +17,7 @@ use Rattle.plain_model.specs.Snapshots.{refs}
 use Rattle.plain_model.specs.Soundness.{AreSoundAfter, IsCommitOf, IsFormedEvent, IsFormedOp, IsSoundEvent, RefersBack, are_distinct, has_id}
 use Rattle.plain_model.specs.Trees.{TreeOf}
 use Rattle.round_trip_laws.specs.AsRead.{AreRootedAfter, IsRooted}
-use Rattle.history_laws.proofs.Ids.{has_id_step, same_id-refl, same_id-comm}
+use Rattle.history_laws.proofs.Ids.{has_id_step, same_id_refl, same_id_comm}
 use Rattle.history_laws.proofs.Commits.{refs_append}
 use Rattle.round_trip_laws.proofs.PlacedIds.{id_below}
 use Rattle.shown_laws.specs.AsWritten.{place, renamed, renamed_from, renamed_op}
@@ -36,10 +36,10 @@ one_more earlier e k is = let many = length-append earlier (e ∷ []) in omega a
 
 -- an event whose id is nowhere before it has its place
 place_own : (earlier events : List PlainEvent) (e : PlainEvent) → has_id earlier (id_of e) ≡ false → place_of (id_of e) (earlier ++ e ∷ events) ≡ Some (length earlier)
-place_own [] events e h = cond-true (same_id (id_of e) (id_of e)) (Some 0) (option_map suc (place_of (id_of e) events)) (same_id-refl (id_of e))
+place_own [] events e h = cond-true (same_id (id_of e) (id_of e)) (Some 0) (option_map suc (place_of (id_of e) events)) (same_id_refl (id_of e))
 place_own (x ∷ earlier) events e h =
     let parts = or_parts (same_id (id_of x) (id_of e)) (has_id earlier (id_of e)) (sym (has_id_step x earlier (id_of e)) ∙ h) in
-    cond-false (same_id (id_of e) (id_of x)) (Some 0) (option_map suc (place_of (id_of e) (earlier ++ e ∷ events))) (same_id-comm (id_of e) (id_of x) ∙ parts.0)
+    cond-false (same_id (id_of e) (id_of x)) (Some 0) (option_map suc (place_of (id_of e) (earlier ++ e ∷ events))) (same_id_comm (id_of e) (id_of x) ∙ parts.0)
     ∙ ap (option_map suc) (place_own earlier events e parts.1)
 
 place_is : (earlier events : List PlainEvent) (e : PlainEvent) (k : ℕ) → k ≡ length earlier + 1 → has_id earlier (id_of e) ≡ false → place (earlier ++ e ∷ events) (id_of e) ≡ k

@@ -15,9 +15,9 @@ use Rattle.plain_model.specs.Lookups.{AreIdsBelow, find_event, id_of, is_listed}
 use Rattle.plain_model.specs.Soundness.{IsSound, has_id}
 use Rattle.plain_model.specs.Streams.{is_marked}
 use Rattle.history_laws.specs.FirstParents.{ops_along}
-use Rattle.history_laws.proofs.Ids.{each_found, has_id-append, is_marked-append}
+use Rattle.history_laws.proofs.Ids.{each_found, has_id_append, is_marked_append}
 use Rattle.history_laws.proofs.Lists.{map_same}
-use Rattle.history_laws.proofs.SoundOnce.{has_id-find, sound-once}
+use Rattle.history_laws.proofs.SoundOnce.{has_id_find, sound_once}
 use Rattle.edit_laws.specs.Blobs.{HasBytesOf}
 use Rattle.edit_laws.specs.Checking.{tree_check}
 use Rattle.edit_laws.specs.Keeping.{AddsNothing, IsNoBlob, KeepsTrees}
@@ -107,8 +107,8 @@ module _ (set : List AnyId) where
     adds_nothing : AddsNothing events new
     adds_nothing = record {
       events = let fewer = same_no_more one (λ e. refl) in let before = counted events in let after = counted new in omega arith;
-      ids = λ id there. none_new (λ l. has_id l id) (λ xs ys. has_id-append xs ys id) refl events new (same_no_more (of_id id) (λ e. ap one_if (one_same set e id))) there;
-      marks = λ m there. none_new (λ l. is_marked l m) (λ xs ys. is_marked-append xs ys m) refl events new (same_no_more (of_mark m) (λ e. ap one_if (same_marks m e))) there;
+      ids = λ id there. none_new (λ l. has_id l id) (λ xs ys. has_id_append xs ys id) refl events new (same_no_more (of_id id) (λ e. ap one_if (one_same set e id))) there;
+      marks = λ m there. none_new (λ l. is_marked l m) (λ xs ys. is_marked_append xs ys m) refl events new (same_no_more (of_mark m) (λ e. ap one_if (same_marks m e))) there;
       aliases =
           let fewer = same_no_more own_aliases same_aliases in
           let before = aliases_counted events in
@@ -149,7 +149,7 @@ module _ (set : List AnyId) where
       one_of_all =
           all_filter (IsOneOf set events) kept (map simple events)
           (all_simple set (λ e. find_event (id_of e) events ≡ Some e) (IsOneOf set events)
-          (λ e f. (e, ap (λ id. find_event id events) (same_id_of set e) ∙ f, refl)) events (each_found events (sound-once events h).ids))
+          (λ e f. (e, ap (λ id. find_event id events) (same_id_of set e) ∙ f, refl)) events (each_found events (sound_once events h).ids))
 
     -- ---- once more
 
@@ -191,7 +191,7 @@ module _ (set : List AnyId) where
     result_adds = of_it (AddsNothing events) (adds_nothing events)
 
     pub result_below : (next : ℕ) → AreIdsBelow next events → AreIdsBelow next result
-    result_below next below id there = below id (sym (has_id-find events id) ∙ result_adds.ids id (has_id-find result id ∙ there))
+    result_below next below id there = below id (sym (has_id_find events id) ∙ result_adds.ids id (has_id_find result id ∙ there))
 
     pub result_ids : (id : AnyId) → IsNoBlob id → has_id result id ≡ has_id events id
     result_ids id other = of_it (λ l. has_id l id ≡ has_id events id) (swept_others events (map simple events) id other ∙ ids_same set events id)

@@ -18,7 +18,7 @@ use Rattle.plain_model.specs.Histories.{IsLinkedPast, Node, Past, begun, folded,
 use Rattle.plain_model.specs.Lookups.{id_of, is_listed, op_blobs, referents_of, same_id}
 use Rattle.plain_model.specs.Soundness.{IsCommitOf, IsFormedEvent, IsFormedOp, IsSound, has_id}
 use Rattle.plain_model.specs.Trees.{Refusal, Tree, apply_all}
-use Rattle.history_laws.proofs.Ids.{has_id-append}
+use Rattle.history_laws.proofs.Ids.{has_id_append}
 use Rattle.history_laws.proofs.Lists.{all_imply, all_join}
 use Rattle.history_laws.proofs.TreeMaps.{IsOrdered}
 use Rattle.ancestry_laws.proofs.Pasts.{all_reverse, known_past, linked_past}
@@ -67,9 +67,9 @@ module _ (set : List AnyId) where
   pub ids_same : (es : List PlainEvent) (id : AnyId) → has_id (map simple es) id ≡ has_id es id
   ids_same [] id = refl
   ids_same (e ∷ es) id =
-      has_id-append (simple e ∷ []) (map simple es) id
+      has_id_append (simple e ∷ []) (map simple es) id
       ∙ (λ i. one_same e id i || ids_same es id i)
-      ∙ sym (has_id-append (e ∷ []) es id)
+      ∙ sym (has_id_append (e ∷ []) es id)
 
   lawful : (e : PlainEvent) → IsLawful e → IsLawful (simple e)
   lawful (Commit id mark branch author committer encoding comment parents ops aliases) l = (l.0, l.1, l.2, l.3, l.4, either_all IsLawfulOp (is_listed (any.Commit id) set) ops l.5, l.6)

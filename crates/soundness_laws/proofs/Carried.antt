@@ -10,7 +10,7 @@ use Rattle.line_automaton.specs.Machine.Next.{More, Block, Until, Over}
 use Rattle.line_automaton.specs.Machine.Mode.{InLine, InBlock, After, InDelimited, Ended}
 use Rattle.line_automaton.specs.Machine.Machine.{At, Stopped}
 use Rattle.line_automaton.specs.Machine.Outcome.{Reads, Misses}
-use Rattle.line_automaton.proofs.Completion.{has_no_lf-push}
+use Rattle.line_automaton.proofs.Completion.{has_no_lf_push}
 
 -- What holds of a state, by what follows the line.
 abbrev pub IsAfter : {State : Type 0} → (IsReady IsPending IsLast : State → Type 0) → Next → State → Type 0
@@ -44,7 +44,7 @@ module _ {State Why : Type 0} (a : Automaton State Why) (IsReady IsPending IsLas
     where
       go : (u : Bool) → is_lf c ≡ u → Keeps (moved a k (number_past k c) (cond u (answered a k text (a.step true s text)) (Ok (InLine (text ++ c ∷ []), s))))
       go true e = keeps_answer k (number_past k c) text s (a.step true s text) h.0 h.1 refl
-      go false e = (h.0, has_no_lf-push text c h.1 e)
+      go false e = (h.0, has_no_lf_push text c h.1 e)
   keeps_byte k (InBlock from zero bytes) s c h = arrived s (bytes ++ c ∷ []) h
   keeps_byte k (InBlock from (suc l) bytes) s c h = h
   keeps_byte k (After inside) s c h = go (is_lf c) refl

@@ -43,12 +43,12 @@ use Rattle.soundness_laws.proofs.StreamKept.{known_so_far, not_spent}
 
 -- ---- lists of events
 
-ops-more : (events : List PlainEvent) (e : PlainEvent) → ops_in (with_event events e) ≡ ops_in events + ops_in_event e
-ops-more [] e = omega arith
-ops-more (x ∷ events) e = let more = ops-more events e in omega arith
+ops_more : (events : List PlainEvent) (e : PlainEvent) → ops_in (with_event events e) ≡ ops_in events + ops_in_event e
+ops_more [] e = omega arith
+ops_more (x ∷ events) e = let more = ops_more events e in omega arith
 
-length-more : (events : List PlainEvent) (e : PlainEvent) → length (with_event events e) ≡ length events + 1
-length-more events e = length-append events (e ∷ [])
+length_more : (events : List PlainEvent) (e : PlainEvent) → length (with_event events e) ≡ length events + 1
+length_more events e = length-append events (e ∷ [])
 
 -- so many events, operations and aliases are within the limits
 pub record AreWithin (events : List PlainEvent) (aliases : List (ℕ × ℕ)) : Type 0 where
@@ -70,7 +70,7 @@ closed_commit_count events c None = (omega arith, omega arith)
 closed_commit_count events c (Some who) = go (plain.Commit _ c.mark c.branch _ who c.encoding c.comment c.parents c.ops []) refl
   where
     go : (e : PlainEvent) → ops_in_event e ≡ length c.ops → (length (with_event events e) ≤ length events + 1) × (ops_in (with_event events e) ≤ ops_in events + length c.ops)
-    go e is = let more = length-more events e in let ops = ops-more events e in (omega arith, omega arith)
+    go e is = let more = length_more events e in let ops = ops_more events e in (omega arith, omega arith)
 
 closed_count : (events : List PlainEvent) (o : Open) (aliases : List (ℕ × ℕ)) → (length (closed (record { events = events; current = o; aliases = aliases })) ≤ length events + open_count o)
     × (ops_in (closed (record { events = events; current = o; aliases = aliases })) ≤ ops_in events + open_ops o)
@@ -79,8 +79,8 @@ closed_count events (ABlob mark) aliases = (omega arith, omega arith)
 closed_count events (ACommit c) aliases = closed_commit_count events c c.committer
 closed_count events (ATag name target tagger mark) aliases = (omega arith, omega arith)
 closed_count events (AReset branch target) aliases = (
-  let more = length-more events (plain.Reset (length events + 1) branch target) in omega arith,
-  let more = ops-more events (plain.Reset (length events + 1) branch target) in omega arith,
+  let more = length_more events (plain.Reset (length events + 1) branch target) in omega arith,
+  let more = ops_more events (plain.Reset (length events + 1) branch target) in omega arith,
 )
 closed_count events (AnAlias mark) aliases = (omega arith, omega arith)
 
@@ -239,7 +239,7 @@ passed_within more k line h limit =
     let before = closed_within more k h in
     let ops = before.few_ops in
     let aliases = before.few_aliases in
-    let same = ops-more (closed k) (plain.Pass (length (closed k) + 1) line) in
+    let same = ops_more (closed k) (plain.Pass (length (closed k) + 1) line) in
     record { few = omega arith; few_ops = omega arith; few_aliases = omega arith }
 
 module _ (line : Bytes) where
@@ -507,19 +507,19 @@ data_counts : (inline : Bool) (events : List PlainEvent) (o : Open) (aliases : L
     × (known_aliases (with_data inline bytes (record { events = events; current = o; aliases = aliases })) ≡ length aliases + open_aliases o)
 data_counts inline events Nothing aliases bytes = (omega arith, refl, refl)
 data_counts inline events (ABlob mark) aliases bytes = (
-  let more = length-more events (plain.Blob (length events + 1) mark bytes) in omega arith,
-  let more = ops-more events (plain.Blob (length events + 1) mark bytes) in omega arith,
+  let more = length_more events (plain.Blob (length events + 1) mark bytes) in omega arith,
+  let more = ops_more events (plain.Blob (length events + 1) mark bytes) in omega arith,
   refl,
 )
 data_counts true events (ACommit c) aliases bytes = (
-  let more = length-more events (plain.Blob (length events + 1) 0 bytes) in omega arith,
-  let more = ops-more events (plain.Blob (length events + 1) 0 bytes) in omega arith,
+  let more = length_more events (plain.Blob (length events + 1) 0 bytes) in omega arith,
+  let more = ops_more events (plain.Blob (length events + 1) 0 bytes) in omega arith,
   refl,
 )
 data_counts false events (ACommit c) aliases bytes = (omega arith, refl, refl)
 data_counts inline events (ATag name target tagger mark) aliases bytes = (
-  let more = length-more events (plain.Tag (length events + 1) name target tagger bytes mark) in omega arith,
-  let more = ops-more events (plain.Tag (length events + 1) name target tagger bytes mark) in omega arith,
+  let more = length_more events (plain.Tag (length events + 1) name target tagger bytes mark) in omega arith,
+  let more = ops_more events (plain.Tag (length events + 1) name target tagger bytes mark) in omega arith,
   refl,
 )
 data_counts inline events (AReset branch target) aliases bytes = (omega arith, refl, refl)

@@ -25,8 +25,8 @@ use Rattle.round_trip_laws.specs.AsRead.{IsRooted, AreRootedAfter, IsAsRead}
 use Rattle.history_laws.proofs.Lists.{all_imply}
 use Rattle.round_trip_laws.proofs.PlacedIds.{id_below}
 use Rattle.soundness_laws.proofs.Kept.{AreKnown}
-use Rattle.soundness_laws.proofs.MarkSums.{AreOnce, marks_distinct, marks_new, one, weigh, weight, weight-append}
-use Rattle.soundness_laws.proofs.Marking.{are_once, has_id_same, history_is, mark_above, marked-append, marked_event, marked_events, nodes_same, placed_same, refs_same, unmarked-append}
+use Rattle.soundness_laws.proofs.MarkSums.{AreOnce, marks_distinct, marks_new, one, weigh, weight, weight_append}
+use Rattle.soundness_laws.proofs.Marking.{are_once, has_id_same, history_is, mark_above, marked_append, marked_event, marked_events, nodes_same, placed_same, refs_same, unmarked_append}
 use Rattle.soundness_laws.proofs.MarksOnce.{IsOnce, closed_once}
 use Rattle.soundness_laws.proofs.SoFar.{AreWell, AreWellAfter, HaveTrees, IsMarkYet, IsWellEvent, are_placed, have_trees, refers_imply, well_more}
 
@@ -122,7 +122,7 @@ module _ (aliases : List (ℕ × ℕ)) (named : AllByRecursion (λ a. IsMark a.0
         (marks_distinct (event_marks (marked_event aliases n e)) marks (λ m is. let more = both m is in omega arith))
       where
         both : (m : ℕ) → 0 < m → weight (one m) shown + weigh (one m) (event_marks (marked_event aliases n e)) ≤ 1
-        both m is = let parts = weight-append (one m) shown (marked_event aliases n e ∷ rest) in let most = once m is in omega arith
+        both m is = let parts = weight_append (one m) shown (marked_event aliases n e ∷ rest) in let most = once m is in omega arith
 
   -- ---- all events
 
@@ -135,11 +135,11 @@ module _ (aliases : List (ℕ × ℕ)) (named : AllByRecursion (λ a. IsMark a.0
   are_read g n earlier [] shown is at_n well h once within = tt
   are_read g n earlier (e ∷ events) shown is at_n well h once within =
       let new : PlainEvent = marked_event aliases n e in
-      let count : unmarked_count (earlier ++ e ∷ []) ≡ unmarked_count earlier + own_want e = unmarked-append earlier e in (
+      let count : unmarked_count (earlier ++ e ∷ []) ≡ unmarked_count earlier + own_want e = unmarked_append earlier e in (
         one_is_read n earlier shown well (λ wanted. ap (λ (l : List PlainEvent). has_id l wanted) (sym is) ∙ has_id_same aliases g earlier wanted)
             (ap (λ (l : List PlainEvent). refs l) (sym is) ∙ refs_same aliases g [] earlier) e (marked_events aliases (n + own_want e) events) (omega arith) h.0 once,
         are_read g (n + own_want e) (earlier ++ e ∷ []) events (shown ++ new ∷ [])
-            (marked-append aliases g earlier e ∙ ap (λ (l : List PlainEvent). l ++ marked_event aliases (g + unmarked_count earlier) e ∷ []) is ∙ ap (λ k. shown ++ marked_event aliases k e ∷ []) at_n) (omega arith)
+            (marked_append aliases g earlier e ∙ ap (λ (l : List PlainEvent). l ++ marked_event aliases (g + unmarked_count earlier) e ∷ []) is ∙ ap (λ k. shown ++ marked_event aliases k e ∷ []) at_n) (omega arith)
             (well_more earlier e well h.0) h.1 (subst AreOnce (sym (append_assoc shown (new ∷ []) (marked_events aliases (n + own_want e) events))) once) (omega arith),
       )
 

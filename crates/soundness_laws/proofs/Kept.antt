@@ -17,7 +17,7 @@ use Rattle.stream_grammar.specs.declared.lines.Expected.TheVariants as expected
 use Rattle.stream_grammar.specs.Known.{Known, OpenCommit, Open, next_id, with_event, closed, closed_commit, with_data}
 use Rattle.stream_grammar.specs.Known.Open.{Nothing, ABlob, ACommit, ATag, AReset, AnAlias}
 use Rattle.stream_grammar.specs.Lines.{is_required, is_inline_expected}
-use Rattle.history_laws.proofs.Ids.{has_id-append, has_id_still}
+use Rattle.history_laws.proofs.Ids.{has_id_append, has_id_still}
 use Rattle.history_laws.proofs.Commits.{refs_append}
 use Rattle.history_laws.proofs.Lists.{all_imply}
 use Rattle.soundness_laws.proofs.Ids.{past_same}
@@ -191,7 +191,7 @@ ready_closed d k h e = closed_well k.events k.current k.aliases h.so_far (subst 
 
 -- the blob is there, whatever its bytes
 blob_there : (events : List PlainEvent) (id : ℕ) (bytes : Bytes) (b : ℕ) → has_id (events ++ Blob id 0 [] ∷ []) (any.Blob b) ≡ true → has_id (events ++ Blob id 0 bytes ∷ []) (any.Blob b) ≡ true
-blob_there events id bytes b h = has_id-append events (Blob id 0 bytes ∷ []) (any.Blob b) ∙ sym (has_id-append events (Blob id 0 [] ∷ []) (any.Blob b)) ∙ h
+blob_there events id bytes b h = has_id_append events (Blob id 0 bytes ∷ []) (any.Blob b) ∙ sym (has_id_append events (Blob id 0 [] ∷ []) (any.Blob b)) ∙ h
 
 -- a commit whose operation has its bytes
 commit_arrived : (events : List PlainEvent) (bytes : Bytes) (c : OpenCommit) → IsCommitSoFar events (awaited events) c

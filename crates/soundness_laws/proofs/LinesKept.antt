@@ -35,7 +35,7 @@ use Rattle.stream_grammar.specs.Known.Open.{Nothing, ABlob, ACommit, ATag, ARese
 use Rattle.stream_grammar.specs.Limits.{limit_at, op_limit}
 use Rattle.stream_grammar.specs.Lines.{text_of, is_inline, word_of, follows, is_required, aliased, begun_with, commit_on, with_mark, with_commit, with_from, with_tagger, with_operation, passed, changed, begun_by, gone_on, next_by, next_of}
 use Rattle.field_laws.proofs.FieldSteps.{bind_ok, or_defect_is, same_Ok}
-use Rattle.history_laws.proofs.Ids.{has_id-append, has_id_still}
+use Rattle.history_laws.proofs.Ids.{has_id_append, has_id_still}
 use Rattle.history_laws.proofs.Lists.{all_join}
 use Rattle.soundness_laws.proofs.Changes.{commit_begun, commit_changed, mark_kept, authored_commit, committed_commit, encoded_commit, tagger_kept, from_kept, from_target, merge_kept, commit_target, commit_no_ops, mark_target, mark_no_ops, mark_marks, tagger_target, parents_limit, operation_kept}
 use Rattle.soundness_laws.proofs.FieldsRead.{plain_text, name_fits}
@@ -288,7 +288,7 @@ module _ (line : Bytes) (plain : has_no_lf line ≡ true) (k : Known) where
 
   own_awaited : has_id (awaited k.events) (any.Blob (next_id k.events)) ≡ true
   own_awaited =
-      has_id-append k.events (Blob (next_id k.events) 0 [] ∷ []) (any.Blob (next_id k.events))
+      has_id_append k.events (Blob (next_id k.events) 0 [] ∷ []) (any.Blob (next_id k.events))
       ∙ or_right (has_id k.events (any.Blob (next_id k.events))) ((next_id k.events == next_id k.events) || false) (or_left (next_id k.events == next_id k.events) false (eq-eqb (next_id k.events) (next_id k.events) refl))
 
   -- one whose bytes follow

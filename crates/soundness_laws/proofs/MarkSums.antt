@@ -29,9 +29,9 @@ weight f (e ∷ events) = weigh f (event_marks e) + weight f events
 abbrev pub one : ℕ → ℕ → ℕ
 one m mark = cond (mark == m) 1 0
 
-pub weight-append : (f : ℕ → ℕ) (a b : List PlainEvent) → weight f (a ++ b) ≡ weight f a + weight f b
-weight-append f [] b = omega arith
-weight-append f (x ∷ a) b = let more = weight-append f a b in omega arith
+pub weight_append : (f : ℕ → ℕ) (a b : List PlainEvent) → weight f (a ++ b) ≡ weight f a + weight f b
+weight_append f [] b = omega arith
+weight_append f (x ∷ a) b = let more = weight_append f a b in omega arith
 
 -- ---- marks that are there
 

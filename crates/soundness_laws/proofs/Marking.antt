@@ -47,9 +47,9 @@ own_times n mark m = go (mark == 0)
     go true = new (n + 1 == m) (nat_lt (n + 1) m) (nat_lt n m) refl refl refl
     go false = let same : above (n + 0) m ≡ above n m = ap (λ i. above i m) (no_more n) in omega arith
 
-pub unmarked-append : (a : List PlainEvent) (e : PlainEvent) → unmarked_count (a ++ e ∷ []) ≡ unmarked_count a + own_want e
-unmarked-append [] e = omega arith
-unmarked-append (x ∷ a) e = let more = unmarked-append a e in omega arith
+pub unmarked_append : (a : List PlainEvent) (e : PlainEvent) → unmarked_count (a ++ e ∷ []) ≡ unmarked_count a + own_want e
+unmarked_append [] e = omega arith
+unmarked_append (x ∷ a) e = let more = unmarked_append a e in omega arith
 
 -- each commit has these aliases
 module _ (aliases : List (ℕ × ℕ)) where
@@ -86,10 +86,10 @@ module _ (aliases : List (ℕ × ℕ)) where
   history_is n (Pass id line ∷ events) = ap (λ (l : List PlainEvent). Pass id line ∷ l) (history_is n events ∙ ap (λ k. marked_events k events) (sym (no_more n)))
 
   -- events of two parts
-  pub marked-append : (n : ℕ) (a : List PlainEvent) (e : PlainEvent) → marked_events n (a ++ e ∷ []) ≡ marked_events n a ++ marked_event (n + unmarked_count a) e ∷ []
-  marked-append n [] e = ap (λ k. marked_event k e ∷ []) (sym (no_more n))
-  marked-append n (x ∷ a) e =
-      ap (λ (l : List PlainEvent). marked_event n x ∷ l) (marked-append (n + own_want x) a e)
+  pub marked_append : (n : ℕ) (a : List PlainEvent) (e : PlainEvent) → marked_events n (a ++ e ∷ []) ≡ marked_events n a ++ marked_event (n + unmarked_count a) e ∷ []
+  marked_append n [] e = ap (λ k. marked_event k e ∷ []) (sym (no_more n))
+  marked_append n (x ∷ a) e =
+      ap (λ (l : List PlainEvent). marked_event n x ∷ l) (marked_append (n + own_want x) a e)
       ∙ ap (λ k. marked_event n x ∷ (marked_events (n + own_want x) a ++ marked_event k e ∷ [])) (sums n (own_want x) (unmarked_count a))
     where
       sums : (n k l : ℕ) → n + k + l ≡ n + (k + l)

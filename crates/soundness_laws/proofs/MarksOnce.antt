@@ -25,7 +25,7 @@ use Rattle.stream_grammar.specs.Limits.{exceeded, stream_within}
 use Rattle.stream_grammar.specs.Lines.{State, aliased, begun_with, changed, commit_on, is_inline_expected, is_left_out_feature, judged, line_step, passed, stream, text_of, with_commit, with_from, with_mark, with_operation, with_tagger, data_arrived, word_of}
 use Rattle.field_laws.proofs.FieldSteps.{bind_ok, same_Ok}
 use Rattle.soundness_laws.proofs.Carried.{IsAfter, carried}
-use Rattle.soundness_laws.proofs.MarkSums.{none_among, none_marked, one, weigh, weight, weight-append}
+use Rattle.soundness_laws.proofs.MarkSums.{none_among, none_marked, one, weigh, weight, weight_append}
 use Rattle.soundness_laws.proofs.OpsRead.{ensured}
 use Rattle.soundness_laws.proofs.Steps.{stepped_by}
 
@@ -60,7 +60,7 @@ zero_is_none m is = ap (λ b. cond b 1 0) (ne_eqb 0 m (λ e. omega arith))
 
 -- one event more
 event_more : (m : ℕ) (events : List PlainEvent) (e : PlainEvent) → weight (one m) (with_event events e) ≡ weight (one m) events + weight (one m) (e ∷ [])
-event_more m events e = weight-append (one m) events (e ∷ [])
+event_more m events e = weight_append (one m) events (e ∷ [])
 
 -- ---- the end of an event
 

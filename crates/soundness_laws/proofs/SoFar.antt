@@ -22,7 +22,7 @@ use Rattle.plain_model.specs.Parts.{has_no_lf}
 use Rattle.plain_model.specs.Trees.{TreeOf, at}
 use Rattle.stream_grammar.specs.Known.{OpenCommit}
 use Rattle.round_trip_laws.specs.AsRead.{ArePlaced}
-use Rattle.history_laws.proofs.Ids.{has_id-append, has_id_still}
+use Rattle.history_laws.proofs.Ids.{has_id_append, has_id_still}
 use Rattle.history_laws.proofs.Commits.{refs_append, all_put, all_where, all_at}
 use Rattle.history_laws.proofs.Lists.{all_imply}
 use Rattle.soundness_laws.proofs.Ids.{past_same, past_more}
@@ -112,7 +112,7 @@ HaveTrees events = (c : ℕ) → IsCommitOf events c → IsSome (tree events c)
 
 -- a commit of the events or of the last one
 last_or : (events : List PlainEvent) (e : PlainEvent) (c : ℕ) → IsCommitOf (events ++ e ∷ []) c → IsCommitOf events c ⊎ (has_id (e ∷ []) (any.Commit c) ≡ true)
-last_or events e c h = or_cases (has_id events (any.Commit c)) (has_id (e ∷ []) (any.Commit c)) (sym (has_id-append events (e ∷ []) (any.Commit c)) ∙ h)
+last_or events e c h = or_cases (has_id events (any.Commit c)) (has_id (e ∷ []) (any.Commit c)) (sym (has_id_append events (e ∷ []) (any.Commit c)) ∙ h)
 
 trees_same : (events : List PlainEvent) (e : PlainEvent) → nodes (e ∷ []) ≡ [] → ((c : ℕ) → has_id (e ∷ []) (any.Commit c) ≡ true → ⊥) → HaveTrees events → HaveTrees (events ++ e ∷ [])
 trees_same events e none isnt h c is = go (last_or events e c is)
@@ -177,7 +177,7 @@ tips_more events (Commit id mark branch author committer encoding comment parent
     or_true e = ap (λ t. t || false) e
 
     own : (events : List PlainEvent) (e : PlainEvent) (c : ℕ) → has_id (e ∷ []) (any.Commit c) ≡ true → IsCommitOf (events ++ e ∷ []) c
-    own events e c h = has_id-append events (e ∷ []) (any.Commit c) ∙ or_right (has_id events (any.Commit c)) (has_id (e ∷ []) (any.Commit c)) h
+    own events e c h = has_id_append events (e ∷ []) (any.Commit c) ∙ or_right (has_id events (any.Commit c)) (has_id (e ∷ []) (any.Commit c)) h
 tips_more events (Reset id branch (Some c)) tips w h = all_put (IsCommitOf (events ++ Reset id branch (Some c) ∷ [])) branch c tips (has_id_still events (Reset id branch (Some c) ∷ []) (any.Commit c) w.2) h
 tips_more events (Reset id branch None) tips w h = all_where (IsCommitOf (events ++ Reset id branch None ∷ [])) (λ b. not (bytes_eq branch b)) tips h
 tips_more events (Blob id mark bytes) tips w h = h

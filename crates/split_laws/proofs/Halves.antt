@@ -20,7 +20,7 @@ use Rattle.edit_laws.specs.Parts.{AreInOrder, AreOnce, HasFewParents, IsLawful, 
 use Rattle.edit_laws.specs.Settling.{is_ready}
 use Rattle.plain_model.proofs.Numbers.{eqb_turned}
 use Rattle.history_laws.proofs.LineLaws.{folded_more}
-use Rattle.history_laws.proofs.Ids.{has_id-append, has_id-cons, is_marked-append, same_id-true}
+use Rattle.history_laws.proofs.Ids.{has_id_append, has_id_cons, is_marked_append, same_id_true}
 use Rattle.history_laws.proofs.Lists.{all_imply, all_join}
 use Rattle.edit_laws.proofs.Lists.{OfNodes, all_flat, all_front, all_rear, all_true, events_of_nodes, has_own_id, none_passing, own_id, own_sum, some_passing, tally_append, true_all}
 use Rattle.edit_laws.proofs.Sound.{from_parts, in_parts}
@@ -89,7 +89,7 @@ module _ (c copy mark kept : ℕ) where
           ∷ []
           ) (Commit i m branch author committer encoding comment (map to parents) ops aliases ∷ [])) id ≡ true
       go true x =
-          has_id-cons (Commit i m branch author committer encoding comment parents (take kept ops) aliases) (Commit copy mark branch author committer encoding comment (i ∷ []) (drop kept ops) [] ∷ []) id
+          has_id_cons (Commit i m branch author committer encoding comment parents (take kept ops) aliases) (Commit copy mark branch author committer encoding comment (i ∷ []) (drop kept ops) [] ∷ []) id
           ∙ or_left (same_id id (any.Commit i)) (has_id (Commit copy mark branch author committer encoding comment (i ∷ []) (drop kept ops) [] ∷ []) id) x
       go false x = own_id (Commit i m branch author committer encoding comment (map to parents) ops aliases) id ∙ x
   kept_ids (Blob i m bytes) id h = h
@@ -100,8 +100,8 @@ module _ (c copy mark kept : ℕ) where
   still : (xs : List PlainEvent) (id : AnyId) → has_id xs id ≡ true → has_id (flat_map halves xs) id ≡ true
   still [] id h = absurd (true≢false (sym h))
   still (x ∷ xs) id h =
-      has_id-append (halves x) (flat_map halves xs) id
-      ∙ elim (or_cases (has_id (x ∷ []) id) (has_id xs id) (sym (has_id-append (x ∷ []) xs id) ∙ h)) [
+      has_id_append (halves x) (flat_map halves xs) id
+      ∙ elim (or_cases (has_id (x ∷ []) id) (has_id xs id) (sym (has_id_append (x ∷ []) xs id) ∙ h)) [
         | inl own ↦ or_left (has_id (halves x) id) (has_id (flat_map halves xs) id) (kept_ids x id own)
         | inr later ↦ or_right (has_id (halves x) id) (has_id (flat_map halves xs) id) (still xs id later)
       ]
@@ -128,8 +128,8 @@ module _ (c copy mark kept : ℕ) where
   copy_there : (xs : List PlainEvent) → IsHere xs c → IsHere (flat_map halves xs) copy
   copy_there [] h = absurd (true≢false (sym h))
   copy_there (x ∷ xs) h =
-      has_id-append (halves x) (flat_map halves xs) (any.Commit copy)
-      ∙ elim (or_cases (has_id (x ∷ []) (any.Commit c)) (has_id xs (any.Commit c)) (sym (has_id-append (x ∷ []) xs (any.Commit c)) ∙ h)) [
+      has_id_append (halves x) (flat_map halves xs) (any.Commit copy)
+      ∙ elim (or_cases (has_id (x ∷ []) (any.Commit c)) (has_id xs (any.Commit c)) (sym (has_id_append (x ∷ []) xs (any.Commit c)) ∙ h)) [
         | inl own ↦ or_left (has_id (halves x) (any.Commit copy)) (has_id (flat_map halves xs) (any.Commit copy)) (own_copy x own)
         | inr later ↦ or_right (has_id (halves x) (any.Commit copy)) (has_id (flat_map halves xs) (any.Commit copy)) (copy_there xs later)
       ]
@@ -218,7 +218,7 @@ module _ (c copy mark kept : ℕ) where
   ready_first xs ps ops id r = all_imply (There xs) (There (flat_map halves xs)) (λ x h. still xs x h) (map any.Commit ps ++ flat_map op_blobs ops) (all_true (has_id xs) (map any.Commit ps ++ flat_map op_blobs ops) r)
 
   more_there : (xs ys : List PlainEvent) (ids : List AnyId) → AllByRecursion (There xs) ids → AllByRecursion (There (xs ++ ys)) ids
-  more_there xs ys ids a = all_imply (There xs) (There (xs ++ ys)) (λ x h. has_id-append xs ys x ∙ or_left (has_id xs x) (has_id ys x) h) ids a
+  more_there xs ys ids a = all_imply (There xs) (There (xs ++ ys)) (λ x h. has_id_append xs ys x ∙ or_left (has_id xs x) (has_id ys x) h) ids a
 
   own_order : (xs : List PlainEvent) (e : PlainEvent) → is_ready xs e ≡ true → AreInOrder (flat_map halves xs) (halves e)
   own_order xs (Commit i m branch author committer encoding comment parents ops aliases) r = go (i == c)
@@ -244,7 +244,7 @@ module _ (c copy mark kept : ℕ) where
             (all_join (There before) (map any.Commit parents) (flat_map op_blobs (take kept ops)) (all_front (There before) (map any.Commit parents) (flat_map op_blobs ops) refs) blobs.0),
         (
           true_all (has_id (before ++ first ∷ [])) (any.Commit i ∷ flat_map op_blobs (drop kept ops)) (
-            has_id-append before (first ∷ []) (any.Commit i) ∙ or_right (has_id before (any.Commit i)) (has_id (first ∷ []) (any.Commit i)) (has_own_id first),
+            has_id_append before (first ∷ []) (any.Commit i) ∙ or_right (has_id before (any.Commit i)) (has_id (first ∷ []) (any.Commit i)) (has_own_id first),
             more_there before (first ∷ []) (flat_map op_blobs (drop kept ops)) blobs.1,
           ),
           tt,
@@ -379,7 +379,7 @@ module _ (c copy mark kept : ℕ) where
           let two = tally_sum (of_id id) (copied_id id) events in
           let if_copy = tally_if (same_id id (any.Commit copy)) (of_id (any.Commit c)) events in
           let all = at_most_once (same_id id (any.Commit copy)) (tally (of_id id) events) (tally (of_id (any.Commit c)) events) (o.ids id) (o.ids (any.Commit c))
-          (λ is. none_passing (λ l. has_id l id) (λ xs ys. has_id-append xs ys id) refl events (ap (has_id events) (same_id-true id (any.Commit copy) is) ∙ fresh)) in
+          (λ is. none_passing (λ l. has_id l id) (λ xs ys. has_id_append xs ys id) refl events (ap (has_id events) (same_id_true id (any.Commit copy) is) ∙ fresh)) in
           omega arith;
       marks = λ n.
           let o = (in_parts events h).once in
@@ -387,7 +387,7 @@ module _ (c copy mark kept : ℕ) where
           let two = tally_sum (of_mark n) (copied_mark n) events in
           let if_copy = tally_if (mark == n) (of_id (any.Commit c)) events in
           let all = at_most_once (mark == n) (tally (of_mark n) events) (tally (of_id (any.Commit c)) events) (o.marks n) (o.ids (any.Commit c))
-          (λ is. none_passing (λ l. is_marked l n) (λ xs ys. is_marked-append xs ys n) refl events (ap (is_marked events) (sym (eqb-true mark n is)) ∙ new_mark)) in
+          (λ is. none_passing (λ l. is_marked l n) (λ xs ys. is_marked_append xs ys n) refl events (ap (is_marked events) (sym (eqb-true mark n is)) ∙ new_mark)) in
           omega arith;
     }
 
@@ -483,8 +483,8 @@ module _ (c copy mark kept : ℕ) where
         elim (cases_Bool (has_id events (any.Commit d))) [
           | inl it ↦ it
           | inr absent ↦
-              let some = some_passing (λ l. has_id l (any.Commit d)) (λ xs ys. has_id-append xs ys (any.Commit d)) refl new k in
-              let none = none_passing (λ l. has_id l (any.Commit d)) (λ xs ys. has_id-append xs ys (any.Commit d)) refl events absent in
+              let some = some_passing (λ l. has_id l (any.Commit d)) (λ xs ys. has_id_append xs ys (any.Commit d)) refl new k in
+              let none = none_passing (λ l. has_id l (any.Commit d)) (λ xs ys. has_id_append xs ys (any.Commit d)) refl events absent in
               let most = tally_into (of_id (any.Commit d)) (λ e. of_id (any.Commit d) e + copied_id (any.Commit d) e) halves (one_id (any.Commit d)) events in
               let two = tally_sum (of_id (any.Commit d)) (copied_id (any.Commit d)) events in
               let if_copy = tally_if (d == copy) (of_id (any.Commit c)) events in

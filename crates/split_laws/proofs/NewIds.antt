@@ -9,7 +9,7 @@ use Rattle.plain_model.specs.declared.event.PlainEvent.{PlainEvent}
 use Rattle.plain_model.specs.declared.event.PlainEvent.TheVariants.{Blob, Commit, Tag, Reset, Pass}
 use Rattle.plain_model.specs.Lookups.{AreIdsBelow, find_event, id_number, id_of, same_id}
 use Rattle.plain_model.specs.Paths.{Bytes}
-use Rattle.history_laws.proofs.Ids.{ids-below, same_id-refl}
+use Rattle.history_laws.proofs.Ids.{ids_below, same_id_refl}
 use Rattle.history_laws.proofs.Lists.{all_imply, all_join}
 use Rattle.commit_laws.specs.Selected.{node_of, the_commit}
 use Rattle.split_laws.specs.Split.{first_touch, onto, split_at_of, split_by_of, split_event, split_from, split_list}
@@ -20,7 +20,7 @@ IsBelow bound e = id_number (id_of e) < bound
 
 each_below : (bound : ℕ) (es : List PlainEvent) → AreIdsBelow bound es → AllByRecursion (IsBelow bound) es
 each_below bound [] h = tt
-each_below bound (e ∷ es) h = (h (id_of e) (rw (same_id-refl (id_of e)) refl), each_below bound es (λ id there. h id (later id there)))
+each_below bound (e ∷ es) h = (h (id_of e) (rw (same_id_refl (id_of e)) refl), each_below bound es (λ id there. h id (later id there)))
   where
     later : (id : AnyId) → IsSome (find_event id es) → IsSome (find_event id (e ∷ es))
     later id there = go (same_id id (id_of e))
@@ -55,7 +55,7 @@ from_ids copy c number events new d below =
     let done = from_done copy c number events new d in
     let more : copy < copy + 1 = omega arith in
     let each = all_imply (IsBelow copy) (IsBelow (copy + 1)) (λ e low. (let l = low in omega arith)) events (each_below copy events below) in
-    ids-below (copy + 1) new (subst (AllByRecursion (IsBelow (copy + 1))) done.is (list_below c copy done.mark (number - 1) (copy + 1) more events each))
+    ids_below (copy + 1) new (subst (AllByRecursion (IsBelow (copy + 1))) done.is (list_below c copy done.mark (number - 1) (copy + 1) more events each))
 
 pub at_ids : (copy number : ℕ) (set : List AnyId) (events new : List PlainEvent) → split_at_of copy number set events ≡ Ok new → AreIdsBelow copy events → AreIdsBelow (copy + 1) new
 at_ids copy number set events new d below = go (the_commit events set) d

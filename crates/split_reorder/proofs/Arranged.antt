@@ -16,11 +16,11 @@ use Rattle.plain_model.specs.Faults.{Returns}
 use Rattle.plain_model.specs.Histories.{IsLinkedPast, past}
 use Rattle.plain_model.specs.Lookups.{find_event, id_of, same_id}
 use Rattle.plain_model.specs.Soundness.{IsSound, has_id}
-use Rattle.history_laws.proofs.Ids.{each_found, find-id}
+use Rattle.history_laws.proofs.Ids.{each_found, find_id}
 use Rattle.history_laws.proofs.Lists.{all_imply}
 use Rattle.event_arena.specs.Changes.{in_order}
 use Rattle.history_laws.specs.Once.{AreDistinct}
-use Rattle.history_laws.proofs.SoundOnce.{has_id-find, sound-once}
+use Rattle.history_laws.proofs.SoundOnce.{has_id_find, sound_once}
 use Rattle.edit_laws.specs.Parts.{AreComplete, of_id, one_if, tally}
 use Rattle.edit_laws.specs.Settling.{settle}
 use Rattle.edit_laws.proofs.Lists.{own_id}
@@ -114,7 +114,7 @@ module _ (set : List AnyId) (whole : List PlainEvent) where
       its : (o : Option PlainEvent) → find_event (any.Commit u) whole ≡ o → IsSome o → map id_of (filled set whole us es) ≡ ordered set us es →
           map id_of (option_to_list o ++ filled set whole us es) ≡ any.Commit u ∷ ordered set us es
       its None is some rest = absurd cc
-      its (Some x) is some rest = λ i. sym (find-id (any.Commit u) whole x is) i ∷ rest i
+      its (Some x) is some rest = λ i. sym (find_id (any.Commit u) whole x is) i ∷ rest i
 
       go : (b : Bool) → map id_of (filled set whole us es) ≡ ordered set us es → map id_of (filled set whole (u ∷ us) es) ≡ ordered set (u ∷ us) es →
           map id_of (cond b (option_to_list (find_event (any.Commit u) whole) ++ filled set whole us es) (e ∷ filled set whole (u ∷ us) es))
@@ -141,13 +141,13 @@ module _ (set : List AnyId) (events : List PlainEvent) (h : IsSound events) (sel
   its = filled set whole (w ∷ ws) whole
 
   whole_once : AreDistinct whole
-  whole_once = distinct_mapped to to_id events (sound-once events h).ids
+  whole_once = distinct_mapped to to_id events (sound_once events h).ids
 
   all_there : AllByRecursion (λ u. IsSome (find_event (any.Commit u) whole)) (w ∷ ws)
   all_there =
       subst (AllByRecursion (λ u. IsSome (find_event (any.Commit u) whole))) is_ws
       (all_imply (λ c. has_id events (any.Commit c) ≡ true) (λ c. IsSome (find_event (any.Commit c) whole))
-      (λ c k. found_mapped to to_id (any.Commit c) events ∙ sym (has_id-find events (any.Commit c)) ∙ k)
+      (λ c k. found_mapped to to_id (any.Commit c) events ∙ sym (has_id_find events (any.Commit c)) ∙ k)
       (chosen set) (chosen_here events set sel.there))
 
   -- the order has each id once

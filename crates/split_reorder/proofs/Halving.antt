@@ -13,9 +13,9 @@ use Rattle.plain_model.specs.Lookups.{AreIdsBelow, find_event, id_of, same_id}
 use Rattle.plain_model.proofs.Numbers.{eqb_turned}
 use Rattle.event_arena.specs.Changes.{changed, put_after, with_ops}
 use Rattle.history_laws.specs.Once.{AreDistinct}
-use Rattle.history_laws.proofs.SoundOnce.{sound-once}
+use Rattle.history_laws.proofs.SoundOnce.{sound_once}
 use Rattle.plain_model.specs.Soundness.{IsSound}
-use Rattle.history_laws.proofs.Ids.{absent-cons}
+use Rattle.history_laws.proofs.Ids.{absent_cons}
 use Rattle.commit_laws.proofs.Given.{rank}
 use Rattle.split_laws.specs.Split.{onto, split_event, split_list}
 use Rattle.split_reorder.specs.Copies.{put_onto}
@@ -66,7 +66,7 @@ module _ (c copy mark kept : ℕ) where
   split_others : (es : List PlainEvent) → find_event (any.Commit c) es ≡ None → map (put_onto c copy) es ≡ split_list c copy mark kept es
   split_others [] h = refl
   split_others (e ∷ es) h =
-      let rest = absent-cons (any.Commit c) e es h in
+      let rest = absent_cons (any.Commit c) e es h in
       ap (λ (l : List PlainEvent). put_onto c copy e ∷ l) (split_others es rest.1)
       ∙ ap (λ (l : List PlainEvent). l ++ split_list c copy mark kept es) (sym (split_other e rest.0))
 
@@ -104,4 +104,4 @@ pub cut_found : (c copy mark kept : ℕ) (events : List PlainEvent) (sound : IsS
 cut_found c copy mark kept events sound its branch author committer encoding comment parents ops aliases found =
     let g = given events sound (any.Commit c) (Commit c its branch author committer encoding comment parents ops aliases) found in
     let stay = unmoved c copy parents (no_own_parent (rank events sound) c parents g.low.0) in
-    cut_in_two c copy mark kept its branch author committer encoding comment parents ops aliases stay events (sound-once events sound).ids found
+    cut_in_two c copy mark kept its branch author committer encoding comment parents ops aliases stay events (sound_once events sound).ids found

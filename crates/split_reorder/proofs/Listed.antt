@@ -7,7 +7,7 @@ use Rattle.plain_model.specs.declared.event.PlainEvent.{PlainEvent}
 use Rattle.plain_model.specs.declared.event.PlainEvent.TheVariants.{Blob, Commit, Tag, Reset, Pass}
 use Rattle.plain_model.specs.Histories.{Node}
 use Rattle.plain_model.specs.Lookups.{id_of, is_listed}
-use Rattle.event_arena.proofs.ListLemmas.{drop-item}
+use Rattle.event_arena.proofs.ListLemmas.{drop_item}
 use Rattle.commit_laws.specs.Selected.{listed}
 use Rattle.reorder_laws.specs.Reorder.{is_placed}
 use Rattle.split_reorder.specs.Ordered.{ordered}
@@ -58,7 +58,7 @@ module _ (set : List AnyId) where
     rest = drop (suc k) es
 
     begun : ids ++ ordered set left (e ∷ rest) ≡ all
-    begun = ap (λ (l : List PlainEvent). ids ++ ordered set left l) (sym (drop-item es k e is)) ∙ so_far
+    begun = ap (λ (l : List PlainEvent). ids ++ ordered set left l) (sym (drop_item es k e is)) ∙ so_far
 
     pub next_given : (w : ℕ) (others : List ℕ) (more : List AnyId) → is_placed set e ≡ true → left ≡ w ∷ others → more ≡ ids ++ any.Commit w ∷ [] → more ++ ordered set others rest ≡ all
     next_given w others more placed splits longer =

@@ -6,7 +6,7 @@ use Rattle.std.proofs.lemmas.List.Sorted.{IsPermutation-cons, IsPermutation-midd
 use Rattle.plain_model.specs.declared.id.AnyId.{AnyId}
 use Rattle.plain_model.specs.declared.event.PlainEvent.{PlainEvent}
 use Rattle.plain_model.specs.Lookups.{id_of, same_id}
-use Rattle.history_laws.proofs.Ids.{same_id-refl, same_id-true}
+use Rattle.history_laws.proofs.Ids.{same_id_refl, same_id_true}
 use Rattle.edit_laws.specs.Parts.{of_id, one_if, tally}
 use Rattle.edit_laws.proofs.Lists.{own_id}
 
@@ -28,7 +28,7 @@ record IsIn (x : AnyId) (ys : List AnyId) : Type 0 where
 found : (x : AnyId) (ys : List AnyId) → 1 ≤ times x ys → IsIn x ys
 found x [] h = absurd (omega arith)
 found x (y ∷ ys) h = elim (cases_Bool (same_id x y)) [
-  | inl it ↦ record { front = []; back = ys; is = ap (λ (z : AnyId). z ∷ ys) (sym (same_id-true x y it)) }
+  | inl it ↦ record { front = []; back = ys; is = ap (λ (z : AnyId). z ∷ ys) (sym (same_id_true x y it)) }
   | inr other ↦
       let none : one_if (same_id x y) ≡ 0 = ap one_if other in
       let rest = found x ys (omega arith) in
@@ -38,11 +38,11 @@ found x (y ∷ ys) h = elim (cases_Bool (same_id x y)) [
 pub permuted : (xs ys : List AnyId) → ((id : AnyId) → times id xs ≡ times id ys) → IsPermutation xs ys
 permuted [] [] same = IsPermutation-refl []
 permuted [] (y ∷ ys) same =
-    let own : one_if (same_id y y) ≡ 1 = ap one_if (same_id-refl y) in
+    let own : one_if (same_id y y) ≡ 1 = ap one_if (same_id_refl y) in
     let both = same y in
     absurd (omega arith)
 permuted (x ∷ xs) ys same =
-    let own : one_if (same_id x x) ≡ 1 = ap one_if (same_id-refl x) in
+    let own : one_if (same_id x x) ≡ 1 = ap one_if (same_id_refl x) in
     let both = same x in
     let there = found x ys (omega arith) in
     let rest = permuted xs (there.front ++ there.back) (λ id.

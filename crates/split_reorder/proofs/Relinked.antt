@@ -10,14 +10,14 @@ use Rattle.plain_model.specs.declared.event.PlainEvent.TheVariants.{Blob, Commit
 use Rattle.plain_model.specs.Histories.{Node}
 use Rattle.plain_model.specs.Lookups.{children_of, find_event, id_of, same_id}
 use Rattle.plain_model.specs.Soundness.{IsSound, are_distinct}
-use Rattle.history_laws.proofs.Ids.{absent-cons, same_id-true}
+use Rattle.history_laws.proofs.Ids.{absent_cons, same_id_true}
 use Rattle.event_arena.specs.declared.field.Field.TheVariants as field
 use Rattle.event_arena.specs.Changes.{changed, with_parents}
 use Rattle.history_laws.specs.Once.{AreDistinct}
 use Rattle.history_laws.proofs.Lists.{map_same}
-use Rattle.event_arena.proofs.ChangeLemmas.{id-with_field}
-use Rattle.event_arena.proofs.DistinctLemmas.{distinct-changed}
-use Rattle.history_laws.proofs.SoundOnce.{sound-once}
+use Rattle.event_arena.proofs.ChangeLemmas.{id_with_field}
+use Rattle.event_arena.proofs.DistinctLemmas.{distinct_changed}
+use Rattle.history_laws.proofs.SoundOnce.{sound_once}
 use Rattle.edit_laws.proofs.Lists.{OfNodes}
 use Rattle.commit_laws.specs.Selected.{node_of}
 use Rattle.commit_laws.proofs.Given.{IsGiven, all_given, rank}
@@ -45,14 +45,14 @@ assigned (c ∷ cs) e = assigned cs (one c e)
 not_it : (c : ℕ × List ℕ) (es : List PlainEvent) → find_event (any.Commit c.0) es ≡ None → es ≡ map (one c) es
 not_it c [] h = refl
 not_it c (e ∷ es) h =
-    let rest = absent-cons (any.Commit c.0) e es h in
+    let rest = absent_cons (any.Commit c.0) e es h in
     rw rest.0 (ap (λ (l : List PlainEvent). e ∷ l) (not_it c es rest.1))
 
 changed_one : (c : ℕ × List ℕ) (es : List PlainEvent) → AreDistinct es → changed (any.Commit c.0) (with_parents c.1) es ≡ map (one c) es
 changed_one c [] once = refl
 changed_one c (e ∷ es) once = elim (cases_Bool (same_id (any.Commit c.0) (id_of e))) [
   | inl it ↦
-      let absent = ap (λ id. find_event id es) (same_id-true (any.Commit c.0) (id_of e) it) ∙ once.0 in
+      let absent = ap (λ id. find_event id es) (same_id_true (any.Commit c.0) (id_of e) it) ∙ once.0 in
       rw it (ap (λ (l : List PlainEvent). with_parents c.1 e ∷ l) (not_it c es absent))
   | inr other ↦ rw other (ap (λ (l : List PlainEvent). e ∷ l) (changed_one c es once.1))
 ]
@@ -64,7 +64,7 @@ all_assigned [] es once = sym (map_same (λ e. e) es (itself es))
     itself [] = tt
     itself (e ∷ es) = (refl, itself es)
 all_assigned (c ∷ cs) es once =
-    all_assigned cs (changed (any.Commit c.0) (with_parents c.1) es) (distinct-changed (any.Commit c.0) (with_parents c.1) (id-with_field (field.Parents c.1)) es once)
+    all_assigned cs (changed (any.Commit c.0) (with_parents c.1) es) (distinct_changed (any.Commit c.0) (with_parents c.1) (id_with_field (field.Parents c.1)) es once)
     ∙ ap (map (assigned cs)) (changed_one c es once)
     ∙ map_twice (assigned cs) (one c) es
 
@@ -188,7 +188,7 @@ module _ (events : List PlainEvent) (h : IsSound events) (old new : ℕ) (ps : L
   pub all_relinked : with_all (lined_up ps us) (with_all moves events) ≡ map (relinked (lined_up ps us) old new) events
   all_relinked =
       sym (all_append moves (lined_up ps us) events)
-      ∙ all_assigned all events (sound-once events h).ids
+      ∙ all_assigned all events (sound_once events h).ids
       ∙ each_relinked events (all_given events h) (all_children events)
 
 -- ---- one commit more

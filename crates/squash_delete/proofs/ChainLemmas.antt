@@ -17,8 +17,8 @@ use Rattle.plain_model.specs.Paths.{Bytes}
 use Rattle.plain_model.specs.Soundness.{IsCommitOf, IsSound}
 use Rattle.ancestry_laws.proofs.Pasts.{linked_past}
 use Rattle.history_laws.specs.Once.{AreDistinct}
-use Rattle.event_arena.proofs.ListLemmas.{take-all}
-use Rattle.history_laws.proofs.SoundOnce.{has_id-find}
+use Rattle.event_arena.proofs.ListLemmas.{take_all}
+use Rattle.history_laws.proofs.SoundOnce.{has_id_find}
 use Rattle.graph_walk.proofs.EarlierLemmas.{is_earlier, parents_before}
 use Rattle.graph_walk.proofs.PlaceLemmas.{place_found}
 use Rattle.history_laws.specs.FirstParents.{ops_along}
@@ -84,7 +84,7 @@ pub all_before : (events : List PlainEvent) (n : ℕ) → length events ≤ n �
     AllByRecursion (λ p. IsSome (find_event (any.Commit p) events)) ps → AreBefore events n ps
 all_before events n whole [] all = tt
 all_before events n whole (p ∷ ps) all =
-    (subst (λ (es : List PlainEvent). IsCommitOf es p) (sym (take-all events n whole)) (has_id-find events (any.Commit p) ∙ all.0), all_before events n whole ps all.1)
+    (subst (λ (es : List PlainEvent). IsCommitOf es p) (sym (take_all events n whole)) (has_id_find events (any.Commit p) ∙ all.0), all_before events n whole ps all.1)
 
 -- the parents of an event are earlier
 pub own_before : (events : List PlainEvent) → IsSound events → (k n : ℕ) (e : PlainEvent) (ps : List ℕ) → slice_get events k ≡ Some e → n ≡ k → ps ≡ event_parents e →

@@ -73,8 +73,8 @@ module _ (count : ℕ) (xs : List Entry) (are : AreEntries count xs) where
 
 -- ---- halving
 
-nat_lt-true : (a b : ℕ) → nat_lt a b ≡ true → a < b
-nat_lt-true a b h = grind (arith, nat_tests)
+nat_lt_true : (a b : ℕ) → nat_lt a b ≡ true → a < b
+nat_lt_true a b h = grind (arith, nat_tests)
 
 module _ (xs : List Entry) (i place : ℕ) (point : IsPartitionPoint (λ (x : Entry). ltb x.place place ≡ true) (λ (x : Entry). ltb x.place place ≡ false) xs i) where
   earlier : (j : ℕ) → j < length xs → j < i → (get_or xs j no_entry).place < place
@@ -86,7 +86,7 @@ module _ (xs : List Entry) (i place : ℕ) (point : IsPartitionPoint (λ (x : En
   -- the first entry that isn't earlier, if it has the place
   pub noted_found : (entry : Entry) → true ≡ nat_lt i (length xs) → entry ≡ get_or xs i entry → entry.place ≡ place → entry.link ≡ noted_at xs place
   noted_found entry within is own =
-      let low = nat_lt-true i (length xs) (sym within) in
+      let low = nat_lt_true i (length xs) (sym within) in
       let here : get_or xs i no_entry ≡ entry = any_default xs i no_entry entry low ∙ sym is in
       ap (λ (x : Entry). x.link) (sym here)
       ∙ sym (noted_first xs i place low (λ j under same. let below = earlier j (omega arith) under in absurd (omega arith))
@@ -101,7 +101,7 @@ module _ (xs : List Entry) (i place : ℕ) (point : IsPartitionPoint (λ (x : En
   pub noted_other : IsNonDecreasingBy (λ (x : Entry). x.place) xs → (entry : Entry) → true ≡ nat_lt i (length xs) → entry ≡ get_or xs i entry → (entry.place ≡ place → ⊥) →
       no_link ≡ noted_at xs place
   noted_other rising entry within is other =
-      let low = nat_lt-true i (length xs) (sym within) in
+      let low = nat_lt_true i (length xs) (sym within) in
       let here = ap (λ (x : Entry). x.place) (any_default xs i no_entry entry low ∙ sym is) in
       let from = later i (omega arith) low in
       sym (noted_none xs place (λ j under same. elim (either j i) [

@@ -18,8 +18,8 @@ use Rattle.plain_model.specs.Lookups.{commit_id, event_parents, find_event, plac
 use Rattle.plain_model.specs.Soundness.{IsSound}
 use Rattle.history_laws.proofs.Commits.{nodes_append}
 use Rattle.history_laws.specs.Once.{AreDistinct}
-use Rattle.event_arena.proofs.ListLemmas.{drop-item, take-item}
-use Rattle.history_laws.proofs.SoundOnce.{has_id-find, sound-once}
+use Rattle.event_arena.proofs.ListLemmas.{drop_item, take_item}
+use Rattle.history_laws.proofs.SoundOnce.{has_id_find, sound_once}
 use Rattle.graph_walk.proofs.PlaceLemmas.{place_found}
 use Rattle.squash_laws.proofs.Takes.{target_stays}
 use Rattle.squash_laws.specs.Squash.{back_fault, first_back_fault, first_children, is_first}
@@ -71,7 +71,7 @@ other_commit events once d place j e c there at is other =
 
 module _ (set : List AnyId) (events : List PlainEvent) (h : IsSound events) where
   once : AreDistinct events
-  once = (sound-once events h).ids
+  once = (sound_once events h).ids
 
   -- where a removed commit stands is there
   pub back_there : (c d : ℕ) (e : PlainEvent) → find_event (any.Commit c) events ≡ Some e → is_removed set c ≡ true →
@@ -79,8 +79,8 @@ module _ (set : List AnyId) (events : List PlainEvent) (h : IsSound events) wher
   back_there c d e found gone to =
       let first : (o : Option ℕ) → o ≡ Some d → option_or o (forward_of set events c) ≡ Some d =
       λ o is. ap (λ x. option_or x (forward_of set events c)) is in
-      sym (has_id-find events (any.Commit d))
-      ∙ (target_stays set events push.Back lean.Back c d (has_id-find events (any.Commit c) ∙ ap is_some found)
+      sym (has_id_find events (any.Commit d))
+      ∙ (target_stays set events push.Back lean.Back c d (has_id_find events (any.Commit c) ∙ ap is_some found)
       (cond-true (is_removed set c) (option_or (back_of set events c) (forward_of set events c)) (Some c) gone ∙ first (back_of set events c) to)).1
 
   -- ---- hanging
@@ -91,7 +91,7 @@ module _ (set : List AnyId) (events : List PlainEvent) (h : IsSound events) wher
   hung_item : (k : ℕ) (e : PlainEvent) (c : ℕ) → slice_get events k ≡ Some e →
       hung set events (suc k) c ≡ hung set events k c ++ map (λ (n : Node). n.id) (filter (hangs_on c) (nodes (e ∷ [])))
   hung_item k e c at =
-      ap (λ (es : List PlainEvent). map (λ (n : Node). n.id) (filter (hangs_on c) (nodes es))) (take-item events k e at)
+      ap (λ (es : List PlainEvent). map (λ (n : Node). n.id) (filter (hangs_on c) (nodes es))) (take_item events k e at)
       ∙ ap (λ (ns : List Node). map (λ (n : Node). n.id) (filter (hangs_on c) ns)) (nodes_append (take k events) (e ∷ []))
       ∙ ap (map (λ (n : Node). n.id)) (filter-append (hangs_on c) (nodes (take k events)) (nodes (e ∷ [])))
       ∙ map-append (λ (n : Node). n.id) (filter (hangs_on c) (nodes (take k events))) (filter (hangs_on c) (nodes (e ∷ [])))
@@ -149,12 +149,12 @@ module _ (set : List AnyId) (events : List PlainEvent) (h : IsSound events) wher
 
 module _ (events : List PlainEvent) (h : IsSound events) where
   distinct : AreDistinct events
-  distinct = (sound-once events h).ids
+  distinct = (sound_once events h).ids
 
   children_item : (k : ℕ) (e : PlainEvent) (c : ℕ) → slice_get events k ≡ Some e →
       first_children (take (suc k) events) c ≡ first_children (take k events) c + length (filter (λ (n : Node). is_first c n.parents) (nodes (e ∷ [])))
   children_item k e c at =
-      ap (λ (es : List PlainEvent). length (filter (λ (n : Node). is_first c n.parents) (nodes es))) (take-item events k e at)
+      ap (λ (es : List PlainEvent). length (filter (λ (n : Node). is_first c n.parents) (nodes es))) (take_item events k e at)
       ∙ ap (λ (ns : List Node). length (filter (λ (n : Node). is_first c n.parents) ns)) (nodes_append (take k events) (e ∷ []))
       ∙ ap length (filter-append (λ (n : Node). is_first c n.parents) (nodes (take k events)) (nodes (e ∷ [])))
       ∙ length-append (filter (λ (n : Node). is_first c n.parents) (nodes (take k events))) (filter (λ (n : Node). is_first c n.parents) (nodes (e ∷ [])))
@@ -268,12 +268,12 @@ module _ (set : List AnyId) (events : List PlainEvent) where
       o ≡ first_back_fault set events (drop k events)
   fault_here k e None at own some = absurd (true≢false (sym some))
   fault_here k e (Some why) at own some =
-      sym (ap (first_back_fault set events) (drop-item events k e at) ∙ fault_step e (drop (suc k) events)
+      sym (ap (first_back_fault set events) (drop_item events k e at) ∙ fault_step e (drop (suc k) events)
       ∙ ap (λ o. option_or o (first_back_fault set events (drop (suc k) events))) own)
 
   pub fault_later : (k : ℕ) (e : PlainEvent) (o : Option Fault) → slice_get events k ≡ Some e → own_fault set events e ≡ o → is_some o ≡ false →
       first_back_fault set events (drop k events) ≡ first_back_fault set events (drop (suc k) events)
   fault_later k e None at own none =
-      ap (first_back_fault set events) (drop-item events k e at) ∙ fault_step e (drop (suc k) events)
+      ap (first_back_fault set events) (drop_item events k e at) ∙ fault_step e (drop (suc k) events)
       ∙ ap (λ o. option_or o (first_back_fault set events (drop (suc k) events))) own
   fault_later k e (Some why) at own none = absurd (true≢false none)

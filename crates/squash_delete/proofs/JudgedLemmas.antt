@@ -25,7 +25,7 @@ use Rattle.plan_steps.proofs.Counting.{more_than}
 use Rattle.edit_laws.proofs.Limits.{not_many}
 use Rattle.edit_laws.proofs.Settles.{settled_sums}
 use Rattle.edit_laws.proofs.Sound.{in_parts}
-use Rattle.history_laws.proofs.SoundOnce.{sound-once}
+use Rattle.history_laws.proofs.SoundOnce.{sound_once}
 use Rattle.edit_laws.proofs.Tallies.{aliases_counted, counted, one, ops_counted, own_aliases, own_ops}
 use Rattle.graph_walk.specs.Expansions.{AreFew, own_change, parent_changes}
 use Rattle.squash_laws.specs.Removed.{Takings, is_removed, parents_after, without_set}
@@ -255,7 +255,7 @@ module _ (set : List AnyId) (events : List PlainEvent) (takes : Takings) where
       let same_aliases : alias_count left ≡ alias_count new = sym (aliases_counted left) ∙ sums own_aliases (aliases_alike takes par (parents_after set events takes)) ∙ aliases_counted new in
       let too_many : not few ≡ list_any is_big new =
       sym (big_settled true_left new is ∙ ap (list_any is_big) same_whole ∙ big_swept events (map becomes whole) (map becomes whole)
-      ∙ big_some events parts.few (sound-once events h).parents ∙ long_or_few few par l.1) in
+      ∙ big_some events parts.few (sound_once events h).parents ∙ long_or_few few par l.1) in
       ap (λ (n : ℕ). limit_of n (length (ops_along (nodes left))) (not few) (alias_count left)) same_length
       ∙ ap (λ (n : ℕ). limit_of (length new) n (not few) (alias_count left)) same_ops
       ∙ ap (λ (b : Bool). limit_of (length new) (length (ops_along (nodes new))) b (alias_count left)) too_many

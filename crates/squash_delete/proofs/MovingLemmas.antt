@@ -21,8 +21,8 @@ use Rattle.history_laws.specs.FirstParents.{ops_along}
 use Rattle.event_arena.specs.Changes.{changed, has_target, with_comment, with_ops, with_target}
 use Rattle.history_laws.specs.Once.{AreDistinct}
 use Rattle.history_laws.proofs.Lists.{item_at}
-use Rattle.event_arena.proofs.ListLemmas.{drop-item, take-all}
-use Rattle.history_laws.proofs.SoundOnce.{sound-once}
+use Rattle.event_arena.proofs.ListLemmas.{drop_item, take_all}
+use Rattle.history_laws.proofs.SoundOnce.{sound_once}
 use Rattle.event_arena.proofs.StepLemmas.{none_left}
 use Rattle.edit_laws.specs.Parts.{tally}
 use Rattle.edit_laws.specs.Removal.{expand_all}
@@ -113,7 +113,7 @@ no_comment_taken events t h own =
 
 module _ (set : List AnyId) (events : List PlainEvent) (h : IsSound events) (par : List ℕ → List ℕ) (taking : Takings) where
   once : AreDistinct events
-  once = (sound-once events h).ids
+  once = (sound_once events h).ids
 
   abbrev keep : PlainEvent → Bool
   keep e = not (goes set taking e)
@@ -387,7 +387,7 @@ module _ (set : List AnyId) (events : List PlainEvent) (tags : Lean) where
       go zero k whole = subst (λ (es : List PlainEvent). AllByRecursion (λ (n : Node). ops_at events n.id ≡ n.ops) (nodes es)) (sym (none_left k events (omega arith))) tt
       go (suc n) k whole =
           let item = item_at events k (omega arith) in
-          subst (λ (es : List PlainEvent). AllByRecursion (λ (n : Node). ops_at events n.id ≡ n.ops) (nodes es)) (sym (drop-item events k item.0 item.1))
+          subst (λ (es : List PlainEvent). AllByRecursion (λ (n : Node). ops_at events n.id ≡ n.ops) (nodes es)) (sym (drop_item events k item.0 item.1))
           (one k item.0 (drop (suc k) events) item.1 (go n (suc k) (omega arith)))
 
   ops_by_id : (test : Node → Bool) (ns : List Node) → AllByRecursion (λ (n : Node). ops_at events n.id ≡ n.ops) ns →
@@ -405,7 +405,7 @@ module _ (set : List AnyId) (events : List PlainEvent) (tags : Lean) where
   map_twice (n ∷ ns) = ap (λ xs. comment_of events n.id ∷ xs) (map_twice ns)
 
   hung_whole : (c : ℕ) → hung set events (length events) c ≡ map (λ (n : Node). n.id) (hanging set events c)
-  hung_whole c = ap (λ (es : List PlainEvent). map (λ (n : Node). n.id) (filter (λ n. is_removed set n.id && is_it c (back_of set events n.id)) (nodes es))) (take-all events (length events) (omega arith))
+  hung_whole c = ap (λ (es : List PlainEvent). map (λ (n : Node). n.id) (filter (λ n. is_removed set n.id && is_it c (back_of set events n.id)) (nodes es))) (take_all events (length events) (omega arith))
 
   pub hung_taken : AreDistinct events → (id : ℕ) (parents after : List ℕ) → after ≡ hung set events (length events) id → (ops : List FileOp) (comment : Bytes) →
       ((takes set events (record { push = push.Back; tags = tags })).ops id parents ops ≡ ops_taken events (record { anew = false; before = []; after = after }) ops)

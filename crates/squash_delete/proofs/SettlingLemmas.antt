@@ -12,10 +12,10 @@ use Rattle.plain_model.specs.Histories.{past}
 use Rattle.plain_model.specs.Lookups.{event_parents, id_of, op_blobs, place_of, referents_of, same_id}
 use Rattle.plain_model.specs.Soundness.{IsSound, are_distinct, has_id}
 use Rattle.history_laws.specs.FirstParents.{ops_along}
-use Rattle.history_laws.proofs.Ids.{has_id-append, has_id-cons, same_id-refl, same_id-true}
+use Rattle.history_laws.proofs.Ids.{has_id_append, has_id_cons, same_id_refl, same_id_true}
 use Rattle.history_laws.specs.Once.{AreDistinct}
-use Rattle.event_arena.proofs.OnceLemmas.{distinct-absent}
-use Rattle.history_laws.proofs.SoundOnce.{has_id-find, sound-once}
+use Rattle.event_arena.proofs.OnceLemmas.{distinct_absent}
+use Rattle.history_laws.proofs.SoundOnce.{has_id_find, sound_once}
 use Rattle.edit_laws.specs.Parts.{AreComplete, AreInOrder}
 use Rattle.edit_laws.specs.Removal.{expand_all}
 use Rattle.edit_laws.specs.Settling.{is_ready}
@@ -45,19 +45,19 @@ take_front [] ys = refl
 take_front (x ∷ xs) ys = ap (λ l. x ∷ l) (take_front xs ys)
 
 place_behind : (xs ys : List PlainEvent) (e : PlainEvent) → has_id xs (id_of e) ≡ false → place_of (id_of e) (xs ++ e ∷ ys) ≡ Some (length xs)
-place_behind [] ys e none = rw same_id-refl refl
+place_behind [] ys e none = rw same_id_refl refl
 place_behind (x ∷ xs) ys e none =
-    let parts = or_parts (same_id (id_of e) (id_of x)) (has_id xs (id_of e)) (sym (has_id-cons x xs (id_of e)) ∙ none) in
+    let parts = or_parts (same_id (id_of e) (id_of x)) (has_id xs (id_of e)) (sym (has_id_cons x xs (id_of e)) ∙ none) in
     ap (λ b. cond b (Some 0) (option_map suc (place_of (id_of e) (xs ++ e ∷ ys)))) parts.0 ∙ ap (option_map suc) (place_behind xs ys e parts.1)
 
 -- an id of earlier events is none of those that come later
 not_later : (pre rest : List PlainEvent) (id : AnyId) → AreDistinct (pre ++ rest) → has_id pre id ≡ true → has_id rest id ≡ false
 not_later [] rest id once there = absurd (true≢false (sym there))
-not_later (e ∷ pre) rest id once there = elim (or_cases (same_id id (id_of e)) (has_id pre id) (sym (has_id-cons e pre id) ∙ there)) [
+not_later (e ∷ pre) rest id once there = elim (or_cases (same_id id (id_of e)) (has_id pre id) (sym (has_id_cons e pre id) ∙ there)) [
   | inl same ↦
-      let none : has_id (pre ++ rest) (id_of e) ≡ false = has_id-find (pre ++ rest) (id_of e) ∙ ap is_some once.0 in
-      ap (has_id rest) (same_id-true id (id_of e) same)
-      ∙ (or_parts (has_id pre (id_of e)) (has_id rest (id_of e)) (sym (has_id-append pre rest (id_of e)) ∙ none)).1
+      let none : has_id (pre ++ rest) (id_of e) ≡ false = has_id_find (pre ++ rest) (id_of e) ∙ ap is_some once.0 in
+      ap (has_id rest) (same_id_true id (id_of e) same)
+      ∙ (or_parts (has_id pre (id_of e)) (has_id rest (id_of e)) (sym (has_id_append pre rest (id_of e)) ∙ none)).1
   | inr later ↦ not_later pre rest id once.1 later
 ]
 
@@ -75,7 +75,7 @@ module _ (left : PlainEvent → List PlainEvent) (own : LeavesOwn left) where
   one_there e id [] is h = absurd (true≢false (sym h))
   one_there e id (d ∷ rest) is h =
       let o = own e d rest is in
-      elim (or_cases (same_id id (id_of d)) (has_id rest id) (sym (has_id-cons d rest id) ∙ h)) [
+      elim (or_cases (same_id id (id_of d)) (has_id rest id) (sym (has_id_cons d rest id) ∙ h)) [
         | inl same ↦ ap (same_id id) (sym o.0) ∙ same
         | inr later ↦ absurd (true≢false (sym later ∙ ap (λ (es : List PlainEvent). has_id es id) o.1))
       ]
@@ -84,7 +84,7 @@ module _ (left : PlainEvent → List PlainEvent) (own : LeavesOwn left) where
   left_there : (es : List PlainEvent) (id : AnyId) → has_id (flat_map left es) id ≡ true → has_id es id ≡ true
   left_there [] id h = h
   left_there (e ∷ es) id h =
-      has_id-cons e es id ∙ elim (or_cases (has_id (left e) id) (has_id (flat_map left es) id) (sym (has_id-append (left e) (flat_map left es) id) ∙ h)) [
+      has_id_cons e es id ∙ elim (or_cases (has_id (left e) id) (has_id (flat_map left es) id) (sym (has_id_append (left e) (flat_map left es) id) ∙ h)) [
         | inl now ↦ or_left (same_id id (id_of e)) (has_id es id) (one_there e id (left e) refl now)
         | inr later ↦ or_right (same_id id (id_of e)) (has_id es id) (left_there es id later)
       ]
@@ -101,7 +101,7 @@ module _ (left : PlainEvent → List PlainEvent) (own : LeavesOwn left) where
       each (id ∷ ids) was now =
           let a = and_parts (has_id pre id) (list_all (has_id pre) ids) was in
           let b = and_parts (has_id (flat_map left (pre ++ rest)) id) (list_all (has_id (flat_map left (pre ++ rest))) ids) now in
-          let both = sym (has_id-append (flat_map left pre) (flat_map left rest) id) ∙ ap (λ (es : List PlainEvent). has_id es id) (sym (flat_map-append left pre rest)) ∙ b.0 in
+          let both = sym (has_id_append (flat_map left pre) (flat_map left rest) id) ∙ ap (λ (es : List PlainEvent). has_id es id) (sym (flat_map-append left pre rest)) ∙ b.0 in
           and_from (has_id (flat_map left pre) id) (list_all (has_id (flat_map left pre)) ids)
           (elim (or_cases (has_id (flat_map left pre) id) (has_id (flat_map left rest) id) both) [
             | inl first ↦ first
@@ -144,7 +144,7 @@ module _ (left : PlainEvent → List PlainEvent) (own : LeavesOwn left) where
   each_ready events once order complete near looked apart pre rest e d whole is =
       elim (cases_Bool (near e)) [
         | inl it ↦
-            let none : has_id pre (id_of e) ≡ false = has_id-find pre (id_of e) ∙ ap is_some (distinct-absent pre rest e once_parts) in
+            let none : has_id pre (id_of e) ≡ false = has_id_find pre (id_of e) ∙ ap is_some (distinct_absent pre rest e once_parts) in
             let gone : has_id front (id_of d) ≡ false =
             false_from_ne_true (has_id front (id_of d)) (λ t. true≢false (sym (left_there pre (id_of d) t) ∙ ap (has_id pre) (own e d [] is).0 ∙ none)) in
             let place : place_of (id_of e) (flat_map left events) ≡ Some (length front) =
@@ -223,7 +223,7 @@ module _ (set : List AnyId) (events : List PlainEvent) (h : IsSound events) (tak
       ((id : ℕ) (parents : List ℕ) (ops : _) → list_any (is_removed set) parents ≡ false → taking.ops id parents ops ≡ ops) →
       AreComplete (without_set set events taking) → AreReadyNear set events (without_set set events taking) → AreInOrder [] (without_set set events taking)
   near_settled stays same complete looked =
-      let once = sound-once events h in
+      let once = sound_once events h in
       subst (AreInOrder []) (sym left_flat)
       (left_in_order left_by leaves_own events
       (each_ready left_by leaves_own events once.ids (in_parts events h).in_order (subst AreComplete left_flat complete) (is_near set)

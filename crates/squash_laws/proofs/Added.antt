@@ -9,8 +9,8 @@ use Rattle.plain_model.specs.declared.event.PlainEvent.TheVariants.{Blob, Commit
 use Rattle.plain_model.specs.Lookups.{AreIdsBelow, find_event, id_of, is_listed}
 use Rattle.plain_model.specs.Soundness.{IsSound, has_id}
 use Rattle.plain_model.specs.Streams.{is_marked}
-use Rattle.history_laws.proofs.Ids.{each_found, has_id-append, is_marked-append}
-use Rattle.history_laws.proofs.SoundOnce.{sound-once}
+use Rattle.history_laws.proofs.Ids.{each_found, has_id_append, is_marked_append}
+use Rattle.history_laws.proofs.SoundOnce.{sound_once}
 use Rattle.edit_laws.specs.Keeping.{AddsNothing}
 use Rattle.edit_laws.specs.Parts.{of_id, of_mark, tally}
 use Rattle.edit_laws.specs.Settling.{settle}
@@ -75,8 +75,8 @@ module _ (set : List AnyId) (events : List PlainEvent) (taking : Takings) where
           let was = counted events in
           let now = counted new in
           omega arith;
-      ids = λ id there. none_new (λ l. has_id l id) (λ xs ys. has_id-append xs ys id) refl events new (no_more (of_id id) (ids_left set events taking id)) there;
-      marks = λ m there. none_new (λ l. is_marked l m) (λ xs ys. is_marked-append xs ys m) refl events new (no_more (of_mark m) (marks_left set events taking m)) there;
+      ids = λ id there. none_new (λ l. has_id l id) (λ xs ys. has_id_append xs ys id) refl events new (no_more (of_id id) (ids_left set events taking id)) there;
+      marks = λ m there. none_new (λ l. is_marked l m) (λ xs ys. is_marked_append xs ys m) refl events new (no_more (of_mark m) (marks_left set events taking m)) there;
       aliases =
           let fewer = no_more own_aliases (each_no_greater own_aliases own_alike) in
           let was = aliases_counted events in
@@ -130,4 +130,4 @@ module _ (how : Policy) (set : List AnyId) (events new : List PlainEvent) (h : I
   still_below next below = fewer_below events new next nothing_added.ids below
 
   pub each_as_it_was : AllByRecursion (IsBareOneOf events) new
-  each_as_it_was = all_one set events taking_of (each_found events (sound-once events h).ids) events new settled_to
+  each_as_it_was = all_one set events taking_of (each_found events (sound_once events h).ids) events new settled_to

@@ -54,15 +54,15 @@ kids_counted p (n ∷ ns) =
     let rest = kids_counted p ns in
     elim (is_first p n.parents) as (λ b. one_if b + kids p ns ≡ length (cond b (n ∷ filter (λ m. is_first p m.parents) ns) (filter (λ m. is_first p m.parents) ns))) [ true ↦ omega arith | false ↦ omega arith ]
 
-kids-append : (p : ℕ) (xs ys : List Node) → kids p (xs ++ ys) ≡ kids p xs + kids p ys
-kids-append p [] ys = omega arith
-kids-append p (x ∷ xs) ys = let rest = kids-append p xs ys in omega arith
+kids_append : (p : ℕ) (xs ys : List Node) → kids p (xs ++ ys) ≡ kids p xs + kids p ys
+kids_append p [] ys = omega arith
+kids_append p (x ∷ xs) ys = let rest = kids_append p xs ys in omega arith
 
 pub kids_reversed : (p : ℕ) (ns : List Node) → kids p (reverse ns) ≡ kids p ns
 kids_reversed p [] = refl
 kids_reversed p (n ∷ ns) =
     let rest = kids_reversed p ns in
-    let parts = kids-append p (reverse ns) (n ∷ []) in
+    let parts = kids_append p (reverse ns) (n ∷ []) in
     let whole : kids p (reverse (n ∷ ns)) ≡ kids p (reverse ns ++ n ∷ []) = ap (kids p) (reverse-append (n ∷ []) ns) in
     omega arith
 

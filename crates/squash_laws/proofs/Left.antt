@@ -18,7 +18,7 @@ use Rattle.edit_laws.specs.Removal.{expand}
 use Rattle.edit_laws.specs.Settling.{is_ready}
 use Rattle.edit_laws.proofs.Chains.{once_each_distinct, parents_stand}
 use Rattle.ancestry_laws.proofs.Pasts.{all_reverse, known_past, linked_past}
-use Rattle.history_laws.proofs.Ids.{has_id-append}
+use Rattle.history_laws.proofs.Ids.{has_id_append}
 use Rattle.history_laws.proofs.Lists.{all_imply, all_join}
 use Rattle.edit_laws.proofs.Fine.{IsFine, There, fine, fine_formed, fine_lawful, ready_ops, ready_parents}
 use Rattle.edit_laws.proofs.Lists.{OfNodes, all_flat, all_true, events_of_nodes, nodes_of_events, own_sum, tally_flat, true_all}
@@ -85,16 +85,16 @@ module _ (set : List AnyId) (events : List PlainEvent) (takes : Takings) where
   commits_in : (es : List PlainEvent) (c : ℕ) → has_id (flat_map (left_of set events takes) es) (any.Commit c) ≡ has_id es (any.Commit c) && not (gone c)
   commits_in [] c = refl
   commits_in (e ∷ es) c =
-      has_id-append (left_of set events takes e) (flat_map (left_of set events takes) es) (any.Commit c)
+      has_id_append (left_of set events takes e) (flat_map (left_of set events takes) es) (any.Commit c)
       ∙ ap (λ b. has_id (left_of set events takes e) (any.Commit c) || b) (commits_in es c)
       ∙ elim (cases_Bool (has_id (e ∷ []) (any.Commit c))) [
         | inl own ↦
             ap (λ b. b || (has_id es (any.Commit c) && not (gone c))) (own_commit e c own)
             ∙ both (has_id es (any.Commit c)) (not (gone c))
-            ∙ sym (ap (λ b. b && not (gone c)) (has_id-append (e ∷ []) es (any.Commit c) ∙ ap (λ b. b || has_id es (any.Commit c)) own))
+            ∙ sym (ap (λ b. b && not (gone c)) (has_id_append (e ∷ []) es (any.Commit c) ∙ ap (λ b. b || has_id es (any.Commit c)) own))
         | inr other ↦
             ap (λ b. b || (has_id es (any.Commit c) && not (gone c))) (no_commit e c other)
-            ∙ sym (ap (λ b. b && not (gone c)) (has_id-append (e ∷ []) es (any.Commit c) ∙ ap (λ b. b || has_id es (any.Commit c)) other))
+            ∙ sym (ap (λ b. b && not (gone c)) (has_id_append (e ∷ []) es (any.Commit c) ∙ ap (λ b. b || has_id es (any.Commit c)) other))
       ]
     where
       both : (a b : Bool) → b || (a && b) ≡ b
@@ -119,10 +119,10 @@ module _ (set : List AnyId) (events : List PlainEvent) (takes : Takings) where
   blobs_in : (es : List PlainEvent) (b : ℕ) → has_id (flat_map (left_of set events takes) es) (any.Blob b) ≡ has_id es (any.Blob b)
   blobs_in [] b = refl
   blobs_in (e ∷ es) b =
-      has_id-append (left_of set events takes e) (flat_map (left_of set events takes) es) (any.Blob b)
+      has_id_append (left_of set events takes e) (flat_map (left_of set events takes) es) (any.Blob b)
       ∙ ap (λ x. has_id (left_of set events takes e) (any.Blob b) || x) (blobs_in es b)
       ∙ ap (λ x. x || has_id es (any.Blob b)) (sym (own_blob e b))
-      ∙ sym (has_id-append (e ∷ []) es (any.Blob b))
+      ∙ sym (has_id_append (e ∷ []) es (any.Blob b))
 
   -- the blobs are all left
   pub blobs_left : (b : ℕ) → has_id (all_left set events takes) (any.Blob b) ≡ has_id events (any.Blob b)

@@ -17,32 +17,32 @@ first_if : (b : Bool) (x : ℕ) (o p : Option ℕ) → first_of (cond b (Some x)
 first_if true x o p = refl
 first_if false x o p = refl
 
-pub blob_marked-append : (es : List PlainEvent) (e : PlainEvent) (m : ℕ) → blob_marked (es ++ e ∷ []) m ≡ first_of (blob_marked es m) (blob_marked (e ∷ []) m)
-blob_marked-append [] e m = refl
-blob_marked-append (Blob id mark bytes ∷ es) e m =
-    ap (cond (mark == m) (Some id)) (blob_marked-append es e m) ∙ sym (first_if (mark == m) id (blob_marked es m) (blob_marked (e ∷ []) m))
-blob_marked-append (_ ∷ es) e m = blob_marked-append es e m
+pub blob_marked_append : (es : List PlainEvent) (e : PlainEvent) (m : ℕ) → blob_marked (es ++ e ∷ []) m ≡ first_of (blob_marked es m) (blob_marked (e ∷ []) m)
+blob_marked_append [] e m = refl
+blob_marked_append (Blob id mark bytes ∷ es) e m =
+    ap (cond (mark == m) (Some id)) (blob_marked_append es e m) ∙ sym (first_if (mark == m) id (blob_marked es m) (blob_marked (e ∷ []) m))
+blob_marked_append (_ ∷ es) e m = blob_marked_append es e m
 
-pub commit_marked-append : (es : List PlainEvent) (e : PlainEvent) (m : ℕ) → commit_marked (es ++ e ∷ []) m ≡ first_of (commit_marked es m) (commit_marked (e ∷ []) m)
-commit_marked-append [] e m = refl
-commit_marked-append (Commit id mark branch author committer encoding comment parents ops aliases ∷ es) e m =
-    ap (λ o. cond (mark == m) (Some id) (cond (is_among aliases m) (Some id) o)) (commit_marked-append es e m)
+pub commit_marked_append : (es : List PlainEvent) (e : PlainEvent) (m : ℕ) → commit_marked (es ++ e ∷ []) m ≡ first_of (commit_marked es m) (commit_marked (e ∷ []) m)
+commit_marked_append [] e m = refl
+commit_marked_append (Commit id mark branch author committer encoding comment parents ops aliases ∷ es) e m =
+    ap (λ o. cond (mark == m) (Some id) (cond (is_among aliases m) (Some id) o)) (commit_marked_append es e m)
     ∙ sym (first_if (mark == m) id (cond (is_among aliases m) (Some id) (commit_marked es m)) (commit_marked (e ∷ []) m)
     ∙ ap (cond (mark == m) (Some id)) (first_if (is_among aliases m) id (commit_marked es m) (commit_marked (e ∷ []) m)))
-commit_marked-append (_ ∷ es) e m = commit_marked-append es e m
+commit_marked_append (_ ∷ es) e m = commit_marked_append es e m
 
-pub tag_marked-append : (es : List PlainEvent) (e : PlainEvent) (m : ℕ) → tag_marked (es ++ e ∷ []) m ≡ (tag_marked es m || tag_marked (e ∷ []) m)
-tag_marked-append [] e m = refl
-tag_marked-append (Tag id name target tagger comment mark ∷ es) e m =
-    ap (λ b. is_among (option_to_list mark) m || b) (tag_marked-append es e m) ∙ or_assoc (is_among (option_to_list mark) m) (tag_marked es m) (tag_marked (e ∷ []) m)
+pub tag_marked_append : (es : List PlainEvent) (e : PlainEvent) (m : ℕ) → tag_marked (es ++ e ∷ []) m ≡ (tag_marked es m || tag_marked (e ∷ []) m)
+tag_marked_append [] e m = refl
+tag_marked_append (Tag id name target tagger comment mark ∷ es) e m =
+    ap (λ b. is_among (option_to_list mark) m || b) (tag_marked_append es e m) ∙ or_assoc (is_among (option_to_list mark) m) (tag_marked es m) (tag_marked (e ∷ []) m)
   where
     or_assoc : (a b c : Bool) → (a || (b || c)) ≡ ((a || b) || c)
     or_assoc true b c = refl
     or_assoc false b c = refl
-tag_marked-append (Blob id mark bytes ∷ es) e m = tag_marked-append es e m
-tag_marked-append (Commit id mark branch author committer encoding comment parents ops aliases ∷ es) e m = tag_marked-append es e m
-tag_marked-append (Reset id branch target ∷ es) e m = tag_marked-append es e m
-tag_marked-append (Pass id line ∷ es) e m = tag_marked-append es e m
+tag_marked_append (Blob id mark bytes ∷ es) e m = tag_marked_append es e m
+tag_marked_append (Commit id mark branch author committer encoding comment parents ops aliases ∷ es) e m = tag_marked_append es e m
+tag_marked_append (Reset id branch target ∷ es) e m = tag_marked_append es e m
+tag_marked_append (Pass id line ∷ es) e m = tag_marked_append es e m
 
 -- which of a blob, a commit and a tag has a mark
 abbrev by_kind : Option ℕ → Option ℕ → Bool → Bool
@@ -78,19 +78,19 @@ marked_by_kind (Tag id name target tagger comment mark ∷ es) m =
 marked_by_kind (Reset id branch target ∷ es) m = marked_by_kind es m
 marked_by_kind (Pass id line ∷ es) m = marked_by_kind es m
 
-pub greatest_mark-append : (es : List PlainEvent) (e : PlainEvent) → greatest_mark (es ++ e ∷ []) ≡ max (greatest_mark es) (top_mark e)
-greatest_mark-append es e = fold-append (λ n x. max n (top_mark x)) 0 es (e ∷ [])
+pub greatest_mark_append : (es : List PlainEvent) (e : PlainEvent) → greatest_mark (es ++ e ∷ []) ≡ max (greatest_mark es) (top_mark e)
+greatest_mark_append es e = fold-append (λ n x. max n (top_mark x)) 0 es (e ∷ [])
 
 -- ---- tips
 
-refs_after-append : (t : TreeOf ℕ) (es : List PlainEvent) (e : PlainEvent) → refs_after t (es ++ e ∷ []) ≡ refs_after (refs_after t es) (e ∷ [])
-refs_after-append t [] e = refl
-refs_after-append t (Blob id mark bytes ∷ es) e = refs_after-append t es e
-refs_after-append t (Commit id mark branch author committer encoding comment parents ops aliases ∷ es) e = refs_after-append (put branch id t) es e
-refs_after-append t (Tag id name target tagger comment mark ∷ es) e = refs_after-append t es e
-refs_after-append t (Reset id branch None ∷ es) e = refs_after-append _ es e
-refs_after-append t (Reset id branch (Some c) ∷ es) e = refs_after-append (put branch c t) es e
-refs_after-append t (Pass id line ∷ es) e = refs_after-append t es e
+refs_after_append : (t : TreeOf ℕ) (es : List PlainEvent) (e : PlainEvent) → refs_after t (es ++ e ∷ []) ≡ refs_after (refs_after t es) (e ∷ [])
+refs_after_append t [] e = refl
+refs_after_append t (Blob id mark bytes ∷ es) e = refs_after_append t es e
+refs_after_append t (Commit id mark branch author committer encoding comment parents ops aliases ∷ es) e = refs_after_append (put branch id t) es e
+refs_after_append t (Tag id name target tagger comment mark ∷ es) e = refs_after_append t es e
+refs_after_append t (Reset id branch None ∷ es) e = refs_after_append _ es e
+refs_after_append t (Reset id branch (Some c) ∷ es) e = refs_after_append (put branch c t) es e
+refs_after_append t (Pass id line ∷ es) e = refs_after_append t es e
 
-pub refs-append : (es : List PlainEvent) (e : PlainEvent) → refs (es ++ e ∷ []) ≡ refs_after (refs es) (e ∷ [])
-refs-append es e = refs_after-append [] es e
+pub refs_append : (es : List PlainEvent) (e : PlainEvent) → refs (es ++ e ∷ []) ≡ refs_after (refs es) (e ∷ [])
+refs_append es e = refs_after_append [] es e

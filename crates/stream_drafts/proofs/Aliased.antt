@@ -6,17 +6,17 @@ use Rattle.stream_drafts.specs.Aliased.{IsIndex}
 use Rattle.stream_drafts.specs.Indexed.{first_of}
 
 -- the first of two places where a mark is found
-pub lookup-append : (aliases : List (ℕ × ℕ)) (mark commit m : ℕ)
+pub lookup_append : (aliases : List (ℕ × ℕ)) (mark commit m : ℕ)
     → lookup (λ a. a == m) (aliases ++ (mark, commit) ∷ []) ≡ first_of (lookup (λ a. a == m) aliases) (cond (mark == m) (Some commit) None)
-lookup-append [] mark commit m = refl
-lookup-append (a ∷ aliases) mark commit m = ap (cond (a.0 == m) (Some a.1)) (lookup-append aliases mark commit m) ∙ go (a.0 == m)
+lookup_append [] mark commit m = refl
+lookup_append (a ∷ aliases) mark commit m = ap (cond (a.0 == m) (Some a.1)) (lookup_append aliases mark commit m) ∙ go (a.0 == m)
   where
     go : (b : Bool) → cond b (Some a.1) (first_of (lookup (λ x. x == m) aliases) (cond (mark == m) (Some commit) None))
         ≡ first_of (cond b (Some a.1) (lookup (λ x. x == m) aliases)) (cond (mark == m) (Some commit) None)
     go true = refl
     go false = refl
 
-pub IsIndex-push : (aliases all : List (ℕ × ℕ)) (mark commit : ℕ) (old mid new : ℕ → Option ℕ) → all ≡ aliases ++ (mark, commit) ∷ []
+pub IsIndex_push : (aliases all : List (ℕ × ℕ)) (mark commit : ℕ) (old mid new : ℕ → Option ℕ) → all ≡ aliases ++ (mark, commit) ∷ []
     → IsIndex aliases old → ((m : ℕ) → mid m ≡ old m) → ((m : ℕ) → new m ≡ first_of (mid m) (cond (mark == m) (Some commit) None)) → IsIndex all new
-IsIndex-push aliases all mark commit old mid new is i same noted = λ m.
-    noted m ∙ ap (λ o. first_of o (cond (mark == m) (Some commit) None)) (same m ∙ i m) ∙ sym (lookup-append aliases mark commit m) ∙ ap (lookup (λ a. a == m)) (sym is)
+IsIndex_push aliases all mark commit old mid new is i same noted = λ m.
+    noted m ∙ ap (λ o. first_of o (cond (mark == m) (Some commit) None)) (same m ∙ i m) ∙ sym (lookup_append aliases mark commit m) ∙ ap (lookup (λ a. a == m)) (sym is)

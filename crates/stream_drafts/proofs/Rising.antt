@@ -7,7 +7,7 @@ use Rattle.std.specs.List.Sorted.{IsBinarySearchResult, IsSearchInRange}
 use Rattle.std.specs.Map.{lookup}
 use Rattle.std.specs.Ordering.{nat_cmp}
 use Rattle.std.specs.Prelude.{◌==◌, nat_lt, MatchResult}
-use Rattle.stream_drafts.proofs.Aliased.{lookup-append}
+use Rattle.stream_drafts.proofs.Aliased.{lookup_append}
 use Rattle.stream_drafts.specs.Indexed.{first_of}
 use Rattle.stream_drafts.specs.Rising.{RiseFrom, found_by, last_from}
 
@@ -94,10 +94,10 @@ found_more es others rise no_other n x h m =
     elim (cases_Bool (n == m)) [
       | inl equal ↦
           let is : n ≡ m = grind (arith, nat_tests, equal) in
-          ap (λ o. first_of o (others m)) (lookup-append es n x m)
+          ap (λ o. first_of o (others m)) (lookup_append es n x m)
           ∙ rw (equal, none_above 0 es rise m (omega arith), no_other m (omega arith)) refl
       | inr unequal ↦
-          ap (λ o. first_of o (others m)) (lookup-append es n x m)
+          ap (λ o. first_of o (others m)) (lookup_append es n x m)
           ∙ rw unequal (drop_none (lookup (λ a. a == m) es) (others m))
     ]
   where

@@ -32,18 +32,18 @@ over_at most text i v lt low high same above =
     ∙ value_from_above most (drop (i + 1) text) (10 * v + (d - 48)) above
 
 -- digits say a number
-pub is_some-value_from : (n : ℕ) (ds : List ℕ) → is_some (value_from n ds) ≡ list_all is_digit ds
-is_some-value_from n [] = refl
-is_some-value_from n (d ∷ ds) = go (is_digit d) (is_some-value_from (10 * n + (d - 48)) ds)
+pub is_some_value_from : (n : ℕ) (ds : List ℕ) → is_some (value_from n ds) ≡ list_all is_digit ds
+is_some_value_from n [] = refl
+is_some_value_from n (d ∷ ds) = go (is_digit d) (is_some_value_from (10 * n + (d - 48)) ds)
   where
     go : (b : Bool) → is_some (value_from (10 * n + (d - 48)) ds) ≡ list_all is_digit ds → is_some (cond b (value_from (10 * n + (d - 48)) ds) None) ≡ (b && list_all is_digit ds)
     go true e = e
     go false e = refl
 
-pub is_some-number_of : (ds : List ℕ) → ds ≢ [] → is_some (number_of ds) ≡ list_all is_digit ds
+pub is_some_number_of : (ds : List ℕ) → ds ≢ [] → is_some (number_of ds) ≡ list_all is_digit ds
 unfolding number_of
-is_some-number_of [] h = absurd (h refl)
-is_some-number_of (d ∷ ds) h = is_some-value_from 0 (d ∷ ds)
+is_some_number_of [] h = absurd (h refl)
+is_some_number_of (d ∷ ds) h = is_some_value_from 0 (d ∷ ds)
 
 pub some_bytes : (ds : List ℕ) → (length ds == 0) ≡ false → ds ≢ []
 some_bytes [] h = absurd (cc)

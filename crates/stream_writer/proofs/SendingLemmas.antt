@@ -20,9 +20,9 @@ use Rattle.stream_writer.specs.Sending.{IsOnItsWay, SendsFirst, closing, to_come
 next_item : {X : Type 0} (xs : List X) (k : ℕ) (x : X) → slice_get xs k ≡ Some x → drop k xs ≡ x ∷ drop (suc k) xs
 next_item xs k x is = drop-cons xs k x (slice_get_within xs k x is) ∙ ap (λ y. y ∷ drop (suc k) xs) (get_or_from_slice_get xs k x x is)
 
-to_come-cons : (whole : List PlainEvent) (tips : TreeOf ℕ) (promised : Bool) (e : PlainEvent) (rest : List PlainEvent)
+to_come_cons : (whole : List PlainEvent) (tips : TreeOf ℕ) (promised : Bool) (e : PlainEvent) (rest : List PlainEvent)
     → to_come whole tips promised (e ∷ rest) ≡ event_text whole tips e ++ to_come whole (refs_after tips (e ∷ [])) (promised || is_feature_done e) rest
-to_come-cons whole tips promised e rest =
+to_come_cons whole tips promised e rest =
     let others = text_from whole (refs_after tips (e ∷ [])) rest in
     append_assoc (event_text whole tips e) others (closing promised (e ∷ rest))
     ∙ ap (λ (b : Bool). event_text whole tips e ++ (others ++ (if b then line (codes "done") else []))) (sym (or_assoc promised (is_feature_done e) (list_any is_feature_done rest)))
@@ -31,7 +31,7 @@ to_come-cons whole tips promised e rest =
 pub comes_next : (whole : List PlainEvent) (tips : TreeOf ℕ) (promised : Bool) (place : ℕ) (e : PlainEvent) → slice_get whole place ≡ Some e
     → to_come whole tips promised (drop place whole) ≡ event_text whole tips e ++ to_come whole (refs_after tips (e ∷ [])) (promised || is_feature_done e) (drop (suc place) whole)
 comes_next whole tips promised place e is =
-    ap (λ (rest : List PlainEvent). to_come whole tips promised rest) (next_item whole place e is) ∙ to_come-cons whole tips promised e (drop (suc place) whole)
+    ap (λ (rest : List PlainEvent). to_come whole tips promised rest) (next_item whole place e is) ∙ to_come_cons whole tips promised e (drop (suc place) whole)
 
 -- after the last event only the end comes
 pub comes_last : (whole : List PlainEvent) (tips : TreeOf ℕ) (promised : Bool) (place : ℕ) → length whole ≤ place → to_come whole tips promised (drop place whole) ≡ closing promised []

@@ -1,7 +1,6 @@
 -- A change of the load list, of which the outside hears nothing, as a command.
 use Rattle.std.proofs.Common.{◌≡◌, List, Result, Ok, Err, refl, sym, ap, subst}
 use Rattle.std.specs.Prelude.{OnErr}
-use Rattle.plain_model.specs.Files.{Files}
 use Rattle.plain_model.specs.declared.fault.Fault.{Fault}
 use Rattle.plain_model.specs.declared.fault.Halt.{Halt}
 use Rattle.script_reader.specs.Macros.{Macro}
@@ -18,8 +17,13 @@ pub list_changed : (s : StoreState) (k : SinkState) (old new : LoadList) (macros
     (answer : Result (Unit {0}) Halt) (r : Result (Unit {0}) Halted) → r ≡ of_answer answer → Changes after old answer new → OnErr answer (new ≡ old)
     → CarriesOut no_calls s k (session_of old macros) reads_no_file (λ files. changes (after (session_of old macros))) r (session_of new macros) s k
 list_changed s k old new macros reads_no_file after (Ok done) r is changed kept =
-    subst (λ (x : Result (Unit {0}) Halted). CarriesOut no_calls s k (session_of old macros) reads_no_file (λ files. changes (after (session_of old macros))) x (session_of new macros) s k) (sym is)
-    (done_alone no_calls s k (session_of old macros) (session_of new macros) reads_no_file (λ files. changes (after (session_of old macros))) done (λ files. ap changes (changed macros)))
+    let before = session_of old macros in
+    let now = session_of new macros in
+    subst (λ (x : Result (Unit {0}) Halted). CarriesOut no_calls s k before reads_no_file (λ files. changes (after before)) x now s k) (sym is)
+    (done_alone no_calls s k before now reads_no_file (λ files. changes (after before)) done (λ files. ap changes (changed macros)))
 list_changed s k old new macros reads_no_file after (Err why) r is changed kept =
-    halted_alone no_calls s k (session_of old macros) (session_of new macros) reads_no_file (λ files. changes (after (session_of old macros))) why r (rw is refl)
-    (λ files. halts_after why (after (session_of old macros)) _ (returned {X = Unit {0}} (λ _. session_of new macros) why (after (session_of old macros)) (changed macros))) (ap (λ (list : LoadList). session_of list macros) kept)
+    let before = session_of old macros in
+    let now = session_of new macros in
+    halted_alone no_calls s k before now reads_no_file (λ files. changes (after before)) why r (rw is refl)
+    (λ files. halts_after why (after before) _ (returned {X = Unit {0}} (λ _. now) why (after before) (changed macros)))
+    (ap (λ (list : LoadList). session_of list macros) kept)

@@ -1,5 +1,5 @@
-//! The load list with its choice: calls by name, and the chosen repository, found by its place. `choosing` chooses and forgets,
-//! `changing` is what is done to the chosen one.
+//! The load list with its choice: calls by name, and the chosen repository, found by its place. `choosing` chooses and
+//! forgets, `changing` is what is done to the chosen one.
 ghost use Rattle.std.specs.Prelude.{
   ◌≡◌,
   ◌<◌,
@@ -34,8 +34,8 @@ use plain_model::{Fault, Halt, Items, MAX_REPOSITORIES, NoMemory, Text};
 use std::alloc::Global;
 use std::marker::Model;
 
-/// The loaded histories under their names, in the order in which they were loaded, and the name of the one that is chosen, if
-/// one is. (own)
+/// The loaded histories under their names, in the order in which they were loaded, and the name of the one that is
+/// chosen, if one is. (own)
 #[derive(Drop)]
 pub struct LoadList {
     alloc: Global,

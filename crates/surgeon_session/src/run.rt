@@ -21,8 +21,8 @@ ghost use Rattle.surgeon_session.specs.declared.line_end.LineEnd.TheVariants as 
 ghost use Rattle.surgeon_store.specs.Outside.{Puts, PutsSome, StoreState};
 
 use crate::halted::Halted;
-use crate::session::Session;
 use crate::line_end::{Broken, LineEnd};
+use crate::session::Session;
 use crate::worklist::Worklist;
 use byte_patterns::Patterns;
 use history_machine::Waiting;

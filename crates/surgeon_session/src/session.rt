@@ -1,5 +1,5 @@
-//! What a session holds, and one command. What changes the load list alone is a call of it. The parts: `loading` reads and makes
-//! histories, `showing` makes the texts that are written and listed.
+//! What a session holds, and one command. What changes the load list alone is a call of it. The parts: `loading` reads
+//! and makes histories, `showing` makes the texts that are written and listed.
 ghost use Rattle.std.specs.Prelude.{◌≡◌, ◌≤◌, IfOk, OnErr, OnOk};
 ghost use Rattle.byte_patterns.specs.Judging.{Judges};
 ghost use Rattle.event_sets.specs.Once.{IsOnce};

@@ -29,19 +29,19 @@ abbrev pub or_else : Option (List ℕ) → Option (List ℕ) → Option (List �
 or_else (Some bytes) other = Some bytes
 or_else None other = other
 
-or_else-cond : (b : Bool) (bytes : List ℕ) (one other : Option (List ℕ)) → cond b (Some bytes) (or_else one other) ≡ or_else (cond b (Some bytes) one) other
-or_else-cond true bytes one other = refl
-or_else-cond false bytes one other = refl
+or_else_cond : (b : Bool) (bytes : List ℕ) (one other : Option (List ℕ)) → cond b (Some bytes) (or_else one other) ≡ or_else (cond b (Some bytes) one) other
+or_else_cond true bytes one other = refl
+or_else_cond false bytes one other = refl
 
 pub lookup_append : (es fs : List FileEntry) (q : List ℕ) → lookup q (es ++ fs) ≡ or_else (lookup q es) (lookup q fs)
 lookup_append [] fs q = refl
 lookup_append (e ∷ es) fs q =
     ap (cond (pointwise nat_eq q e.name) (Some e.bytes)) (lookup_append es fs q)
-    ∙ or_else-cond (pointwise nat_eq q e.name) e.bytes (lookup q es) (lookup q fs)
+    ∙ or_else_cond (pointwise nat_eq q e.name) e.bytes (lookup q es) (lookup q fs)
 
 -- the bytes of a file are put in twice
-insert-insert : (files : Files) (name v w : List ℕ) → insert (insert files name v) name w ≡ insert files name w
-insert-insert files name v w =
+insert_insert : (files : Files) (name v w : List ℕ) → insert (insert files name v) name w ≡ insert files name w
+insert_insert files name v w =
     same_map nat_list_cmp_total (slice_cmp-IsAntisymmetric nat_cmp-IsAntisymmetric) _ _ (λ q.
     get-insert nat_list_cmp_total (insert files name v) name w q
     ∙ ap (cond (eq_by_cmp name_cmp q name) (Some w)) (get-insert nat_list_cmp_total files name v q)
@@ -53,9 +53,9 @@ insert-insert files name v w =
     once false o = refl
 
 -- the file that was put in last has more bytes
-pub appended-insert : (files : Files) (name v bytes : List ℕ) → appended (insert files name v) name bytes ≡ insert files name (v ++ bytes)
-appended-insert files name v bytes =
-    insert-insert files name v (bytes_in (insert files name v) name ++ bytes)
+pub appended_insert : (files : Files) (name v bytes : List ℕ) → appended (insert files name v) name bytes ≡ insert files name (v ++ bytes)
+appended_insert files name v bytes =
+    insert_insert files name v (bytes_in (insert files name v) name ++ bytes)
     ∙ ap (λ (o : Option (List ℕ)). insert files name (unwrap_or o [] ++ bytes)) held
   where
     held : get (insert files name v) name ≡ Some v
@@ -65,7 +65,7 @@ appended-insert files name v bytes =
 files_grown : (is_begun : Bool) (made given : List FileEntry) (bytes : List ℕ)
     → IfSome (begun_name is_begun made) (λ name. Some (files_of (grown bytes made ++ given)) ≡ Some (appended (files_of (made ++ given)) name bytes))
 files_grown is_begun [] given bytes = tt
-files_grown true (e ∷ es) given bytes = ap (λ (files : Files). Some files) (sym (appended-insert (files_of (es ++ given)) e.name e.bytes bytes))
+files_grown true (e ∷ es) given bytes = ap (λ (files : Files). Some files) (sym (appended_insert (files_of (es ++ given)) e.name e.bytes bytes))
 files_grown false (e ∷ es) given bytes = tt
 
 -- the file that is written has all bytes of a piece more

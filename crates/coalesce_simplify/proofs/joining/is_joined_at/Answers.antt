@@ -3,7 +3,7 @@ use Rattle.std.proofs.lemmas.Option.{same_Some}
 use Rattle.plain_model.specs.declared.event.PlainEvent.{PlainEvent}
 use Rattle.plain_model.specs.declared.id.AnyId.TheVariants as any
 use Rattle.plain_model.specs.Lookups.{children_of, commit_id, find_event, id_of}
-use Rattle.history_laws.proofs.Ids.{find-id}
+use Rattle.history_laws.proofs.Ids.{find_id}
 use Rattle.plan_steps.proofs.WayLemmas.{commit_own, no_id}
 use Rattle.coalesce_simplify.specs.Joining.{only_of}
 use Rattle.coalesce_simplify.proofs.Joins.{by_child, lost_child, no_child, others_stay, passes, unselected}
@@ -35,7 +35,7 @@ is_joined_to-requires-clause-child c =
     let events = c.args.chosen.now.events in
     let next = c.in-Some-event.next.now in
     let found : find_event (any.Commit c.in-Some.child) events ≡ Some next = sym (c.in-Some-event.ensures ∙ ap (find_event (any.Commit c.in-Some.child)) c.events-2.ensures) in
-    ap (λ id. find_event id events) (sym (find-id (any.Commit c.in-Some.child) events next found)) ∙ found
+    ap (λ id. find_event id events) (sym (find_id (any.Commit c.in-Some.child) events next found)) ∙ found
 
 pub is_joined_to-requires-clause-only : goal.is_joined_to-requires-clause-only
 is_joined_to-requires-clause-only c own below own_is below_is =
@@ -46,7 +46,7 @@ is_joined_to-requires-clause-only c own below own_is below_is =
     let found : find_event (any.Commit d) events ≡ Some next = sym (c.in-Some-event.ensures ∙ ap (find_event (any.Commit d)) c.events-2.ensures) in
     let only : only_of (children_of v.id events) ≡ Some d = ap (λ (es : List PlainEvent). only_of (children_of v.id es)) (sym c.events.ensures) ∙ sym c.only_child.ensures ∙ c.in-Some.is in
     let first : v.id ≡ own = same_Some v.id own (sym (ap commit_id v.is) ∙ own_is) in
-    let second : d ≡ below = same_Some d below (sym (commit_own d next (find-id (any.Commit d) events next found)) ∙ below_is) in
+    let second : d ≡ below = same_Some d below (sym (commit_own d next (find_id (any.Commit d) events next found)) ∙ below_is) in
     ap (λ n. only_of (children_of n events)) (sym first) ∙ only ∙ ap (λ n. Some n) second
 
 pub returns-in-Some-event : goal.returns-in-Some-event

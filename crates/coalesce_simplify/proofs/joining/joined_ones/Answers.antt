@@ -3,7 +3,7 @@ use Rattle.plain_model.specs.declared.id.AnyId.{AnyId}
 use Rattle.plain_model.specs.declared.event.PlainEvent.{PlainEvent}
 use Rattle.plain_model.specs.Lookups.{id_of}
 use Rattle.history_laws.proofs.Lists.{item_at}
-use Rattle.event_arena.proofs.ListLemmas.{take-all}
+use Rattle.event_arena.proofs.ListLemmas.{take_all}
 use Rattle.plan_steps.proofs.SweepLemmas.{passing_item}
 use Rattle.coalesce_simplify.proofs.Joins.{passes}
 use Rattle.coalesce_simplify.proofs.joining.joined_ones.Goals as goal
@@ -35,4 +35,4 @@ returns c =
     let events = c.args.chosen.now.events in
     c.loop-place.invariant
     ∙ ap (λ (es : List PlainEvent). map id_of (filter (passes c.args.seconds c.args.chosen.now.set events) es))
-    (take-all events c.loop-place.place (let all = c.loop-place-test.false in let count = c.count-place-end.ensures.count in omega arith))
+    (take_all events c.loop-place.place (let all = c.loop-place-test.false in let count = c.count-place-end.ensures.count in omega arith))

@@ -1,5 +1,5 @@
 use Rattle.std.proofs.Common.{◌∙◌, ◌++◌, ◌∷◌, [], add-one, sym}
-use Rattle.event_sets.proofs.BitLemmas.{picks-more, picks-skip}
+use Rattle.event_sets.proofs.BitLemmas.{picks_more, picks_skip}
 use Rattle.event_sets.proofs.bits.picked.Goals as goal
 use Rattle.event_sets.proofs.bits.picked.Goals.{then-bits-place+in_ok-push, else-bits-place}
 
@@ -11,7 +11,7 @@ loop-place-preserved c =
     elim c.if-bits-place.branch [
       | then-bits-place+in_ok-push w ↦ rw (w.ids-is, add-one)
           (w.in_ok-push.ensures.ok ∙ (λ i. c.loop-place.invariant i ++ w.id.ensures i ∷ [])
-          ∙ sym (picks-more bits es k w.nth.result.now w.nth.ensures.event w.if-bits-place.true))
+          ∙ sym (picks_more bits es k w.nth.result.now w.nth.ensures.event w.if-bits-place.true))
       | else-bits-place w ↦ rw (w.ids-is, add-one) (c.loop-place.invariant
-          ∙ sym (picks-skip bits es k w.if-bits-place.false))
+          ∙ sym (picks_skip bits es k w.if-bits-place.false))
     ]

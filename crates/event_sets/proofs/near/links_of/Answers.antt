@@ -1,6 +1,6 @@
 use Rattle.std.proofs.Common.{◌∙◌, add-one, arith}
 use Rattle.event_sets.specs.Around.{linked}
-use Rattle.event_sets.proofs.NearLemmas.{found-all, found-more, found-skip}
+use Rattle.event_sets.proofs.NearLemmas.{found_all, found_more, found_skip}
 use Rattle.event_sets.proofs.near.links_of.Goals as goal
 use Rattle.event_sets.proofs.near.links_of.Goals.{then-bits-place, else-bits-place}
 
@@ -15,13 +15,13 @@ loop-place-preserved c =
       | then-bits-place w ↦ rw (w.near-is, add-one) (record {
         count = w.set_linked.ensures.count ∙ c.loop-place.invariant.count;
         found =
-            found-more (linked es) es bits k w.nth.result.now c.loop-place.near.items w.set_linked.new.bits.items
+            found_more (linked es) es bits k w.nth.result.now c.loop-place.near.items w.set_linked.new.bits.items
             w.nth.ensures.event w.if-bits-place.true w.set_linked.ensures.adds c.loop-place.invariant.found;
       })
       | else-bits-place w ↦ rw (w.near-is, add-one) (record {
         count = c.loop-place.invariant.count;
         found =
-            found-skip (linked es) es bits k c.loop-place.near.items (omega arith) w.if-bits-place.false
+            found_skip (linked es) es bits k c.loop-place.near.items (omega arith) w.if-bits-place.false
             c.loop-place.invariant.found;
       })
     ]
@@ -31,5 +31,5 @@ returns-clause-links c =
     let es = c.args.events.now.list in
     let count = c.count-place-end.ensures.count in
     let past = c.loop-place-test.false in
-    found-all (linked es) es c.args.bits.now c.loop-place.place c.loop-place.near.items (omega arith)
+    found_all (linked es) es c.args.bits.now c.loop-place.place c.loop-place.near.items (omega arith)
     c.loop-place.invariant.found

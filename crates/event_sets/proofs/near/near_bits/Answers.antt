@@ -4,7 +4,7 @@ use Rattle.plain_model.specs.Lookups.{id_of, is_listed}
 use Rattle.history_laws.proofs.Lists.{item_at}
 use Rattle.graph_walk.proofs.EntryLemmas.{length_more}
 use Rattle.event_sets.specs.Sets.{around, members}
-use Rattle.event_sets.proofs.SetLemmas.{map-more}
+use Rattle.event_sets.proofs.SetLemmas.{map_more}
 use Rattle.event_sets.proofs.near.near_bits.Goals as goal
 
 pub loop-place-preserved : goal.loop-place-preserved
@@ -22,5 +22,5 @@ loop-place-preserved c =
           c.in_ok-push.ensures.items
           ∙ (λ i. c.loop-place.invariant.near ids tied live i ++ c.is_near.ensures ids tied live
           (c.as_slice.ensures.value ∙ c.in_ok-links.ensures.links ids tied) item.0 item.1 i ∷ [])
-          ∙ sym (map-more (λ e. is_listed (id_of e) (flat_map (around es) (members es ids))) es k item.0 item.1);
+          ∙ sym (map_more (λ e. is_listed (id_of e) (flat_map (around es) (members es ids))) es k item.0 item.1);
     })

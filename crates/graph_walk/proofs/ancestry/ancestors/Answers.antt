@@ -3,7 +3,7 @@ use Rattle.std.proofs.lemmas.List.{length-replicate}
 use Rattle.plain_model.specs.declared.event.PlainEvent.{PlainEvent}
 use Rattle.plain_model.specs.Lookups.{event_parents}
 use Rattle.history_laws.proofs.Lists.{item_at}
-use Rattle.history_laws.proofs.SoundOnce.{sound-once}
+use Rattle.history_laws.proofs.SoundOnce.{sound_once}
 use Rattle.graph_walk.specs.Flags.{FlagsMore, flagged_ids}
 use Rattle.graph_walk.proofs.FlagLemmas.{if_ok, no_flag, refilled}
 use Rattle.graph_walk.proofs.ClosureLemmas.{AreClosedFrom, closed_all, closed_first, closed_more}
@@ -13,7 +13,7 @@ pub loop-done-init : goal.loop-done-init
 loop-done-init c =
     let events = c.args.events.now.list in
     let sound = c.count-count.ensures.sound in
-    let once = (sound-once events sound).ids in
+    let once = (sound_once events sound).ids in
     let old = c.in_ok-flags.flags.items in
     let new = c.flag_all.new.flags in
     let more : FlagsMore events c.args.set.now old new = subst (λ (fs : List Bool). FlagsMore events c.args.set.now fs new) c.deref_mut.ensures.value c.flag_all.ensures in
@@ -27,7 +27,7 @@ pub loop-done-preserved : goal.loop-done-preserved
 loop-done-preserved c =
     let events = c.args.events.now.list in
     let sound = c.count-count.ensures.sound in
-    let once = (sound-once events sound).ids in
+    let once = (sound_once events sound).ids in
     let count = c.count-count.result in
     let done = c.loop-done.done in
     let place = count - 1 - done in
@@ -48,7 +48,7 @@ pub returns : goal.returns
 returns c =
     let events = c.args.events.now.list in
     let sound = c.count-count.ensures.sound in
-    let once = (sound-once events sound).ids in
+    let once = (sound_once events sound).ids in
     let end : c.count-count.result - c.loop-done.done ≡ 0 = let test = c.loop-done-test.false in omega arith in
     let closed = subst (λ k. AreClosedFrom events c.args.set.now k c.loop-done.flags.items) end c.loop-done.invariant in
     if_ok c.flagged.result _ _ (λ ids is. is ∙ ap (λ (fs : List Bool). flagged_ids fs events) c.deref.ensures.value ∙ closed_all events sound once c.args.set.now c.loop-done.flags.items closed) c.flagged.ensures

@@ -2,7 +2,7 @@ use Rattle.std.proofs.Common.{◌≡◌, ◌∙◌, ◌≤◌, ◌||◌, List, B
 use Rattle.std.proofs.Math.ListN.{set}
 use Rattle.std.specs.List.{list_any}
 use Rattle.plain_model.specs.Lookups.{event_parents}
-use Rattle.history_laws.proofs.SoundOnce.{sound-once}
+use Rattle.history_laws.proofs.SoundOnce.{sound_once}
 use Rattle.graph_walk.specs.Flags.{flagged_ids, is_flagged_commit}
 use Rattle.graph_walk.proofs.DescendantLemmas.{AreSettledTo, settled_all, settled_more}
 use Rattle.graph_walk.proofs.FlagLemmas.{if_ok, refilled}
@@ -14,7 +14,7 @@ pub loop-place-preserved : goal.loop-place-preserved
 loop-place-preserved c =
     let events = c.args.events.now.list in
     let sound = c.count-place-end.ensures.sound in
-    let once = (sound-once events sound).ids in
+    let once = (sound_once events sound).ids in
     let place = c.loop-place.place in
     let old = c.loop-place.flags.items in
     let new = c.flag_child.new.flags in
@@ -30,6 +30,6 @@ pub returns : goal.returns
 returns c =
     let events = c.args.events.now.list in
     let sound = c.count-place-end.ensures.sound in
-    let once = (sound-once events sound).ids in
+    let once = (sound_once events sound).ids in
     let all : length events ≤ c.loop-place.place = let test = c.loop-place-test.false in let count = c.count-place-end.ensures.count in omega arith in
     if_ok c.flagged.result _ _ (λ ids is. is ∙ ap (λ (fs : List Bool). flagged_ids fs events) c.deref.ensures.value ∙ settled_all events sound once c.args.set.now c.loop-place.place c.loop-place.flags.items all c.loop-place.invariant) c.flagged.ensures

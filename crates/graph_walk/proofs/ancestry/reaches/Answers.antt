@@ -2,9 +2,9 @@ use Rattle.std.proofs.Common.{◌≡◌, ◌∙◌, ◌-◌, ◌+◌, ◌≤◌,
 use Rattle.std.specs.Prelude.{is_some}
 use Rattle.std.proofs.lemmas.List.{length-replicate}
 use Rattle.plain_model.specs.declared.id.AnyId.TheVariants as any
-use Rattle.history_laws.proofs.Ids.{found-place}
+use Rattle.history_laws.proofs.Ids.{found_place}
 use Rattle.history_laws.proofs.Lists.{item_at}
-use Rattle.history_laws.proofs.SoundOnce.{sound-once}
+use Rattle.history_laws.proofs.SoundOnce.{sound_once}
 use Rattle.graph_walk.proofs.FlagLemmas.{no_flag}
 use Rattle.graph_walk.proofs.BetweenLemmas.{bottom_flag, closed_top}
 use Rattle.graph_walk.proofs.ClosureLemmas.{AreClosedFrom, closed_more}
@@ -13,17 +13,17 @@ use Rattle.graph_walk.proofs.ancestry.reaches.Goals as goal
 
 pub unwrap-bottom-requires : goal.unwrap-bottom-requires
 unwrap-bottom-requires c =
-    ap is_some c.place.ensures.place ∙ found-place (any.Commit c.args.low) c.args.events.now.list c.requires.low
+    ap is_some c.place.ensures.place ∙ found_place (any.Commit c.args.low) c.args.events.now.list c.requires.low
 
 pub unwrap-top-requires : goal.unwrap-top-requires
 unwrap-top-requires c =
-    ap is_some c.place-2.ensures.place ∙ found-place (any.Commit c.args.high) c.args.events.now.list c.requires.high
+    ap is_some c.place-2.ensures.place ∙ found_place (any.Commit c.args.high) c.args.events.now.list c.requires.high
 
 pub loop-done-init : goal.loop-done-init
 loop-done-init c =
     let events = c.args.events.now.list in
     let sound = c.count-count.ensures.sound in
-    let once = (sound-once events sound).ids in
+    let once = (sound_once events sound).ids in
     let at_top = sym c.place-2.ensures.place ∙ c.unwrap-top.ensures in
     let counted = ap length c.requires.flags ∙ length-replicate (length events) false in
     let first = closed_top events sound once c.args.high c.unwrap-top.result at_top c.args.flags.now c.flag_all.new.flags counted (λ j. ap (λ (fs : List Bool). get_or fs j false) c.requires.flags ∙ no_flag (length events) j) c.flag_all.ensures in
@@ -34,7 +34,7 @@ pub loop-done-preserved : goal.loop-done-preserved
 loop-done-preserved c =
     let events = c.args.events.now.list in
     let sound = c.count-count.ensures.sound in
-    let once = (sound-once events sound).ids in
+    let once = (sound_once events sound).ids in
     let top = c.unwrap-top.result in
     let done = c.loop-done.done in
     let place : ℕ = top - done in
@@ -51,7 +51,7 @@ pub returns-clause-reaches : goal.returns-clause-reaches
 returns-clause-reaches c =
     let events = c.args.events.now.list in
     let sound = c.count-count.ensures.sound in
-    let once = (sound-once events sound).ids in
+    let once = (sound_once events sound).ids in
     let at_top = sym c.place-2.ensures.place ∙ c.unwrap-top.ensures in
     let at_bottom = sym c.place.ensures.place ∙ c.unwrap-bottom.ensures in
     let low : suc c.unwrap-top.result - c.loop-done.done ≤ suc c.unwrap-bottom.result = let test = c.loop-done-test.false in let end = c.saturating_sub-done-end.ensures in omega arith in

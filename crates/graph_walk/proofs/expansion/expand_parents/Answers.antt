@@ -5,7 +5,7 @@ use Rattle.std.specs.Prelude.{is_some}
 use Rattle.plain_model.specs.Lookups.{event_parents, find_event}
 use Rattle.plain_model.specs.declared.event.PlainEvent.{PlainEvent}
 use Rattle.plain_model.specs.declared.id.AnyId.TheVariants as any
-use Rattle.history_laws.proofs.SoundOnce.{sound-once}
+use Rattle.history_laws.proofs.SoundOnce.{sound_once}
 use Rattle.graph_walk.specs.Expansions.{new_parents}
 use Rattle.graph_walk.specs.Joined.{kept}
 use Rattle.graph_walk.proofs.ExpansionLemmas.{parents_placed}
@@ -29,7 +29,7 @@ pub unwrap-list-requires : goal.unwrap-list-requires
 unwrap-list-requires c =
     let events = c.args.events.now.list in
     let sound = c.count-count.ensures.sound in
-    let once = (sound-once events sound).ids in
+    let once = (sound_once events sound).ids in
     let list = new_parents events c.args.removed.now (event_parents c.nth.result.now) in
     let is : c.in_ok-expand.field-0 ≡ Some list =
     c.in_ok-expand.ensures ∙ joined_parents events sound once c.args.removed.now c.in_ok-made.made c.in_ok-made.ensures.expansions c.unwrap-place.result c.nth.result.now c.nth.ensures.event ∙ ap (λ b. kept b list) c.in_ok-made.ensures.bounded in
@@ -39,7 +39,7 @@ pub returns : goal.returns
 returns c =
     let events = c.args.events.now.list in
     let sound = c.count-count.ensures.sound in
-    let once = (sound-once events sound).ids in
+    let once = (sound_once events sound).ids in
     let e = c.nth.result.now in
     let list = new_parents events c.args.removed.now (event_parents e) in
     let is : c.in_ok-expand.field-0 ≡ Some list =

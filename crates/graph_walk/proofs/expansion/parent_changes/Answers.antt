@@ -3,7 +3,7 @@ use Rattle.std.proofs.lemmas.Result.{err_from_is_err_and}
 use Rattle.plain_model.specs.declared.id.AnyId.{AnyId}
 use Rattle.plain_model.specs.declared.event.PlainEvent.{PlainEvent}
 use Rattle.history_laws.proofs.Lists.{item_at}
-use Rattle.history_laws.proofs.SoundOnce.{sound-once}
+use Rattle.history_laws.proofs.SoundOnce.{sound_once}
 use Rattle.graph_walk.specs.Children.{children_of_all}
 use Rattle.graph_walk.specs.Expansions.{IsCauseOfMany, parent_changes}
 use Rattle.graph_walk.specs.Joined.{IsTooMany, PushesChange}
@@ -16,7 +16,7 @@ returns-in_err-push_change-clause-cause c =
     let events = c.args.events.now.list in
     let removed = c.args.removed.now in
     let sound = c.count-place-end.ensures.sound in
-    let once = (sound-once events sound).ids in
+    let once = (sound_once events sound).ids in
     let place = c.loop-place.place in
     let item = item_at events place (let test = c.loop-place-test.true in let count = c.count-place-end.ensures.count in omega arith) in
     let items = c.in_ok-flags.flags.items in
@@ -30,7 +30,7 @@ loop-place-preserved c =
     let events = c.args.events.now.list in
     let removed = c.args.removed.now in
     let sound = c.count-place-end.ensures.sound in
-    let once = (sound-once events sound).ids in
+    let once = (sound_once events sound).ids in
     let place = c.loop-place.place in
     let item = item_at events place (let test = c.loop-place-test.true in let count = c.count-place-end.ensures.count in omega arith) in
     let items = c.in_ok-flags.flags.items in
@@ -44,7 +44,7 @@ push_change-requires-clause-children c =
     let events = c.args.events.now.list in
     let removed = c.args.removed.now in
     let sound = c.count-place-end.ensures.sound in
-    let once = (sound-once events sound).ids in
+    let once = (sound_once events sound).ids in
     let flags : FlagsOf events removed c.deref.result.now = subst (FlagsOf events removed) (sym c.deref.ensures.value) (subst (λ (ids : List AnyId). FlagsOf events ids c.in_ok-flags.flags.items) c.as_slice.ensures (subst (λ (es : List PlainEvent). FlagsOf es c.as_slice.result.now c.in_ok-flags.flags.items) c.table.ensures.table c.in_ok-flags.ensures)) in
     let children : FlagsOf events (children_of_all events removed) c.deref-in-loop-place.result.now = subst (FlagsOf events (children_of_all events removed)) (sym c.deref-in-loop-place.ensures.value)
     (subst (λ (ids : List AnyId). FlagsOf events ids c.in_ok-children-2.children.items)

@@ -1,6 +1,6 @@
 use Rattle.std.proofs.Common.{◌++◌, ◌∷◌, [], List, Bool, take, add-one, subst, sym}
 use Rattle.plain_model.specs.declared.id.AnyId.{AnyId}
-use Rattle.event_arena.proofs.ListLemmas.{take-all, take-more}
+use Rattle.event_arena.proofs.ListLemmas.{take_all, take_more}
 use Rattle.graph_walk.specs.Flags.{FlagsOf}
 use Rattle.graph_walk.proofs.FlagLemmas.{ids_first, ids_push, ids_skip}
 use Rattle.graph_walk.proofs.flags.flag_ids.Goals as goal
@@ -14,7 +14,7 @@ loop-id-preserved c =
     let events = c.args.events.now in
     let once = c.count-count.ensures.once in
     let so_far = take c.loop-id.id-index c.args.ids.now in
-    let more = take-more c.args.ids.now c.loop-id.id-index c.id-item.result c.loop-id-test.true c.id-item.is in
+    let more = take_more c.args.ids.now c.loop-id.id-index c.id-item.result c.loop-id-test.true c.id-item.is in
     rw (add-one, more) (elim c.match-place.branch [
       | in-Some w ↦ subst (λ (new : List Bool). FlagsOf events (so_far ++ c.id-item.result ∷ []) new) (sym w.flags-is)
           (ids_push events so_far c.id-item.result w.in-Some.place c.loop-id.flags once (sym w.in-Some.ensures.place) c.loop-id.invariant)
@@ -24,4 +24,4 @@ loop-id-preserved c =
 
 pub returns : goal.returns
 returns c =
-    subst (λ (ids : List AnyId). FlagsOf c.args.events.now ids c.loop-id.flags) (take-all c.args.ids.now c.loop-id.id-index c.loop-id-test.false) c.loop-id.invariant
+    subst (λ (ids : List AnyId). FlagsOf c.args.events.now ids c.loop-id.flags) (take_all c.args.ids.now c.loop-id.id-index c.loop-id-test.false) c.loop-id.invariant

@@ -1,5 +1,5 @@
 use Rattle.std.proofs.Common.{[], arith, add-one, subst}
-use Rattle.event_arena.proofs.ListLemmas.{take-all}
+use Rattle.event_arena.proofs.ListLemmas.{take_all}
 use Rattle.edit_laws.specs.Parts.{AreInOrder}
 use Rattle.graph_walk.proofs.OrderLemmas.{ready_item}
 use Rattle.graph_walk.proofs.settling.is_settled.Goals as goal
@@ -11,5 +11,5 @@ loop-place-preserved c =
 pub returns : goal.returns
 returns c =
     let events = c.args.plan.now.after in
-    let all = take-all events c.loop-place.place (let end = c.loop-place-test.false in let count = c.count-place-end.ensures.count in omega arith) in
+    let all = take_all events c.loop-place.place (let end = c.loop-place-test.false in let count = c.count-place-end.ensures.count in omega arith) in
     c.settling_orders.ensures.stays events (subst (AreInOrder []) all c.loop-place.invariant)

@@ -1,13 +1,13 @@
 use Rattle.line_automaton.specs.Machine.{all}
 use Rattle.line_automaton.specs.Example.{example}
-use Rattle.line_automaton.proofs.LineLaws.{line_count-end}
+use Rattle.line_automaton.proofs.LineLaws.{line_count_end}
 use Rattle.line_automaton.proofs.ReadingLaws as reading
 use Rattle.line_automaton.proofs.laws.a_block_goes_on_or_misses.Goals as goal
 
 pub returns : goal.returns
 returns c = record {
   there = λ text before rest line after bytes beyond s new next extent is there made follows some taken.
-      reading.goes_on_after example all text rest line after s (line_count-end text before rest is) there new next extent made follows bytes beyond some taken;
+      reading.goes_on_after example all text rest line after s (line_count_end text before rest is) there new next extent made follows bytes beyond some taken;
   cut = λ text before rest line after s new next extent is there made follows misses.
-      reading.is_missing example all text rest line after s (line_count-end text before rest is) there new next extent made follows misses;
+      reading.is_missing example all text rest line after s (line_count_end text before rest is) there new next extent made follows misses;
 }

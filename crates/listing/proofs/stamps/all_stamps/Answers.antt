@@ -1,5 +1,5 @@
 use Rattle.std.proofs.Common.{◌∷◌, ◌++◌, [], ◌∙◌, ap, add-one, take}
-use Rattle.event_arena.proofs.ListLemmas.{take-item}
+use Rattle.event_arena.proofs.ListLemmas.{take_item}
 use Rattle.listing.proofs.StampLemmas.{ranked_by_one}
 use Rattle.listing.proofs.stamps.all_stamps.Goals as goal
 
@@ -12,6 +12,6 @@ loop-place-preserved c =
     let was = c.loop-place.invariant in
     let put_on = c.in_ok-push.ensures.ok ∙ ap (λ n. c.loop-place.ranks ++ n ∷ []) (c.in_ok-which.ensures.which (take k list) was.counts) in
     record {
-      counts = rw (add-one, take-item list k e at) (c.in_ok-which.ensures.counts (take k list) was.counts);
+      counts = rw (add-one, take_item list k e at) (c.in_ok-which.ensures.counts (take k list) was.counts);
       ranks = ranked_by_one list k e c.loop-place.ranks c.push.new.self at put_on was.ranks;
     }

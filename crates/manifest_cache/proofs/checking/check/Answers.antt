@@ -3,7 +3,7 @@ use Rattle.std.specs.Prelude.{is_some}
 use Rattle.lru.specs.LruCache.{LruCache}
 use Rattle.plain_model.specs.declared.id.AnyId.TheVariants as any
 use Rattle.plain_model.specs.Trees.{Tree}
-use Rattle.history_laws.proofs.SoundOnce.{has_id-find}
+use Rattle.history_laws.proofs.SoundOnce.{has_id_find}
 use Rattle.manifest_cache.specs.Kept.{AgreesWith}
 use Rattle.manifest_cache.proofs.Checked.{all_checked}
 use Rattle.manifest_cache.proofs.Lines.{tree_along, tree_line}
@@ -38,4 +38,4 @@ returns-clause-trees c = λ d there.
     let after = c.args.plan.now.after in
     let end = c.count-place-end.ensures.count in
     let over = c.loop-place-test.false in
-    (all_checked after c.count-place-end.ensures.once c.requires.earlier c.loop-place.place (omega (arith, end, over)) c.loop-place.invariant.have).0 d (sym (has_id-find after (any.Commit d)) ∙ there)
+    (all_checked after c.count-place-end.ensures.once c.requires.earlier c.loop-place.place (omega (arith, end, over)) c.loop-place.invariant.have).0 d (sym (has_id_find after (any.Commit d)) ∙ there)

@@ -3,7 +3,7 @@ use Rattle.plain_model.specs.declared.event.PlainEvent.{PlainEvent}
 use Rattle.plain_model.specs.Lookups.{find_event, id_of}
 use Rattle.event_arena.specs.Changes.{changed}
 use Rattle.event_arena.specs.Graphs.{Change}
-use Rattle.history_laws.proofs.SoundOnce.{sound-once}
+use Rattle.history_laws.proofs.SoundOnce.{sound_once}
 use Rattle.expunge_laws.specs.Expunged.{replaced_event}
 use Rattle.expunge_laws.specs.Matching.{Matches, matched_by}
 use Rattle.path_expunge.proofs.Nodes.{replaced_id}
@@ -16,7 +16,7 @@ replace_at-requires-clause-found c =
     let m = matched_by c.args.matching.now in
     let e = c.nth.result.now in
     ap (λ (p : Change). find_event (id_of e) p.after) c.loop-place.invariant.plan
-    ∙ step_found (replaced_event m events) (replaced_id m events) events (sound-once events c.count-place-end.ensures.sound).ids c.loop-place.place e c.nth.ensures.event
+    ∙ step_found (replaced_event m events) (replaced_id m events) events (sound_once events c.count-place-end.ensures.sound).ids c.loop-place.place e c.nth.ensures.event
 
 pub loop-place-preserved : goal.loop-place-preserved
 loop-place-preserved c =
@@ -30,5 +30,5 @@ loop-place-preserved c =
           ∙ ap (λ (ms : List Matches). record c.loop-place.plan { after = changed (id_of e) (replaced_event (matched_by ms) events) c.loop-place.plan.after }) c.loop-place.invariant.same
           ∙ ap (λ (p : Change). record p { after = changed (id_of e) (replaced_event m events) p.after }) c.loop-place.invariant.plan
           ∙ ap (λ (es : List PlainEvent). record c.args.plan.now { after = es })
-          (step_changed (replaced_event m events) (replaced_id m events) events (sound-once events c.count-place-end.ensures.sound).ids c.loop-place.place e c.nth.ensures.event));
+          (step_changed (replaced_event m events) (replaced_id m events) events (sound_once events c.count-place-end.ensures.sound).ids c.loop-place.place e c.nth.ensures.event));
     }

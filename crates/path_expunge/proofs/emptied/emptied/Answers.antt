@@ -4,7 +4,7 @@ use Rattle.std.proofs.lemmas.Option.{same_Some}
 use Rattle.plain_model.specs.declared.id.AnyId.{AnyId}
 use Rattle.plain_model.specs.declared.event.PlainEvent.{PlainEvent}
 use Rattle.plain_model.specs.Lookups.{id_of}
-use Rattle.event_arena.proofs.ListLemmas.{take-all}
+use Rattle.event_arena.proofs.ListLemmas.{take_all}
 use Rattle.expunge_laws.specs.Expunged.{is_emptied, replaced_event}
 use Rattle.plan_steps.proofs.SweepLemmas.{passing_item}
 use Rattle.plan_steps.proofs.Steps.{item_map}
@@ -37,4 +37,4 @@ returns c matched is =
     let events = c.args.plan.now.before in
     c.loop-place.invariant matched is
     ∙ ap (λ (es : List PlainEvent). map id_of (filter (is_emptied matched events) es))
-    (take-all events c.loop-place.place (let all = c.loop-place-test.false in let count = c.old_count-place-end.ensures.count in omega arith))
+    (take_all events c.loop-place.place (let all = c.loop-place-test.false in let count = c.old_count-place-end.ensures.count in omega arith))

@@ -2,7 +2,7 @@ use Rattle.std.proofs.Common.{◌≡◌, ◌∙◌, ◌+◌, ◌++◌, ◌∷◌
 use Rattle.std.specs.Prelude.{option_to_list}
 use Rattle.std.proofs.lemmas.List.Concat.{flat_map-append}
 use Rattle.ancestry_laws.specs.Ancestry.{is_one_of}
-use Rattle.event_arena.proofs.ListLemmas.{take-all, take-more}
+use Rattle.event_arena.proofs.ListLemmas.{take_all, take_more}
 use Rattle.graph_walk.specs.Joined.{with_all}
 use Rattle.graph_walk.proofs.EntryLemmas.{with_all_push}
 use Rattle.graph_walk.proofs.ExpansionLemmas.{with_all_once}
@@ -17,7 +17,7 @@ loop-parent-preserved c =
     let i = c.loop-parent.parent-index in
     let p = c.parent-item.result in
     let so_far = flat_map f (take i ps) in
-    let items : take (i + 1) ps ≡ take i ps ++ p ∷ [] = rw add-one (take-more ps i p c.loop-parent-test.true c.parent-item.is) in
+    let items : take (i + 1) ps ≡ take i ps ++ p ∷ [] = rw add-one (take_more ps i p c.loop-parent-test.true c.parent-item.is) in
     let step : flat_map f (take (i + 1) ps) ≡ so_far ++ f p =
     ap (λ (l : List ℕ). flat_map f l) items ∙ flat_map-append f (take i ps) (p ∷ []) ∙ ap (λ (l : List ℕ). so_far ++ l) (append-nil (f p)) in
     let its : (o : Option ℕ) → c.back_of.result ≡ o → flat_map f (take (i + 1) ps) ≡ so_far ++ option_to_list o =
@@ -48,5 +48,5 @@ pub returns : goal.returns
 returns c =
     let f : ℕ → List ℕ = λ p. option_to_list (back_of c.args.removal.now.set c.args.removal.now.events p) in
     c.loop-parent.invariant
-    ∙ ap (λ (l : List ℕ). with_all [] (flat_map f l)) (take-all c.args.parents.now c.loop-parent.parent-index c.loop-parent-test.false)
+    ∙ ap (λ (l : List ℕ). with_all [] (flat_map f l)) (take_all c.args.parents.now c.loop-parent.parent-index c.loop-parent-test.false)
     ∙ with_all_once [] (flat_map f c.args.parents.now)

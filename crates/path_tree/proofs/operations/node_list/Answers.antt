@@ -7,7 +7,7 @@ use Rattle.path_tree.specs.Folders.{prefixed}
 use Rattle.path_tree.specs.Inside.{member_of}
 use Rattle.path_tree.specs.Setting.{suffixes}
 use Rattle.history_laws.specs.SoundTrees.{AllPaths}
-use Rattle.path_tree.proofs.Listing.{prefixed-prefixed}
+use Rattle.path_tree.proofs.Listing.{prefixed_prefixed}
 use Rattle.path_tree.proofs.operations.node_list.Goals as goal
 
 pub list-requires : goal.list-requires
@@ -19,7 +19,7 @@ list-requires c =
     let all = subst (λ (o : Option Node). AllPaths (prefixed p (suffixes (option_map member_of o)))) node_is c.requires in
     subst (λ (x : Bytes). AllPaths (prefixed x c.deref.result.now)) (sym long)
     (subst (λ (t : Tree). AllPaths (prefixed (p ++ 47 ∷ []) t)) (sym c.deref.ensures)
-    (subst (λ (t : Tree). AllPaths t) (prefixed-prefixed p (47 ∷ []) below) all))
+    (subst (λ (t : Tree). AllPaths t) (prefixed_prefixed p (47 ∷ []) below) all))
 
 pub returns-in_ok-list-in-Some-Subfolder : goal.returns-in_ok-list-in-Some-Subfolder
 returns-in_ok-list-in-Some-Subfolder c =
@@ -31,5 +31,5 @@ returns-in_ok-list-in-Some-Subfolder c =
     ∙ ap (λ (l : Tree). l ++ prefixed c.as_slice.result.now c.deref.result.now) c.empty-list.ensures
     ∙ ap (λ (x : Bytes). prefixed x c.deref.result.now) long
     ∙ ap (λ (t : Tree). prefixed (p ++ 47 ∷ []) t) c.deref.ensures
-    ∙ sym (prefixed-prefixed p (47 ∷ []) below)
+    ∙ sym (prefixed_prefixed p (47 ∷ []) below)
     ∙ ap (λ (o : Option Node). prefixed p (suffixes (option_map member_of o))) (sym node_is)

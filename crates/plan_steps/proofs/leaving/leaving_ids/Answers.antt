@@ -3,7 +3,7 @@ use Rattle.plain_model.specs.declared.id.AnyId.{AnyId}
 use Rattle.plain_model.specs.declared.event.PlainEvent.{PlainEvent}
 use Rattle.plain_model.specs.Lookups.{id_of}
 use Rattle.history_laws.proofs.Lists.{item_at}
-use Rattle.event_arena.proofs.ListLemmas.{take-all}
+use Rattle.event_arena.proofs.ListLemmas.{take_all}
 use Rattle.plan_steps.specs.Leaving.{goes}
 use Rattle.plan_steps.proofs.NearPlaces.{GoingTo, going_over}
 use Rattle.plan_steps.proofs.SweepLemmas.{passing_item}
@@ -51,4 +51,4 @@ returns c takes t =
     let events = c.args.removal.now.events in
     c.loop-place.invariant.going takes t
     ∙ ap (λ (es : List PlainEvent). map id_of (filter (goes c.args.removal.now.set takes) es))
-    (take-all events c.loop-place.place (let all = c.loop-place-test.false in let count = c.count-count.ensures.count in omega arith))
+    (take_all events c.loop-place.place (let all = c.loop-place-test.false in let count = c.count-count.ensures.count in omega arith))

@@ -2,7 +2,7 @@ use Rattle.std.proofs.Common.{◌≡◌, ◌++◌, ◌∙◌, List, false, true,
 use Rattle.std.proofs.lemmas.Option.{none-some, same_Some}
 use Rattle.plain_model.specs.Lookups.{op_blobs}
 use Rattle.plain_model.specs.declared.id.AnyId.{AnyId}
-use Rattle.event_arena.proofs.ListLemmas.{take-more}
+use Rattle.event_arena.proofs.ListLemmas.{take_more}
 use Rattle.plan_steps.specs.Flags.{FlagsIds}
 use Rattle.plan_steps.proofs.SweepLemmas.{flat_push, ids_push}
 use Rattle.plan_steps.proofs.sweeping.are_flagged.Goals as goal
@@ -15,7 +15,7 @@ loop-op-preserved c =
     let once = c.count-count.ensures.once in
     let i = c.loop-op.op-index in
     let so_far = flat_map op_blobs (take i c.args.ops.now) in
-    let more = ap (flat_map op_blobs) (take-more c.args.ops.now i c.op-item.result c.loop-op-test.true c.op-item.is) ∙ flat_push op_blobs (take i c.args.ops.now) c.op-item.result in
+    let more = ap (flat_map op_blobs) (take_more c.args.ops.now i c.op-item.result c.loop-op-test.true c.op-item.is) ∙ flat_push op_blobs (take i c.args.ops.now) c.op-item.result in
     rw (add-one, more) (elim c.match-blob_of.branch [
       | in-Some+in-Some-place+else-not-flags-place w ↦ subst (λ (ids : List AnyId). FlagsIds events (so_far ++ ids) flags) w.in-Some.ensures
           (ids_push events so_far w.in-Some.id flags once c.loop-op.invariant (λ k there.

@@ -2,7 +2,7 @@ use Rattle.std.proofs.Common.{◌++◌, ◌∙◌, List, Bool, take, add-one, ap
 use Rattle.std.proofs.Math.ListN.{set}
 use Rattle.plain_model.specs.Lookups.{op_blobs}
 use Rattle.plain_model.specs.declared.id.AnyId.{AnyId}
-use Rattle.event_arena.proofs.ListLemmas.{take-all, take-more}
+use Rattle.event_arena.proofs.ListLemmas.{take_all, take_more}
 use Rattle.plan_steps.specs.Flags.{FlagsAdd}
 use Rattle.plan_steps.proofs.SweepLemmas.{adds_push, adds_skip, flat_push}
 use Rattle.plan_steps.proofs.sweeping.flag_blobs.Goals as goal
@@ -14,7 +14,7 @@ loop-op-preserved c =
     let once = c.count-count.ensures.once in
     let k = c.loop-op.op-index in
     let so_far = flat_map op_blobs (take k c.args.ops.now) in
-    let more = ap (flat_map op_blobs) (take-more c.args.ops.now k c.op-item.result c.loop-op-test.true c.op-item.is) ∙ flat_push op_blobs (take k c.args.ops.now) c.op-item.result in
+    let more = ap (flat_map op_blobs) (take_more c.args.ops.now k c.op-item.result c.loop-op-test.true c.op-item.is) ∙ flat_push op_blobs (take k c.args.ops.now) c.op-item.result in
     rw (add-one, more) (elim c.match-blob_of.branch [
       | in-Some+in-Some-place w ↦ subst (λ (new : List Bool). FlagsAdd events (so_far ++ op_blobs c.op-item.result) c.args.flags.now new) (sym w.flags-is)
           (subst (λ (ids : List AnyId). FlagsAdd events (so_far ++ ids) c.args.flags.now (set c.loop-op.flags w.in-Some-place.place true)) w.in-Some.ensures
@@ -29,4 +29,4 @@ loop-op-preserved c =
 
 pub returns : goal.returns
 returns c = subst (λ ops. FlagsAdd c.args.plan.now.after (flat_map op_blobs ops) c.args.flags.now c.loop-op.flags)
-    (take-all c.args.ops.now c.loop-op.op-index c.loop-op-test.false) c.loop-op.invariant
+    (take_all c.args.ops.now c.loop-op.op-index c.loop-op-test.false) c.loop-op.invariant

@@ -6,25 +6,25 @@ use Rattle.plain_model.specs.Lookups.{find_event, id_of}
 use Rattle.event_arena.specs.declared.field.Field.TheVariants as field
 use Rattle.event_arena.specs.Changes.{changed, has_mark, with_aliases, with_mark}
 use Rattle.event_arena.specs.Graphs.{Change}
-use Rattle.event_arena.proofs.ChangeLemmas.{id-with_field}
+use Rattle.event_arena.proofs.ChangeLemmas.{id_with_field}
 use Rattle.event_arena.proofs.StepLemmas.{found_holds as found-holds}
 use Rattle.renumbering.specs.Renumbered.{marked_from, marks_from}
-use Rattle.renumbering.proofs.Steps.{aliases-set, changed-twice, kept}
+use Rattle.renumbering.proofs.Steps.{aliases_set, changed_twice, kept}
 use Rattle.renumbering.proofs.numbering.give_marks.Goals as goal
 
 pub give_mark-requires-in-Commit-clause-there : goal.give_mark-requires-in-Commit-clause-there
 give_mark-requires-in-Commit-clause-there c =
-    let found = aliases-set _ _ _ _ _ c.in-Commit.is c.requires.there (ap (λ (p : Change). p.after) c.in_ok-give_aliases-in-Commit.ensures) in
+    let found = aliases_set _ _ _ _ _ c.in-Commit.is c.requires.there (ap (λ (p : Change). p.after) c.in_ok-give_aliases-in-Commit.ensures) in
     subst IsSome (sym found) refl
 
 pub give_mark-requires-in-Commit-clause-field : goal.give_mark-requires-in-Commit-clause-field
 give_mark-requires-in-Commit-clause-field c =
-    let found = aliases-set _ _ _ _ _ c.in-Commit.is c.requires.there (ap (λ (p : Change). p.after) c.in_ok-give_aliases-in-Commit.ensures) in
+    let found = aliases_set _ _ _ _ _ c.in-Commit.is c.requires.there (ap (λ (p : Change). p.after) c.in_ok-give_aliases-in-Commit.ensures) in
     found-holds _ _ (λ event. IsTrue (has_mark event)) found refl
 
 pub give_mark-requires-in-Commit-clause-own : goal.give_mark-requires-in-Commit-clause-own
 give_mark-requires-in-Commit-clause-own c =
-    let found = aliases-set _ _ _ _ _ c.in-Commit.is c.requires.there (ap (λ (p : Change). p.after) c.in_ok-give_aliases-in-Commit.ensures) in
+    let found = aliases_set _ _ _ _ _ c.in-Commit.is c.requires.there (ap (λ (p : Change). p.after) c.in_ok-give_aliases-in-Commit.ensures) in
     found-holds _ _ (λ event. with_mark c.in-Commit.mark event ≡ event) found refl
 
 pub returns-in_ok-give_mark-in-Commit-clause-given : goal.returns-in_ok-give_mark-in-Commit-clause-given
@@ -39,7 +39,7 @@ returns-in_ok-give_mark-in-Commit-clause-given c =
     c.in_ok-give_mark-in-Commit.ensures
     ∙ ap (λ (p : Change). record p { after = changed id (with_mark next) p.after }) c.in_ok-give_aliases-in-Commit.ensures
     ∙ ap (λ events. record plan { after = events })
-    (changed-twice id (with_aliases new) (id-with_field (field.Aliases new)) (with_mark next) (marked_from next) plan.after commit there both
+    (changed_twice id (with_aliases new) (id_with_field (field.Aliases new)) (with_mark next) (marked_from next) plan.after commit there both
     ∙ ap (λ i. changed i (marked_from next) plan.after) (sym (ap id_of c.in-Commit.is)))
 
 pub returns-in-None-clause-given : goal.returns-in-None-clause-given

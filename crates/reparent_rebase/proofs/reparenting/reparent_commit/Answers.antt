@@ -4,7 +4,7 @@ use Rattle.plain_model.specs.declared.id.AnyId.TheVariants as any
 use Rattle.plain_model.specs.declared.event.PlainEvent.{PlainEvent}
 use Rattle.plain_model.specs.Soundness.{IsCommitOf}
 use Rattle.ancestry_laws.specs.Ancestry.{descends}
-use Rattle.history_laws.proofs.SoundOnce.{has_id-find}
+use Rattle.history_laws.proofs.SoundOnce.{has_id_find}
 use Rattle.event_arena.specs.Graphs.{Change}
 use Rattle.edit_laws.specs.Settling.{settle}
 use Rattle.edit_laws.proofs.Sound.{in_parts}
@@ -18,7 +18,7 @@ use Rattle.reparent_rebase.proofs.reparenting.reparent_commit.Goals as goal
 pub commit_mark-mark-requires : goal.commit_mark-mark-requires
 commit_mark-mark-requires c =
     let events = c.args.events.now.list in
-    sym (has_id-find events (any.Commit c.in-Some.parent))
+    sym (has_id_find events (any.Commit c.in-Some.parent))
     ∙ found_among (IsCommitOf events) (descends events (c.args.commit ∷ [])) c.args.parents.now c.in-Some.parent c.requires.parents (sym c.in_ok-found.ensures ∙ c.in-Some.is)
 
 pub put_in_order-requires : goal.put_in_order-requires

@@ -2,14 +2,14 @@ use Rattle.std.proofs.Common.{◌≡◌, ◌∙◌, [], Bool, true, add-one, ap,
 use Rattle.std.proofs.lemmas.List.{length-set}
 use Rattle.std.specs.List.{list_any}
 use Rattle.std.specs.Prelude.{flat_map}
-use Rattle.history_laws.proofs.SoundOnce.{sound-once}
+use Rattle.history_laws.proofs.SoundOnce.{sound_once}
 use Rattle.event_sets.specs.Bits.{Adds}
 use Rattle.event_sets.specs.Sets.{Ids}
-use Rattle.event_sets.proofs.BitLemmas.{bits-count}
+use Rattle.event_sets.proofs.BitLemmas.{bits_count}
 use Rattle.plain_model.specs.Paths.{Bytes}
 use Rattle.plain_model.specs.declared.event.PlainEvent.{PlainEvent}
 use Rattle.selection_eval.specs.Paths.{ops_of, put_at, touches}
-use Rattle.selection_eval.proofs.PathMarks.{marked-all, marked-not, marked-own}
+use Rattle.selection_eval.proofs.PathMarks.{marked_all, marked_not, marked_own}
 use Rattle.selection_eval.proofs.paths.marks_at_paths.Goals as goal
 use Rattle.selection_eval.proofs.paths.marks_at_paths.Goals.{then-mark_event, else-mark_event}
 
@@ -21,7 +21,7 @@ puts test e = flat_map (put_at test) (ops_of e)
 
 pub loop-place-init : goal.loop-place-init
 loop-place-init g c = record {
-  count = ap length c.in_ok-bits.ensures ∙ bits-count c.args.events.now.list [];
+  count = ap length c.in_ok-bits.ensures ∙ bits_count c.args.events.now.list [];
   marked = c.in_ok-bits.ensures;
   same = refl;
 }
@@ -42,17 +42,17 @@ loop-place-preserved g c =
     subst (λ (t : Bytes → Bool). Adds es (puts t e) old mid) so_far.same c.mark_event.ensures.adds in
     let count = c.mark_event.ensures.count ∙ so_far.count in
     let same = c.mark_event.ensures.same ∙ so_far.same in
-    let once = (sound-once es c.count-place-end.ensures.sound).ids in
+    let once = (sound_once es c.count-place-end.ensures.sound).ids in
     elim c.if-mark_event.branch [
       | then-mark_event w ↦ rw (w.bits-is, add-one) (record {
         count = length-set mid k true ∙ count;
-        marked = marked-own (touched test) (puts test) es k e old mid once at (sym touches_e ∙ w.if-mark_event.true)
+        marked = marked_own (touched test) (puts test) es k e old mid once at (sym touches_e ∙ w.if-mark_event.true)
             adds_e so_far.marked;
         same = same;
       })
       | else-mark_event w ↦ rw (w.bits-is, add-one) (record {
         count = count;
-        marked = marked-not (touched test) (puts test) es k e old mid at (sym touches_e ∙ w.if-mark_event.false)
+        marked = marked_not (touched test) (puts test) es k e old mid at (sym touches_e ∙ w.if-mark_event.false)
             adds_e so_far.marked;
         same = same;
       })
@@ -65,5 +65,5 @@ returns-clause-marks g c =
     let count = c.count-place-end.ensures in
     let all = count.count in
     let past = c.loop-place-test.false in
-    marked-all (touched test) (puts test) es c.loop-place.place c.loop-place.bits.items (omega arith)
-    (sound-once es count.sound).ids c.loop-place.invariant.marked
+    marked_all (touched test) (puts test) es c.loop-place.place c.loop-place.bits.items (omega arith)
+    (sound_once es count.sound).ids c.loop-place.invariant.marked

@@ -1,6 +1,6 @@
 use Rattle.std.proofs.Common.{◌≡◌, ◌∙◌, ◌+◌, ◌++◌, ◌∷◌, [], add-one, Bool, sym, ap}
 use Rattle.plain_model.specs.declared.event.PlainEvent.{PlainEvent}
-use Rattle.event_sets.proofs.SetLemmas.{map-more}
+use Rattle.event_sets.proofs.SetLemmas.{map_more}
 use Rattle.selection_eval.proofs.testing.passing.Goals as goal
 
 pub loop-place-preserved : goal.loop-place-preserved
@@ -14,6 +14,6 @@ loop-place-preserved g c =
       bits = rw add-one
           (c.in_ok-push.ensures.items
           ∙ (λ i. c.loop-place.invariant.bits i ++ passes i ∷ [])
-          ∙ sym (map-more test events k c.event_at.result.now c.event_at.ensures.event));
+          ∙ sym (map_more test events k c.event_at.result.now c.event_at.ensures.event));
       same = c.passes.ensures.same ∙ c.loop-place.invariant.same;
     }

@@ -1,14 +1,14 @@
 use Rattle.std.proofs.Common.{◌≡◌, ◌∙◌, [], Bool, Some, add-one, ap, refl, subst, sym, take}
 use Rattle.std.specs.Prelude.{◌||◌, flat_map, if◌then◌else◌}
-use Rattle.event_arena.proofs.ListLemmas.{take-all}
+use Rattle.event_arena.proofs.ListLemmas.{take_all}
 use Rattle.event_sets.specs.Bits.{Adds}
 use Rattle.event_sets.specs.Sets.{Ids}
-use Rattle.event_sets.proofs.BitLemmas.{adds-more, adds-none}
+use Rattle.event_sets.proofs.BitLemmas.{adds_more, adds_none}
 use Rattle.plain_model.specs.Paths.{Bytes}
 use Rattle.plain_model.specs.Trees.{Tree}
 use Rattle.plain_model.specs.declared.operation.Entry.{Entry}
 use Rattle.selection_eval.specs.Paths.{blobs_at, content_blob, has_path}
-use Rattle.selection_eval.proofs.PathMarks.{any-more, flat-more}
+use Rattle.selection_eval.proofs.PathMarks.{any_more, flat_more}
 use Rattle.selection_eval.proofs.trees.mark_entries.Goals as goal
 
 abbrev passes : (Bytes → Bool) → Bytes × Entry → Bool
@@ -21,7 +21,7 @@ pub loop-entry-init : goal.loop-entry-init
 loop-entry-init g c = record {
   has = refl;
   count = refl;
-  adds = adds-none c.args.events.now.list c.args.bits.now.items;
+  adds = adds_none c.args.events.now.list c.args.bits.now.items;
   same = refl;
 }
 
@@ -43,10 +43,10 @@ loop-entry-preserved g c =
     let adds_entry : Adds es (stands test entry) old new =
     subst (λ (t : Bytes → Bool). Adds es (stands t entry) old new) so_far.same c.mark_at-has.ensures.adds in
     rw add-one (record {
-      has = (λ i. so_far.has i || passes_entry i) ∙ sym (any-more (passes test) entries k entry low at);
+      has = (λ i. so_far.has i || passes_entry i) ∙ sym (any_more (passes test) entries k entry low at);
       count = c.mark_at-has.ensures.count ∙ so_far.count;
-      adds = subst (λ (ids : Ids). Adds es ids first new) (sym (flat-more (stands test) entries k entry low at))
-          (adds-more es (flat_map (stands test) (take k entries)) (stands test entry) first old new so_far.adds
+      adds = subst (λ (ids : Ids). Adds es ids first new) (sym (flat_more (stands test) entries k entry low at))
+          (adds_more es (flat_map (stands test) (take k entries)) (stands test entry) first old new so_far.adds
           adds_entry);
       same = c.mark_at-has.ensures.same ∙ so_far.same;
     })
@@ -55,11 +55,11 @@ pub returns-clause-has : goal.returns-clause-has
 returns-clause-has g c =
     c.loop-entry.invariant.has
     ∙ ap (λ (t : Tree). has_path (g.T.PathTest.test c.args.test.now) (Some t))
-    (take-all c.args.entries.now c.loop-entry.entry-index c.loop-entry-test.false)
+    (take_all c.args.entries.now c.loop-entry.entry-index c.loop-entry-test.false)
 
 pub returns-clause-adds : goal.returns-clause-adds
 returns-clause-adds g c =
     let test = g.T.PathTest.test c.args.test.now in
     let first = c.args.bits.now.items in
     subst (λ (t : Tree). Adds c.args.events.now.list (blobs_at test (Some t)) first c.loop-entry.bits.items)
-    (take-all c.args.entries.now c.loop-entry.entry-index c.loop-entry-test.false) c.loop-entry.invariant.adds
+    (take_all c.args.entries.now c.loop-entry.entry-index c.loop-entry-test.false) c.loop-entry.invariant.adds

@@ -3,7 +3,7 @@ use Rattle.plain_model.specs.declared.id.AnyId.TheVariants as any
 use Rattle.plain_model.specs.declared.event.PlainEvent.{PlainEvent}
 use Rattle.event_arena.specs.Changes.{changed, with_parents}
 use Rattle.event_arena.specs.Graphs.{Change}
-use Rattle.event_arena.proofs.ListLemmas.{take-more}
+use Rattle.event_arena.proofs.ListLemmas.{take_more}
 use Rattle.reorder_laws.specs.Reorder.{last_of, lined_up}
 use Rattle.split_reorder.specs.Parents.{with_all}
 use Rattle.split_reorder.proofs.Relinked.{all_push, last_push, lined_push}
@@ -17,7 +17,7 @@ loop-commit-preserved c =
     let k = c.loop-commit.commit-index in
     let x = c.commit-item.result in
     let so_far = take k c.args.rest.now in
-    let more = take-more c.args.rest.now k x c.loop-commit-test.true c.commit-item.is in
+    let more = take_more c.args.rest.now k x c.loop-commit-test.true c.commit-item.is in
     let v = c.loop-commit.invariant in
     let given : c.in_ok-of-2.field-0 ≡ last_of first so_far ∷ [] = c.in_ok-of-2.ensures ∙ ap (λ b. b ∷ []) v.before in
     rw add-one (record {

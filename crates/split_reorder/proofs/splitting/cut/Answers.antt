@@ -6,12 +6,12 @@ use Rattle.plain_model.specs.declared.event.PlainEvent.{PlainEvent}
 use Rattle.plain_model.specs.declared.event.PlainEvent.TheVariants.{Commit}
 use Rattle.plain_model.specs.Histories.{Node}
 use Rattle.plain_model.specs.Lookups.{event_ops, find_event, id_of}
-use Rattle.history_laws.proofs.Ids.{find-id}
+use Rattle.history_laws.proofs.Ids.{find_id}
 use Rattle.event_arena.specs.declared.field.Field.TheVariants as field
 use Rattle.event_arena.specs.Changes.{changed, put_after, with_ops}
 use Rattle.event_arena.specs.Graphs.{Change}
-use Rattle.event_arena.proofs.ChangeLemmas.{id-with_field}
-use Rattle.event_arena.proofs.SpentLemmas.{adds-changed}
+use Rattle.event_arena.proofs.ChangeLemmas.{id_with_field}
+use Rattle.event_arena.proofs.SpentLemmas.{adds_changed}
 use Rattle.graph_walk.proofs.TurnLemmas.{on_ok}
 use Rattle.split_reorder.specs.Copies.{put_onto}
 use Rattle.split_reorder.proofs.Halving.{cut_found, onto_id}
@@ -22,7 +22,7 @@ use Rattle.split_reorder.proofs.splitting.cut.Goals as goal
 pub unreachable-requires : goal.unreachable-requires
 unreachable-requires c =
     let found = sym (rw c.unwrap-event.ensures at c.event.ensures) in
-    only_commits c.args.commit c.unwrap-event.result.now (find-id (any.Commit c.args.commit) c.args.events.now.list c.unwrap-event.result.now found) c.in_default.not-Commit
+    only_commits c.args.commit c.unwrap-event.result.now (find_id (any.Commit c.args.commit) c.args.events.now.list c.unwrap-event.result.now found) c.in_default.not-Commit
 
 pub split_at-requires : goal.split_at-requires
 split_at-requires c =
@@ -41,7 +41,7 @@ pub insert_after-requires-clause-there : goal.insert_after-requires-clause-there
 insert_after-requires-clause-there c =
     let id = any.Commit c.args.commit in
     ap (λ (p : Change). is_some (find_event id p.after)) c.in_ok-set_ops.ensures.ok
-    ∙ still_there id (with_ops c.in_ok-of-4.field-0) (id-with_field (field.Ops c.in_ok-of-4.field-0)) c.args.plan.now.after id
+    ∙ still_there id (with_ops c.in_ok-of-4.field-0) (id_with_field (field.Ops c.in_ok-of-4.field-0)) c.args.plan.now.after id
     ∙ ap (λ (es : List PlainEvent). is_some (find_event id es)) c.requires.moved
     ∙ found_mapped (put_onto c.args.commit c.args.copy) (onto_id c.args.commit c.args.copy) id c.args.events.now.list
     ∙ c.requires.there
@@ -49,7 +49,7 @@ insert_after-requires-clause-there c =
 pub insert_after-requires-clause-unknown : goal.insert_after-requires-clause-unknown
 insert_after-requires-clause-unknown c =
     ap (λ (p : Change). find_event (any.Commit c.args.copy) p.after) c.in_ok-set_ops.ensures.ok
-    ∙ adds-changed (any.Commit c.args.commit) (with_ops c.in_ok-of-4.field-0) (id-with_field (field.Ops c.in_ok-of-4.field-0)) c.args.plan.now.after (any.Commit c.args.copy) c.requires.unknown
+    ∙ adds_changed (any.Commit c.args.commit) (with_ops c.in_ok-of-4.field-0) (id_with_field (field.Ops c.in_ok-of-4.field-0)) c.args.plan.now.after (any.Commit c.args.copy) c.requires.unknown
 
 pub returns : goal.returns
 returns c =
@@ -59,7 +59,7 @@ returns c =
     let w = c.in-Commit in
     let kept = c.args.kept in
     let found : find_event own events ≡ Some c.unwrap-event.result.now = sym (rw c.unwrap-event.ensures at c.event.ensures) in
-    let is_own : any.Commit c.args.commit ≡ any.Commit w.id = find-id own events c.unwrap-event.result.now found ∙ ap id_of w.is in
+    let is_own : any.Commit c.args.commit ≡ any.Commit w.id = find_id own events c.unwrap-event.result.now found ∙ ap id_of w.is in
     let same : w.id ≡ c.args.commit = cc in
     let whole : find_event own events ≡ Some (Commit c.args.commit w.mark w.branch w.author w.committer w.encoding w.comment w.parents w.ops w.aliases) =
     found ∙ ap Some (w.is ∙ ap (λ x. Commit x w.mark w.branch w.author w.committer w.encoding w.comment w.parents w.ops w.aliases) same) in

@@ -3,7 +3,7 @@ use Rattle.std.specs.Prelude.{is_some}
 use Rattle.plain_model.specs.declared.id.AnyId.TheVariants as any
 use Rattle.plain_model.specs.declared.operation.FileOp.{FileOp}
 use Rattle.edit_laws.specs.Passing.{limit_fault}
-use Rattle.history_laws.proofs.SoundOnce.{has_id-find}
+use Rattle.history_laws.proofs.SoundOnce.{has_id_find}
 use Rattle.event_arena.specs.Graphs.{Change}
 use Rattle.split_reorder.proofs.Halving.{never_given}
 use Rattle.plan_steps.proofs.Nodes.{there_with_ops}
@@ -34,6 +34,6 @@ returns c =
         made_at = ap (λ (p : Change). p.made_at) given;
         next = ap (λ (p : Change). p.next) given;
         sound = c.a_split_keeps_soundness.ensures.at copy c.args.number c.args.commit events plan.after c.count-count.ensures.sound
-            (has_id-find events (any.Commit c.args.commit) ∙ there) (has_id-find events (any.Commit copy) ∙ fresh) done;
+            (has_id_find events (any.Commit c.args.commit) ∙ there) (has_id_find events (any.Commit copy) ∙ fresh) done;
       },
     )

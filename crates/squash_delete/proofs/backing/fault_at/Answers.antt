@@ -4,7 +4,7 @@ use Rattle.std.proofs.lemmas.Option.{same_Some}
 use Rattle.std.specs.Prelude.{slice_get}
 use Rattle.plain_model.specs.declared.event.PlainEvent.{PlainEvent}
 use Rattle.plain_model.specs.Lookups.{commit_id, event_parents}
-use Rattle.event_arena.proofs.ListLemmas.{take-all}
+use Rattle.event_arena.proofs.ListLemmas.{take_all}
 use Rattle.squash_laws.specs.Squash.{back_fault, first_children}
 use Rattle.squash_laws.specs.Removed.{is_removed}
 use Rattle.squash_delete.specs.Backing.{own_fault}
@@ -29,7 +29,7 @@ returns-in-Some c event at =
     let gone = sym (removed_at set c.in-Commit.id e c.has_at.result (ap commit_id c.in-Commit.is) (c.has_at.ensures e c.nth.ensures.event)) ∙ c.if-not-has_at.false in
     let same : event ≡ e = same_Some event e (sym at ∙ c.nth.ensures.event) in
     let b = is_placed events c.in-Some.parent.now c.place.result c.place.ensures.place in
-    let is : get_or c.args.counts.now c.place.result 0 ≡ first_children events c.in-Some.parent.now = c.requires.counts.entry c.place.result b.event b.at c.in-Some.parent.now b.own ∙ ap (λ (es : List PlainEvent). first_children es c.in-Some.parent.now) (take-all events (length events) (omega arith)) in
+    let is : get_or c.args.counts.now c.place.result 0 ≡ first_children events c.in-Some.parent.now = c.requires.counts.entry c.place.result b.event b.at c.in-Some.parent.now b.own ∙ ap (λ (es : List PlainEvent). first_children es c.in-Some.parent.now) (take_all events (length events) (omega arith)) in
     let many = c.if-counts-place-gt1.true in
     sym (ap (own_fault set events) (same ∙ c.in-Commit.is)
     ∙ cond-true (is_removed set c.in-Commit.id) (back_fault set events c.in-Commit.mark c.in-Commit.parents) None gone
@@ -44,7 +44,7 @@ returns-in-Some-2 c event at =
     let gone = sym (removed_at set c.in-Commit.id e c.has_at.result (ap commit_id c.in-Commit.is) (c.has_at.ensures e c.nth.ensures.event)) ∙ c.if-not-has_at.false in
     let same : event ≡ e = same_Some event e (sym at ∙ c.nth.ensures.event) in
     let b = is_placed events c.in-Some.parent.now c.place.result c.place.ensures.place in
-    let is : get_or c.args.counts.now c.place.result 0 ≡ first_children events c.in-Some.parent.now = c.requires.counts.entry c.place.result b.event b.at c.in-Some.parent.now b.own ∙ ap (λ (es : List PlainEvent). first_children es c.in-Some.parent.now) (take-all events (length events) (omega arith)) in
+    let is : get_or c.args.counts.now c.place.result 0 ≡ first_children events c.in-Some.parent.now = c.requires.counts.entry c.place.result b.event b.at c.in-Some.parent.now b.own ∙ ap (λ (es : List PlainEvent). first_children es c.in-Some.parent.now) (take_all events (length events) (omega arith)) in
     let few = c.if-counts-place-gt1.false in
     sym (ap (own_fault set events) (same ∙ c.in-Commit.is)
     ∙ cond-true (is_removed set c.in-Commit.id) (back_fault set events c.in-Commit.mark c.in-Commit.parents) None gone

@@ -3,7 +3,7 @@ use Rattle.std.proofs.lemmas.Option.{slice_get_read}
 use Rattle.std.specs.List.{list_all}
 use Rattle.plain_model.specs.Histories.{past}
 use Rattle.edit_laws.specs.Removal.{expand}
-use Rattle.event_arena.proofs.ListLemmas.{take-all}
+use Rattle.event_arena.proofs.ListLemmas.{take_all}
 use Rattle.squash_laws.specs.Removed.{is_removed}
 use Rattle.squash_laws.specs.Takings.{is_none}
 use Rattle.squash_delete.proofs.ChainLemmas.{not_all, over_each}
@@ -23,4 +23,4 @@ returns c =
     let removed = is_removed c.args.removal.now.set in
     let older = past c.args.removal.now.events in
     let ps = c.args.parents.now in
-    sym (over_each removed older ps ∙ ap (list_all (λ p. is_none (expand removed older p))) (sym (take-all ps c.loop-parent.parent-index c.loop-parent-test.false)) ∙ c.loop-parent.invariant)
+    sym (over_each removed older ps ∙ ap (list_all (λ p. is_none (expand removed older p))) (sym (take_all ps c.loop-parent.parent-index c.loop-parent-test.false)) ∙ c.loop-parent.invariant)

@@ -5,7 +5,7 @@ use Rattle.plain_model.specs.declared.id.AnyId.TheVariants as any
 use Rattle.plain_model.specs.Lookups.{commit_id, event_ops, event_parents, find_event, place_of}
 use Rattle.edit_laws.specs.Removal.{expand_all}
 use Rattle.plain_model.specs.Histories.{past}
-use Rattle.history_laws.proofs.SoundOnce.{sound-once}
+use Rattle.history_laws.proofs.SoundOnce.{sound_once}
 use Rattle.graph_walk.proofs.PlaceLemmas.{place_found}
 use Rattle.squash_laws.specs.Comments.{comment_of}
 use Rattle.squash_laws.specs.Removed.{is_removed}
@@ -47,7 +47,7 @@ returns c event at own is =
     let same : event ≡ e = same_Some event e (sym at ∙ here) in
     let own_e : commit_id e ≡ Some own = ap commit_id (sym same) ∙ is in
     let found : find_event (any.Commit own) events ≡ Some e = ap (λ id. find_event id events) (own_commit own e own_e) ∙ c.nth-event.ensures.found in
-    let there : place_of (any.Commit own) events ≡ Some place = ap (λ id. place_of id events) (own_commit own e own_e) ∙ (place_found events place e here (sound-once events sound).ids).0 in
+    let there : place_of (any.Commit own) events ≡ Some place = ap (λ id. place_of id events) (own_commit own e own_e) ∙ (place_found events place e here (sound_once events sound).ids).0 in
     let gone = sym (removed_at set own e c.has_at.result own_e (c.has_at.ensures e here)) ∙ c.if-not-has_at.false in
     let ops : c.as_slice.result.now ≡ event_ops e = c.as_slice.ensures ∙ sym (ap event_ops c.in-Commit.is) in
     let comment : c.as_slice-2.result.now ≡ comment_of events own = c.as_slice-2.ensures ∙ sym (comment_found events own ∙ ap (λ o. option_map_or event_comment o []) found ∙ ap event_comment c.in-Commit.is) in

@@ -1,5 +1,5 @@
 use Rattle.std.proofs.Common.{subst, sym}
-use Rattle.history_laws.proofs.SoundOnce.{sound-once}
+use Rattle.history_laws.proofs.SoundOnce.{sound_once}
 use Rattle.squash_delete.specs.Chains.{Notes}
 use Rattle.plan_steps.proofs.NodeLemmas.{earlier_there}
 use Rattle.plan_steps.proofs.WayLemmas.{is_early}
@@ -12,5 +12,5 @@ place-requires c =
 pub returns : goal.returns
 returns c =
     let events = c.args.removal.now.events in
-    let b = is_early events c.args.table.now.count c.args.commit c.place.result (sound-once events c.count-count.ensures.sound).ids c.requires.earlier c.place.ensures.place in
+    let b = is_early events c.args.table.now.count c.args.commit c.place.result (sound_once events c.count-count.ensures.sound).ids c.requires.earlier c.place.ensures.place in
     subst (Notes c.args.removal.now.set events c.args.commit) (sym c.at.ensures) (c.requires.table c.place.result b.event b.at b.low c.args.commit b.own)

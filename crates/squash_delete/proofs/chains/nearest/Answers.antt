@@ -1,6 +1,6 @@
 use Rattle.std.proofs.Common.{subst, sym, take}
 use Rattle.plain_model.specs.Soundness.{IsCommitOf}
-use Rattle.history_laws.proofs.SoundOnce.{sound-once}
+use Rattle.history_laws.proofs.SoundOnce.{sound_once}
 use Rattle.plan_steps.proofs.Nodes.{first_of}
 use Rattle.plan_steps.specs.Depths.{depth}
 use Rattle.squash_delete.specs.Chains.{IsNearest}
@@ -24,5 +24,5 @@ returns c most before =
     let set = c.args.removal.now.set in
     let p = c.in_ok-parent.parent.now in
     let first = sym c.in_ok-parent.ensures.value in
-    let low = depth_before events (sound-once events c.count-count.ensures.sound).ids most p (first_of (IsCommitOf (take most events)) c.args.parents.now p first before) in
+    let low = depth_before events (sound_once events c.count-count.ensures.sound).ids most p (first_of (IsCommitOf (take most events)) c.args.parents.now p first before) in
     nearest_some set events (depth events p) most p c.args.parents.now c.link_of.result.nearest first low c.link_of.ensures.nearest

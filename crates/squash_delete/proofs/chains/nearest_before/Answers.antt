@@ -4,7 +4,7 @@ use Rattle.std.specs.Option.{option_map_or}
 use Rattle.std.specs.Prelude.{IsSome}
 use Rattle.plain_model.specs.declared.id.AnyId.TheVariants as any
 use Rattle.plain_model.specs.Lookups.{event_parents, find_event, place_of}
-use Rattle.history_laws.proofs.SoundOnce.{sound-once}
+use Rattle.history_laws.proofs.SoundOnce.{sound_once}
 use Rattle.graph_walk.proofs.PlaceLemmas.{place_found}
 use Rattle.plan_steps.specs.Depths.{depth, parents_at}
 use Rattle.squash_delete.specs.Chains.{IsNearest}
@@ -31,7 +31,7 @@ returns-in-Some c =
     let e = c.in-Some.event.now in
     let found : find_event (any.Commit c.args.commit) events ≡ Some e = sym (c.in-Some.ensures ∙ ap (find_event (any.Commit c.args.commit)) c.list.ensures) in
     let a = found_at events sound c.args.commit e found in
-    let there : place_of (any.Commit c.args.commit) events ≡ Some a.place = ap (λ id. place_of id events) a.own ∙ (place_found events a.place e a.at (sound-once events sound).ids).0 in
+    let there : place_of (any.Commit c.args.commit) events ≡ Some a.place = ap (λ id. place_of id events) a.own ∙ (place_found events a.place e a.at (sound_once events sound).ids).0 in
     let deep = depth_at events c.args.commit a.place there in
     let most : a.place ≡ depth events c.args.commit - 1 = omega arith in
     let parents : c.parents.result.now ≡ parents_at events c.args.commit = c.parents.ensures ∙ sym (ap (λ o. option_map_or event_parents o []) found) in

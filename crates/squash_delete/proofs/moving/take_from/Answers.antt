@@ -6,7 +6,7 @@ use Rattle.std.proofs.lemmas.Option.{same_Some}
 use Rattle.plain_model.specs.declared.id.AnyId.TheVariants as any
 use Rattle.plain_model.specs.declared.event.PlainEvent.{PlainEvent}
 use Rattle.plain_model.specs.Lookups.{event_parents, find_event}
-use Rattle.history_laws.proofs.SoundOnce.{sound-once}
+use Rattle.history_laws.proofs.SoundOnce.{sound_once}
 use Rattle.graph_walk.proofs.FlagLemmas.{if_ok}
 use Rattle.squash_laws.specs.Takings.{takes}
 use Rattle.plain_model.specs.declared.policy.Push.TheVariants as push
@@ -69,7 +69,7 @@ returns-in-After c =
     (λ par tags event at start was.
     over par (takes set events (record { push = push.Back; tags = tags })) event at
     (λ own is. sym (removed_at set own event c.has_at.result is (c.has_at.ensures event at)) ∙ c.if-has_at.false)
-    (back_taken set events tags (sound-once events c.count-count.ensures.sound).ids c.new-in-After.result event c.as_slice-after.result.now
+    (back_taken set events tags (sound_once events c.count-count.ensures.sound).ids c.new-in-After.result event c.as_slice-after.result.now
     (λ d own. row ∙ hung.entry place event at d own)
     c.new-in-After.ensures.anew c.new-in-After.ensures.before c.new-in-After.ensures.after)
     start was)) c.take-in-After.ensures

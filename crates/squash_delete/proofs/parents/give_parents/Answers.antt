@@ -3,7 +3,7 @@ use Rattle.plain_model.specs.declared.event.PlainEvent.{PlainEvent}
 use Rattle.plain_model.specs.declared.id.AnyId.TheVariants as any
 use Rattle.event_arena.specs.Changes.{changed, with_parents}
 use Rattle.event_arena.specs.Graphs.{Change}
-use Rattle.event_arena.proofs.ListLemmas.{take-more}
+use Rattle.event_arena.proofs.ListLemmas.{take_more}
 use Rattle.plan_steps.specs.Leaving.{with_all_parents}
 use Rattle.plan_steps.proofs.LeavingLemmas.{parents_push}
 use Rattle.squash_delete.proofs.parents.give_parents.Goals as goal
@@ -17,7 +17,7 @@ loop-change-preserved c =
     let same = c.as_slice-change-items.ensures in
     let more =
     ap (λ cs. with_all_parents (take (suc k) cs) start.after) (sym same)
-    ∙ ap (λ cs. with_all_parents cs start.after) (take-more items k change c.loop-change-test.true c.change-item.is)
+    ∙ ap (λ cs. with_all_parents cs start.after) (take_more items k change c.loop-change-test.true c.change-item.is)
     ∙ parents_push (take k items) change start.after
     ∙ ap (λ cs. changed (any.Commit change.0) (with_parents change.1) (with_all_parents (take k cs) start.after)) same in
     rw add-one (

@@ -2,7 +2,7 @@ use Rattle.std.proofs.Common.{◌≡◌, ◌∙◌, List, ℕ, ap, refl, subst, 
 use Rattle.std.specs.Prelude.{MatchOption}
 use Rattle.plain_model.specs.declared.id.AnyId.{AnyId}
 use Rattle.plain_model.specs.declared.event.PlainEvent.{PlainEvent}
-use Rattle.history_laws.proofs.SoundOnce.{sound-once}
+use Rattle.history_laws.proofs.SoundOnce.{sound_once}
 use Rattle.graph_walk.specs.Expansions.{AreFew, parent_changes}
 use Rattle.squash_laws.specs.Removed.{parents_after}
 use Rattle.squash_delete.specs.Judged.{AreMany}
@@ -19,7 +19,7 @@ returns-in_ok-give_parents-in-Some c takes h =
     let events = c.args.removal.now.events in
     let set = c.args.removal.now.set in
     let p = c.args.plan.now in
-    let once = sound-once events c.count-count.ensures.sound in
+    let once = sound_once events c.count-count.ensures.sound in
     let there = subst (λ (o : Option (List (ℕ × List ℕ))). IsFound o c.args.events.now.list c.set.result.now) c.in-Some.is c.in_ok-changes.ensures in
     let found = subst (λ (es : List PlainEvent). IsFound (Some c.in-Some.changes) es set) c.requires (subst (λ (ids : List AnyId). IsFound (Some c.in-Some.changes) c.args.events.now.list ids) c.set.ensures there) in (
       parents_after set events takes,

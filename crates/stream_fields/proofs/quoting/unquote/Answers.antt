@@ -1,7 +1,7 @@
 use Rattle.std.proofs.Common.{◌∙◌, ap, sym}
 use Rattle.plain_model.specs.Fields.{unquoted}
 use Rattle.plain_model.specs.Fields.Quoting.{Between}
-use Rattle.field_laws.proofs.Quoted.{with_front, with_front-nil, quote_ends, quote_unfit}
+use Rattle.field_laws.proofs.Quoted.{with_front, with_front_nil, quote_ends, quote_unfit}
 use Rattle.stream_fields.proofs.QuoteSteps.{within_after, same_after_byte, same_inside}
 use Rattle.stream_fields.specs.declared.quoting.QuotePlace.TheVariants as place
 use Rattle.stream_fields.specs.Quotes.{quoting_of}
@@ -11,7 +11,7 @@ use Rattle.stream_fields.proofs.quoting.unquote.Goals.{in-Says+in_ok-push-in-Say
 pub loop-at-init : goal.loop-at-init
 loop-at-init c = record {
   within = tt;
-  same = ap (λ front. with_front front (unquoted Between c.args.text.now)) c.empty-bytes.ensures ∙ with_front-nil (unquoted Between c.args.text.now);
+  same = ap (λ front. with_front front (unquoted Between c.args.text.now)) c.empty-bytes.ensures ∙ with_front_nil (unquoted Between c.args.text.now);
 }
 
 pub returns-in-Ends-clause-value : goal.returns-in-Ends-clause-value

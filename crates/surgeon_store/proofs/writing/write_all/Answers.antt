@@ -1,10 +1,10 @@
 use Rattle.std.proofs.Common.{arith, ◌∙◌}
-use Rattle.surgeon_store.proofs.Parts.{put_more, length-after, on_more}
+use Rattle.surgeon_store.proofs.Parts.{put_more, length_after, on_more}
 use Rattle.surgeon_store.proofs.writing.write_all.Goals as goal
 
 pub loop-preserved : goal.loop-preserved
 loop-preserved g c =
-    let long = length-after c.args.bytes.now c.loop.at in
+    let long = length_after c.args.bytes.now c.loop.at in
     record {
       within = omega (arith, long, c.in-Ok.ensures.bound.0);
       on = on_more _ c.loop.at c.loop.counter c.in-Ok.count _ long c.loop.invariant.on c.in-Ok.ensures.bound.1;

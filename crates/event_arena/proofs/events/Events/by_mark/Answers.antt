@@ -1,7 +1,7 @@
 use Rattle.std.proofs.Common.{◌∙◌, Some, ap, rules}
 use Rattle.std.proofs.lemmas.List.Sorted.{answers_always}
-use Rattle.event_arena.proofs.MarkLemmas.{mark-found, searched}
-use Rattle.history_laws.proofs.SoundOnce.{sound-once}
+use Rattle.event_arena.proofs.MarkLemmas.{mark_found, searched}
+use Rattle.history_laws.proofs.SoundOnce.{sound_once}
 use Rattle.event_arena.proofs.events.Events.by_mark.Goals as goal
 
 pub returns-in-Ok : goal.returns-in-Ok
@@ -14,7 +14,7 @@ returns-in-Ok c =
     let by_key = halving.position (λ m. m.0) (answers_always _ _ _ (λ f a r g called. search rules)) in
     let here = rw c.in-Ok.is at (searched ms es mark index _ (rw c.deref.ensures.value at halving.bound) (rw (c.deref.ensures.value, c.number-number.ensures.value) at by_key)) in
     rw (← c.self.view_is)
-    (ap (λ m. Some m.1) c.index.ensures ∙ mark-found ms es mark index c.in-Ok.at c.index.result.now (sound-once es c.self.invariant.sound).marks here.0 (here.1 c.index.result.now))
+    (ap (λ m. Some m.1) c.index.ensures ∙ mark_found ms es mark index c.in-Ok.at c.index.result.now (sound_once es c.self.invariant.sound).marks here.0 (here.1 c.index.result.now))
 
 pub returns-in-Err : goal.returns-in-Err
 returns-in-Err c =

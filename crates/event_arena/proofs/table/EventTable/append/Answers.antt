@@ -5,11 +5,11 @@ use Rattle.plain_model.specs.Lookups.{find_event, id_of}
 use Rattle.event_arena.specs.Rows.{IsNoted, NameAll, in_rows}
 use Rattle.event_arena.specs.Spent.{AddsOnly}
 use Rattle.event_arena.specs.Weights.{event_weight, weight_of}
-use Rattle.event_arena.proofs.DistinctLemmas.{distinct-more}
-use Rattle.event_arena.proofs.PlaceLemmas.{placed-beside, placed-more}
-use Rattle.event_arena.proofs.RowLemmas.{names-are, names-more, names-push, rows-more, table-of}
-use Rattle.event_arena.proofs.SpentLemmas.{adds-append}
-use Rattle.event_arena.proofs.WeightLemmas.{bound-less}
+use Rattle.event_arena.proofs.DistinctLemmas.{distinct_more}
+use Rattle.event_arena.proofs.PlaceLemmas.{placed_beside, placed_more}
+use Rattle.event_arena.proofs.RowLemmas.{names_are, names_more, names_push, rows_more, table_of}
+use Rattle.event_arena.proofs.SpentLemmas.{adds_append}
+use Rattle.event_arena.proofs.WeightLemmas.{bound_less}
 use Rattle.event_arena.proofs.table.EventTable.append.Goals as goal
 use Rattle.event_arena.proofs.table.EventTable.append.Goals.{After-weight-1, In_err-push_row}
 
@@ -22,7 +22,7 @@ invariant_of-self-in_err-id c =
     let note = subst (λ i. IsNoted i c.count-place.result c.self.inside.places.value places) c.id-id.ensures c.in_ok-note_place.ensures.ok in
     rw c.in_err-id.ensures.err (record {
       listed = c.self.invariant.listed;
-      placed = placed-beside c.self.inside.places.value places (id_of e) c.count-place.result old absent note c.self.invariant.placed;
+      placed = placed_beside c.self.inside.places.value places (id_of e) c.count-place.result old absent note c.self.invariant.placed;
     })
 
 pub invariant_of-self-in_err-push_row : goal.invariant_of-self-in_err-push_row
@@ -35,9 +35,9 @@ invariant_of-self-in_err-push_row c =
     let places = c.note_place.new.places.value in
     let absent : find_event (id_of e) old ≡ None = rw (← c.self.view_is) at c.requires in
     let note = subst (λ i. IsNoted i c.count-place.result c.self.inside.places.value places) c.id-id.ensures c.in_ok-note_place.ensures.ok in
-    rw (c.in_err-push_row.ensures.err, c.in_ok-id.ensures.ok) (table-of (stored ++ more) rows places c.self.inside.weight old (record {
-      listed = rows-more stored more rows c.self.inside.weight old c.self.invariant.listed;
-      placed = placed-beside c.self.inside.places.value places (id_of e) c.count-place.result old absent note c.self.invariant.placed;
+    rw (c.in_err-push_row.ensures.err, c.in_ok-id.ensures.ok) (table_of (stored ++ more) rows places c.self.inside.weight old (record {
+      listed = rows_more stored more rows c.self.inside.weight old c.self.invariant.listed;
+      placed = placed_beside c.self.inside.places.value places (id_of e) c.count-place.result old absent note c.self.invariant.placed;
     }))
 
 -- one event more in the store, which no row names
@@ -47,7 +47,7 @@ same c =
     let rows = c.self.inside.rows.value.items in
     let more = c.in_ok-event.event.value ∷ [] in
     let old = in_rows stored rows in
-    rw (c.in_err-push_row.ensures.err, c.in_ok-id.ensures.ok) (names-are (stored ++ more) rows old (names-more stored more rows old c.self.invariant.listed.named) ∙ c.self.view_is)
+    rw (c.in_err-push_row.ensures.err, c.in_ok-id.ensures.ok) (names_are (stored ++ more) rows old (names_more stored more rows old c.self.invariant.listed.named) ∙ c.self.view_is)
 
 pub returns-in_err-push_row-clause-err : goal.returns-in_err-push_row-clause-err
 returns-in_err-push_row-clause-err c =
@@ -62,7 +62,7 @@ put c =
     let stored = c.self.inside.store in
     let rows = c.self.inside.rows.value.items in
     rw (c.in_ok-push_row.ensures.ok, c.in_ok-id.ensures.ok)
-    (names-push stored rows (in_rows stored rows) c.in_ok-event.event.value c.args.event c.in_ok-id.field-0 c.in_ok-event.ensures.ok
+    (names_push stored rows (in_rows stored rows) c.in_ok-event.event.value c.args.event c.in_ok-id.field-0 c.in_ok-event.ensures.ok
     c.in_ok-id.ensures.number c.in_ok-id.ensures.id c.self.invariant.listed.named)
 
 pub invariant_of-self-2 : goal.invariant_of-self-2
@@ -74,22 +74,22 @@ invariant_of-self-2 c =
     let note = subst (λ i. IsNoted i c.count-place.result c.self.inside.places.value places) c.id-id.ensures c.in_ok-note_place.ensures.ok in
     let last : c.count-place.result ≡ length old = c.count-place.ensures.count ∙ ap length (sym c.self.view_is) in
     let more = sum_by_push event_weight old e in
-    table-of c.push.new.self c.push_row.new.rows.value.items places c.heavier-weight.result (old ++ e ∷ []) (record {
+    table_of c.push.new.self c.push_row.new.rows.value.items places c.heavier-weight.result (old ++ e ∷ []) (record {
       listed = record {
         named = put c;
-        once = distinct-more old e absent c.self.invariant.listed.once;
-        bound = bound-less c.heavier-weight.result (weight_of (old ++ e ∷ [])) (weight_of old + event_weight e) (omega arith) (c.heavier-weight.ensures (weight_of old) c.self.invariant.listed.bound);
+        once = distinct_more old e absent c.self.invariant.listed.once;
+        bound = bound_less c.heavier-weight.result (weight_of (old ++ e ∷ [])) (weight_of old + event_weight e) (omega arith) (c.heavier-weight.ensures (weight_of old) c.self.invariant.listed.bound);
       };
-      placed = placed-more c.self.inside.places.value places e c.count-place.result old last absent note c.self.invariant.placed;
+      placed = placed_more c.self.inside.places.value places e c.count-place.result old last absent note c.self.invariant.placed;
     })
 
 pub returns-clause-ok : goal.returns-clause-ok
 returns-clause-ok c =
     let old = in_rows c.self.inside.store c.self.inside.rows.value.items in
-    names-are c.push.new.self c.push_row.new.rows.value.items (old ++ c.args.event ∷ []) (put c) ∙ ap (λ es. es ++ c.args.event ∷ []) c.self.view_is
+    names_are c.push.new.self c.push_row.new.rows.value.items (old ++ c.args.event ∷ []) (put c) ∙ ap (λ es. es ++ c.args.event ∷ []) c.self.view_is
 
 pub returns-clause-adds : goal.returns-clause-adds
 returns-clause-adds c =
     let old = in_rows c.self.inside.store c.self.inside.rows.value.items in
-    let all = names-are c.push.new.self c.push_row.new.rows.value.items (old ++ c.args.event ∷ []) (put c) ∙ ap (λ es. es ++ c.args.event ∷ []) c.self.view_is in
-    subst (AddsOnly (id_of c.args.event) c.args.self.now) (sym all) (adds-append c.args.event c.args.self.now)
+    let all = names_are c.push.new.self c.push_row.new.rows.value.items (old ++ c.args.event ∷ []) (put c) ∙ ap (λ es. es ++ c.args.event ∷ []) c.self.view_is in
+    subst (AddsOnly (id_of c.args.event) c.args.self.now) (sym all) (adds_append c.args.event c.args.self.now)

@@ -3,29 +3,29 @@ use Rattle.std.proofs.Math.ListN.{set}
 use Rattle.std.proofs.lemmas.Result.{MatchResult-from_err}
 use Rattle.std.specs.Prelude.{slice_get}
 use Rattle.plain_model.specs.Lookups.{place_of}
-use Rattle.history_laws.proofs.Ids.{found-place, place-within}
+use Rattle.history_laws.proofs.Ids.{found_place, place_within}
 use Rattle.event_arena.specs.Changes.{changed, with_field}
 use Rattle.event_arena.specs.Rows.{NameAll, in_rows}
 use Rattle.event_arena.specs.Spent.{AddsNone}
 use Rattle.event_arena.specs.Weights.{event_weight, weight_of}
-use Rattle.event_arena.proofs.ChangeLemmas.{id-with_field}
-use Rattle.event_arena.proofs.DistinctLemmas.{distinct-changed}
-use Rattle.event_arena.proofs.PlaceLemmas.{placed-changed, put-set}
-use Rattle.event_arena.proofs.RowLemmas.{names-are, names-length, names-more, names-new, names-set, rows-more, table-of}
-use Rattle.event_arena.proofs.SpentLemmas.{adds-changed}
-use Rattle.event_arena.proofs.WeightLemmas.{bound-less, weight-part, weight-set}
+use Rattle.event_arena.proofs.ChangeLemmas.{id_with_field}
+use Rattle.event_arena.proofs.DistinctLemmas.{distinct_changed}
+use Rattle.event_arena.proofs.PlaceLemmas.{placed_changed, put_set}
+use Rattle.event_arena.proofs.RowLemmas.{names_are, names_length, names_more, names_new, names_set, rows_more, table_of}
+use Rattle.event_arena.proofs.SpentLemmas.{adds_changed}
+use Rattle.event_arena.proofs.WeightLemmas.{bound_less, weight_part, weight_set}
 use Rattle.event_arena.proofs.table.EventTable.set.Goals as goal
 use Rattle.event_arena.proofs.table.EventTable.set.Goals.{After-weight-1, In_err-put_row}
 
 pub unwrap-place-requires : goal.unwrap-place-requires
-unwrap-place-requires c = rw c.place.ensures.place (found-place c.args.id c.args.self.now c.requires)
+unwrap-place-requires c = rw c.place.ensures.place (found_place c.args.id c.args.self.now c.requires)
 
 pub put_row-requires : goal.put_row-requires
 put_row-requires c =
     let stored = c.self.inside.store in
     let rows = c.self.inside.rows.value.items in
-    let within = place-within c.args.self.now c.unwrap-place.result c.nth-old.result.now c.nth-old.ensures.event in
-    let long = names-length stored rows (in_rows stored rows) c.self.invariant.listed.named in
+    let within = place_within c.args.self.now c.unwrap-place.result c.nth-old.result.now c.nth-old.ensures.event in
+    let long = names_length stored rows (in_rows stored rows) c.self.invariant.listed.named in
     let same = ap length c.self.view_is in
     omega arith
 
@@ -34,8 +34,8 @@ invariant_of-self-in_err-put_row c =
     let stored = c.self.inside.store in
     let rows = c.self.inside.rows.value.items in
     let more = c.in_ok-shared.shared.value ∷ [] in
-    rw (c.in_err-put_row.ensures.err, c.in_ok-row.ensures.ok) (table-of (stored ++ more) rows c.self.inside.places.value c.self.inside.weight (in_rows stored rows) (record {
-      listed = rows-more stored more rows c.self.inside.weight (in_rows stored rows) c.self.invariant.listed;
+    rw (c.in_err-put_row.ensures.err, c.in_ok-row.ensures.ok) (table_of (stored ++ more) rows c.self.inside.places.value c.self.inside.weight (in_rows stored rows) (record {
+      listed = rows_more stored more rows c.self.inside.weight (in_rows stored rows) c.self.invariant.listed;
       placed = c.self.invariant.placed;
     }))
 
@@ -46,7 +46,7 @@ same c =
     let rows = c.self.inside.rows.value.items in
     let more = c.in_ok-shared.shared.value ∷ [] in
     let old = in_rows stored rows in
-    rw (c.in_err-put_row.ensures.err, c.in_ok-row.ensures.ok) (names-are (stored ++ more) rows old (names-more stored more rows old c.self.invariant.listed.named) ∙ c.self.view_is)
+    rw (c.in_err-put_row.ensures.err, c.in_ok-row.ensures.ok) (names_are (stored ++ more) rows old (names_more stored more rows old c.self.invariant.listed.named) ∙ c.self.view_is)
 
 pub returns-in_err-put_row-clause-err : goal.returns-in_err-put_row-clause-err
 returns-in_err-put_row-clause-err c =
@@ -66,7 +66,7 @@ swapped c =
     let old = in_rows c.self.inside.store c.self.inside.rows.value.items in
     let k = c.unwrap-place.result in
     let place = subst (λ xs. place_of c.args.id xs ≡ Some k) (sym c.self.view_is) (sym c.place.ensures.place ∙ c.unwrap-place.ensures) in
-    put-set c.args.id (with_field c.args.field) old k c.nth-old.result.now place (there c)
+    put_set c.args.id (with_field c.args.field) old k c.nth-old.result.now place (there c)
 
 -- the row of the event with the value is put
 put : (c : After-weight-1) → NameAll c.push.new.self c.put_row.new.rows.value.items (changed c.args.id (with_field c.args.field) (in_rows c.self.inside.store c.self.inside.rows.value.items))
@@ -77,41 +77,41 @@ put c =
     let k = c.unwrap-place.result in
     let x = c.in_ok-shared.shared.value in
     let new = with_field c.args.field c.nth-old.result.now in
-    let more = names-more stored (x ∷ []) rows old c.self.invariant.listed.named in
-    let row = names-new stored x new c.in_ok-row.row (c.in_ok-shared.ensures.ok ∙ c.in_ok-event.ensures) c.in_ok-row.ensures.number c.in_ok-row.ensures.id in
+    let more = names_more stored (x ∷ []) rows old c.self.invariant.listed.named in
+    let row = names_new stored x new c.in_ok-row.row (c.in_ok-shared.ensures.ok ∙ c.in_ok-event.ensures) c.in_ok-row.ensures.number c.in_ok-row.ensures.id in
     rw (c.in_ok-put_row.ensures.ok, c.in_ok-row.ensures.ok)
-    (subst (NameAll (stored ++ x ∷ []) (set rows k c.in_ok-row.row)) (swapped c) (names-set (stored ++ x ∷ []) rows old k c.in_ok-row.row new more row))
+    (subst (NameAll (stored ++ x ∷ []) (set rows k c.in_ok-row.row)) (swapped c) (names_set (stored ++ x ∷ []) rows old k c.in_ok-row.row new more row))
 
 pub invariant_of-self-2 : goal.invariant_of-self-2
 invariant_of-self-2 c =
     let es = in_rows c.self.inside.store c.self.inside.rows.value.items in
     let f = with_field c.args.field in
-    let kept = id-with_field c.args.field in
+    let kept = id_with_field c.args.field in
     let k = c.unwrap-place.result in
     let old = c.nth-old.result.now in
-    let part = weight-part es k old (there c) in
-    let whole = weight-set es k old (f old) (there c) in
+    let part = weight_part es k old (there c) in
+    let whole = weight_set es k old (f old) (there c) in
     let changed_weight = ap weight_of (swapped c) in
     let own = ap event_weight c.in_ok-event.ensures in
     let rest = weight_of es - event_weight old in
-    let others = c.lighter-others.ensures rest (bound-less c.self.inside.weight (rest + event_weight old) (weight_of es) (omega arith) c.self.invariant.listed.bound) in
-    table-of c.push.new.self c.put_row.new.rows.value.items c.self.inside.places.value c.heavier-weight.result (changed c.args.id f es) (record {
+    let others = c.lighter-others.ensures rest (bound_less c.self.inside.weight (rest + event_weight old) (weight_of es) (omega arith) c.self.invariant.listed.bound) in
+    table_of c.push.new.self c.put_row.new.rows.value.items c.self.inside.places.value c.heavier-weight.result (changed c.args.id f es) (record {
       listed = record {
         named = put c;
-        once = distinct-changed c.args.id f kept es c.self.invariant.listed.once;
-        bound = bound-less c.heavier-weight.result (weight_of (changed c.args.id f es)) (rest + event_weight c.in_ok-event.event) (omega arith) (c.heavier-weight.ensures rest others);
+        once = distinct_changed c.args.id f kept es c.self.invariant.listed.once;
+        bound = bound_less c.heavier-weight.result (weight_of (changed c.args.id f es)) (rest + event_weight c.in_ok-event.event) (omega arith) (c.heavier-weight.ensures rest others);
       };
-      placed = placed-changed c.self.inside.places.value c.args.id f kept es c.self.invariant.placed;
+      placed = placed_changed c.self.inside.places.value c.args.id f kept es c.self.invariant.placed;
     })
 
 -- so the table has what is changed
 all : (c : After-weight-1) → in_rows c.push.new.self c.put_row.new.rows.value.items ≡ changed c.args.id (with_field c.args.field) c.args.self.now
 all c =
     let es = in_rows c.self.inside.store c.self.inside.rows.value.items in
-    names-are c.push.new.self c.put_row.new.rows.value.items (changed c.args.id (with_field c.args.field) es) (put c) ∙ ap (changed c.args.id (with_field c.args.field)) c.self.view_is
+    names_are c.push.new.self c.put_row.new.rows.value.items (changed c.args.id (with_field c.args.field) es) (put c) ∙ ap (changed c.args.id (with_field c.args.field)) c.self.view_is
 
 pub returns-clause-ok : goal.returns-clause-ok
 returns-clause-ok c = all c
 
 pub returns-clause-adds : goal.returns-clause-adds
-returns-clause-adds c = subst (AddsNone c.args.self.now) (sym (all c)) (adds-changed c.args.id (with_field c.args.field) (id-with_field c.args.field) c.args.self.now)
+returns-clause-adds c = subst (AddsNone c.args.self.now) (sym (all c)) (adds_changed c.args.id (with_field c.args.field) (id_with_field c.args.field) c.args.self.now)

@@ -5,21 +5,21 @@ use Rattle.history_laws.proofs.Ids.{placeless}
 use Rattle.event_arena.specs.Changes.{in_order}
 use Rattle.event_arena.specs.Rows.{NameAll, Names, in_rows}
 use Rattle.event_arena.specs.Weights.{weight_of}
-use Rattle.event_arena.proofs.ChangeLemmas.{order-more}
-use Rattle.event_arena.proofs.DistinctLemmas.{distinct-in_order}
-use Rattle.event_arena.proofs.ListLemmas.{append-nil, take-all}
-use Rattle.event_arena.proofs.OrderLemmas.{weight-in_order}
-use Rattle.event_arena.proofs.PlaceLemmas.{place-found}
-use Rattle.event_arena.proofs.RowLemmas.{names-are, names-get, names-length, rows-of, rows-seen}
-use Rattle.event_arena.proofs.WeightLemmas.{bound-less}
+use Rattle.event_arena.proofs.ChangeLemmas.{order_more}
+use Rattle.event_arena.proofs.DistinctLemmas.{distinct_in_order}
+use Rattle.event_arena.proofs.ListLemmas.{append-nil, take_all}
+use Rattle.event_arena.proofs.OrderLemmas.{weight_in_order}
+use Rattle.event_arena.proofs.PlaceLemmas.{place_found}
+use Rattle.event_arena.proofs.RowLemmas.{names_are, names_get, names_length, rows_of, rows_seen}
+use Rattle.event_arena.proofs.WeightLemmas.{bound_less}
 use Rattle.event_arena.proofs.table.EventTable.table_in.Goals as goal
 use Rattle.event_arena.proofs.table.EventTable.table_in.Goals.{in-Some+in_ok-push, in_default}
 
 pub index-requires : goal.index-requires
 index-requires c =
     let rows = c.as_ref.result.now in
-    let named = rows-seen c.self.inside.store c.self.inside.rows.value rows c.self.inside.places.value c.self.inside.weight c.args.self.now c.as_ref.ensures c.self.invariant c.self.view_is in
-    let long = names-length c.self.inside.store rows.items c.args.self.now named in
+    let named = rows_seen c.self.inside.store c.self.inside.rows.value rows c.self.inside.places.value c.self.inside.weight c.args.self.now c.as_ref.ensures c.self.invariant c.self.view_is in
+    let long = names_length c.self.inside.store rows.items c.args.self.now named in
     let fits = c.as_ref.type_inv in
     let within = c.in-Some.ensures.within in
     omega arith
@@ -30,13 +30,13 @@ loop-id-preserved c =
     let stored = c.self.inside.store in
     let id = c.id-item.result in
     let seen = take c.loop-id.id-index c.args.order.now in
-    let more = sym (order-more c.args.order.now c.loop-id.id-index id es c.loop-id-test.true c.id-item.is) in
+    let more = sym (order_more c.args.order.now c.loop-id.id-index id es c.loop-id-test.true c.id-item.is) in
     elim c.match-place.branch [
       | in-Some+in_ok-push w ↦
           let rows = w.as_ref.result.now in
-          let named = rows-seen stored c.self.inside.rows.value rows c.self.inside.places.value c.self.inside.weight es w.as_ref.ensures c.self.invariant c.self.view_is in
-          let e = names-get stored rows.items es w.in-Some.place w.index.result.now named w.in-Some.ensures.within w.index.ensures in
-          let found = place-found id es w.in-Some.place e.0 (sym w.in-Some.ensures.place) e.1 in
+          let named = rows_seen stored c.self.inside.rows.value rows c.self.inside.places.value c.self.inside.weight es w.as_ref.ensures c.self.invariant c.self.view_is in
+          let e = names_get stored rows.items es w.in-Some.place w.index.result.now named w.in-Some.ensures.within w.index.ensures in
+          let found = place_found id es w.in-Some.place e.0 (sym w.in-Some.ensures.place) e.1 in
           let list = ap (λ o. in_order seen es ++ option_to_list o) found ∙ more in
           rw (w.rows-is, w.in_ok-push.ensures.items, add-one)
           (subst (NameAll stored _) list (all_zipped_more (Names stored) c.loop-id.rows.items (in_order seen es) w.index.result.now e.0 c.loop-id.invariant e.2))
@@ -51,13 +51,13 @@ of_rows-requires c =
     let es = c.args.self.now in
     let stored = c.self.inside.store in
     let order = c.args.order.now in
-    let all = ap (λ ids. in_order ids es) (take-all order c.loop-id.id-index c.loop-id-test.false) in
+    let all = ap (λ ids. in_order ids es) (take_all order c.loop-id.id-index c.loop-id-test.false) in
     let listed = c.self.invariant.listed in
     let bound = subst (λ xs. IfSome c.self.inside.weight (λ most. weight_of xs ≤ most)) c.self.view_is listed.bound in
-    rw c.in_ok-store.ensures (rows-of stored c.loop-id.rows.items c.self.inside.weight (in_order order es) (record {
+    rw c.in_ok-store.ensures (rows_of stored c.loop-id.rows.items c.self.inside.weight (in_order order es) (record {
       named = subst (NameAll stored c.loop-id.rows.items) all c.loop-id.invariant;
-      once = distinct-in_order order es c.count-count.ensures.once c.requires;
-      bound = let same = weight-in_order order es c.count-count.ensures.once c.requires in bound-less c.self.inside.weight (weight_of (in_order order es)) (weight_of es) (omega arith) bound;
+      once = distinct_in_order order es c.count-count.ensures.once c.requires;
+      bound = let same = weight_in_order order es c.count-count.ensures.once c.requires in bound_less c.self.inside.weight (weight_of (in_order order es)) (weight_of es) (omega arith) bound;
     }))
 
 pub returns : goal.returns
@@ -66,7 +66,7 @@ returns c =
     let stored = c.self.inside.store in
     let rows = c.loop-id.rows.items in
     let order = c.args.order.now in
-    let all = ap (λ ids. in_order ids es) (take-all order c.loop-id.id-index c.loop-id-test.false) in
+    let all = ap (λ ids. in_order ids es) (take_all order c.loop-id.id-index c.loop-id-test.false) in
     let named = subst (NameAll stored rows) all c.loop-id.invariant in
     subst (λ xs. IfOk c.of_rows.result (λ table. table ≡ xs))
-    (ap (λ s. in_rows s rows) c.in_ok-store.ensures ∙ names-are stored rows (in_order order es) named) c.of_rows.ensures
+    (ap (λ s. in_rows s rows) c.in_ok-store.ensures ∙ names_are stored rows (in_order order es) named) c.of_rows.ensures

@@ -6,21 +6,21 @@ use Rattle.plain_model.specs.Lookups.{id_of, is_listed}
 use Rattle.event_arena.specs.Changes.{without_all}
 use Rattle.event_arena.specs.Rows.{IsNoted, IsPlaced, NameAll, Names}
 use Rattle.event_arena.specs.Weights.{event_weight, weight_of}
-use Rattle.event_arena.proofs.ChangeLemmas.{without-keep, without-skip}
-use Rattle.event_arena.proofs.DistinctLemmas.{distinct-before, distinct-filter}
-use Rattle.event_arena.proofs.ListLemmas.{take-all}
-use Rattle.event_arena.proofs.PlaceLemmas.{placed-more}
-use Rattle.event_arena.proofs.RowLemmas.{names-are, names-get, names-length, rows-seen, table-of}
-use Rattle.event_arena.proofs.SpentLemmas.{adds-filter}
-use Rattle.event_arena.proofs.WeightLemmas.{bound-less, weight-left}
+use Rattle.event_arena.proofs.ChangeLemmas.{without_keep, without_skip}
+use Rattle.event_arena.proofs.DistinctLemmas.{distinct_before, distinct_filter}
+use Rattle.event_arena.proofs.ListLemmas.{take_all}
+use Rattle.event_arena.proofs.PlaceLemmas.{placed_more}
+use Rattle.event_arena.proofs.RowLemmas.{names_are, names_get, names_length, rows_seen, table_of}
+use Rattle.event_arena.proofs.SpentLemmas.{adds_filter}
+use Rattle.event_arena.proofs.WeightLemmas.{bound_less, weight_left}
 use Rattle.event_arena.proofs.table.EventTable.table_without.Goals as goal
 use Rattle.event_arena.proofs.table.EventTable.table_without.Goals.{then-index, else-index+in_ok-note+in_ok-push}
 
 pub index-row-requires : goal.index-row-requires
 index-row-requires c =
     let rows = c.as_ref-else-index.result.now in
-    let named = rows-seen c.self.inside.store c.self.inside.rows.value rows c.self.inside.places.value c.self.inside.weight c.args.self.now c.as_ref-else-index.ensures c.self.invariant c.self.view_is in
-    let long = names-length c.self.inside.store rows.items c.args.self.now named in
+    let named = rows_seen c.self.inside.store c.self.inside.rows.value rows c.self.inside.places.value c.self.inside.weight c.args.self.now c.as_ref-else-index.ensures c.self.invariant c.self.view_is in
+    let long = names_length c.self.inside.store rows.items c.args.self.now named in
     let fits = c.as_ref-else-index.type_inv in
     let count = c.count-place-end.ensures.count in
     let test = c.loop-place-test.true in
@@ -41,35 +41,35 @@ loop-place-preserved c =
     let within : k < length es = omega arith in
     elim c.if-index.branch [
       | then-index w ↦
-          let left = weight-left es k w.nth.result.now w.nth.ensures.event in
-          let skip = without-skip ids es k b within at w.if-index.true in
+          let left = weight_left es k w.nth.result.now w.nth.ensures.event in
+          let skip = without_skip ids es k b within at w.if-index.true in
           rw (w.rows-is, w.places-is, w.weight-is, add-one) (record {
             named = subst (NameAll stored c.loop-place.rows.items) (sym skip) v.named;
             placed = subst (IsPlaced c.loop-place.places) (sym skip) v.placed;
             bound = subst (λ xs. IfSome w.lighter-weight.result (λ most. weight_of xs + weight_of (drop (suc k) es) ≤ most)) (sym skip)
-                (w.lighter-weight.ensures (weight_of kept + weight_of (drop (suc k) es)) (bound-less c.loop-place.weight (weight_of kept + weight_of (drop (suc k) es) + event_weight w.nth.result.now) (weight_of kept + weight_of (drop k es)) (omega arith) v.bound));
+                (w.lighter-weight.ensures (weight_of kept + weight_of (drop (suc k) es)) (bound_less c.loop-place.weight (weight_of kept + weight_of (drop (suc k) es) + event_weight w.nth.result.now) (weight_of kept + weight_of (drop k es)) (omega arith) v.bound));
           })
       | else-index+in_ok-note+in_ok-push w ↦
           let rows = w.as_ref-else-index.result.now in
-          let named = rows-seen stored c.self.inside.rows.value rows c.self.inside.places.value c.self.inside.weight es w.as_ref-else-index.ensures c.self.invariant c.self.view_is in
-          let here = names-get stored rows.items es k w.index-row.result.now named within w.index-row.ensures in
+          let named = rows_seen stored c.self.inside.rows.value rows c.self.inside.places.value c.self.inside.weight es w.as_ref-else-index.ensures c.self.invariant c.self.view_is in
+          let here = names_get stored rows.items es k w.index-row.result.now named within w.index-row.ensures in
           let e = here.0 in
-          let left = weight-left es k e here.1 in
-          let keep = without-keep ids es k b e here.1 at w.if-index.false in
-          let absent = adds-filter (λ e. not (is_listed (id_of e) ids)) (take k es) (id_of e) (distinct-before es k e c.count-place-end.ensures.once here.1) in
+          let left = weight_left es k e here.1 in
+          let keep = without_keep ids es k b e here.1 at w.if-index.false in
+          let absent = adds_filter (λ e. not (is_listed (id_of e) ids)) (take k es) (id_of e) (distinct_before es k e c.count-place-end.ensures.once here.1) in
           let note = subst (λ i. IsNoted i w.len.result c.loop-place.places w.note.new.self) (sym here.2.1) w.in_ok-note.ensures.ok in
           let last : w.len.result ≡ length kept =
           let h = w.len.ensures in
           let fits = c.loop-place.rows.ok.0 in
-          let long = names-length stored c.loop-place.rows.items kept v.named in
+          let long = names_length stored c.loop-place.rows.items kept v.named in
           omega arith
           in
           let heavier = sum_by_push event_weight kept e in
           rw (w.rows-is, w.places-is, w.weight-is, w.in_ok-push.ensures.items, add-one) (record {
             named = subst (NameAll stored _) (sym keep) (all_zipped_more (Names stored) c.loop-place.rows.items kept w.index-row.result.now e v.named here.2);
-            placed = subst (IsPlaced w.note.new.self) (sym keep) (placed-more c.loop-place.places w.note.new.self e w.len.result kept last absent note v.placed);
+            placed = subst (IsPlaced w.note.new.self) (sym keep) (placed_more c.loop-place.places w.note.new.self e w.len.result kept last absent note v.placed);
             bound = subst (λ xs. IfSome c.loop-place.weight (λ most. weight_of xs + weight_of (drop (suc k) es) ≤ most)) (sym keep)
-                (bound-less c.loop-place.weight (weight_of (kept ++ e ∷ []) + weight_of (drop (suc k) es)) (weight_of kept + weight_of (drop k es)) (omega arith) v.bound);
+                (bound_less c.loop-place.weight (weight_of (kept ++ e ∷ []) + weight_of (drop (suc k) es)) (weight_of kept + weight_of (drop k es)) (omega arith) v.bound);
           })
     ]
 
@@ -83,12 +83,12 @@ invariant_of-result c =
     let kept = without_all ids (take k es) in
     let count = c.count-place-end.ensures.count in
     let past = c.loop-place-test.false in
-    let all : kept ≡ without_all ids es = ap (without_all ids) (take-all es k (omega arith)) in
-    rw (c.in_ok-places-2.ensures.ok, c.in_ok-rows-2.ensures.ok, c.in_ok-store.ensures) (table-of stored c.loop-place.rows.items c.loop-place.places c.loop-place.weight kept (record {
+    let all : kept ≡ without_all ids es = ap (without_all ids) (take_all es k (omega arith)) in
+    rw (c.in_ok-places-2.ensures.ok, c.in_ok-rows-2.ensures.ok, c.in_ok-store.ensures) (table_of stored c.loop-place.rows.items c.loop-place.places c.loop-place.weight kept (record {
       listed = record {
         named = v.named;
-        once = rw all (distinct-filter (λ e. not (is_listed (id_of e) ids)) es c.count-place-end.ensures.once);
-        bound = bound-less c.loop-place.weight (weight_of kept) (weight_of kept + weight_of (drop k es)) (omega arith) v.bound;
+        once = rw all (distinct_filter (λ e. not (is_listed (id_of e) ids)) es c.count-place-end.ensures.once);
+        bound = bound_less c.loop-place.weight (weight_of kept) (weight_of kept + weight_of (drop k es)) (omega arith) v.bound;
       };
       placed = v.placed;
     }))
@@ -102,4 +102,4 @@ returns c =
     let count = c.count-place-end.ensures.count in
     let past = c.loop-place-test.false in
     rw (c.in_ok-rows-2.ensures.ok, c.in_ok-store.ensures)
-    (names-are c.self.inside.store c.loop-place.rows.items kept c.loop-place.invariant.named ∙ ap (without_all ids) (take-all es k (omega arith)))
+    (names_are c.self.inside.store c.loop-place.rows.items kept c.loop-place.invariant.named ∙ ap (without_all ids) (take_all es k (omega arith)))

@@ -3,7 +3,7 @@ use Rattle.plain_model.specs.Lookups.{id_of, is_listed}
 use Rattle.plain_model.specs.declared.event.PlainEvent.{PlainEvent}
 use Rattle.event_sets.specs.Bits.{bits_of}
 use Rattle.event_sets.specs.Sets.{rest}
-use Rattle.event_sets.proofs.SetLemmas.{other-bits}
+use Rattle.event_sets.proofs.SetLemmas.{other_bits}
 use Rattle.event_sets.proofs.set.EventSet.rest.Goals as goal
 
 pub returns-clause-ids : goal.returns-clause-ids
@@ -13,4 +13,4 @@ returns-clause-ids c =
     subst (λ (es : List PlainEvent). c.of_bits.result.ids ≡ rest es ids) c.events.ensures
     (c.of_bits.ensures.passing (λ e. not (is_listed (id_of e) ids))
     (c.in_ok-bits.ensures ∙ ap (map not) (c.bits.ensures.tied ∙ ap (λ es. bits_of es ids) (sym c.events.ensures))
-    ∙ other-bits es ids))
+    ∙ other_bits es ids))

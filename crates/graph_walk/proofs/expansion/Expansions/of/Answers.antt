@@ -1,6 +1,6 @@
 use Rattle.std.proofs.Common.{◌≡◌, ◌∙◌, ◌<◌, ◌∷◌, ◌++◌, [], List, ap, length, arith, add-one, false}
 use Rattle.std.proofs.lemmas.List.{get_or_read}
-use Rattle.history_laws.proofs.SoundOnce.{sound-once}
+use Rattle.history_laws.proofs.SoundOnce.{sound_once}
 use Rattle.std.specs.Prelude.{slice_get}
 use Rattle.graph_walk.specs.Flags.{FlagsOf}
 use Rattle.graph_walk.specs.Joined.{next_entry}
@@ -16,7 +16,7 @@ pub loop-place-preserved : goal.loop-place-preserved
 loop-place-preserved c =
     let events = c.args.events.now.list in
     let sound = c.count-place-end.ensures.sound in
-    let once = (sound-once events sound).ids in
+    let once = (sound_once events sound).ids in
     let place = c.loop-place.place in
     let within : place < length events = let test = c.loop-place-test.true in let count = c.count-place-end.ensures.count in omega arith in
     let item = item_at events place within in
@@ -36,6 +36,6 @@ pub returns-clause-expansions : goal.returns-clause-expansions
 returns-clause-expansions c =
     let events = c.args.events.now.list in
     let sound = c.count-place-end.ensures.sound in
-    let once = (sound-once events sound).ids in
+    let once = (sound_once events sound).ids in
     let all : c.loop-place.place ≡ length events = let test = c.loop-place-test.false in let count = c.count-place-end.ensures.count in let end = c.loop-place.auto.place-end in omega arith in
     expanded_all events sound once c.args.removed.now c.loop-place.place c.loop-place.made all c.loop-place.invariant.so_far

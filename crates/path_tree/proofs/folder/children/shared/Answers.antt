@@ -5,7 +5,7 @@ use Rattle.plain_model.specs.Trees.{TreeOf}
 use Rattle.path_tree.specs.declared.folder.Child.{Child}
 use Rattle.path_tree.specs.Folders.{Member}
 use Rattle.path_tree.specs.Inside.{rows_of, member_of}
-use Rattle.path_tree.proofs.Searching.{rows_of-append}
+use Rattle.path_tree.proofs.Searching.{rows_of_append}
 use Rattle.path_tree.proofs.folder.children.shared.Goals as goal
 
 pub loop-child-init : goal.loop-child-init
@@ -20,11 +20,11 @@ loop-child-preserved c =
     let front : take (c.loop-child.child-index + 1) items ≡ before ++ child ∷ [] = search (rules, take_more) in
     let same_key : c.in_ok-key.key.value.items ≡ child.key.value.items = search rules in
     ap rows_of c.in_ok-push.ensures.items
-    ∙ rows_of-append c.loop-child.shared.items (copy ∷ [])
+    ∙ rows_of_append c.loop-child.shared.items (copy ∷ [])
     ∙ ap (λ (l : TreeOf Member). l ++ rows_of (copy ∷ [])) c.loop-child.invariant
     ∙ ap (λ (k : Bytes). rows_of before ++ (k, member_of c.in_ok-node.node) ∷ []) same_key
     ∙ ap (λ (m : Member). rows_of before ++ (child.key.value.items, m) ∷ []) c.in_ok-node.ensures
-    ∙ sym (rows_of-append before (child ∷ []))
+    ∙ sym (rows_of_append before (child ∷ []))
     ∙ ap rows_of (sym front)
 
 pub returns : goal.returns

@@ -4,7 +4,7 @@ use Rattle.plain_model.specs.Paths.{Bytes}
 use Rattle.path_tree.specs.declared.folder.Child.{Child}
 use Rattle.path_tree.specs.Folders.{flat, prefixed, member_tree, AllFit}
 use Rattle.path_tree.specs.Inside.{rows_of, row_tree, member_of, extent_of}
-use Rattle.path_tree.proofs.Measures.{flat-push}
+use Rattle.path_tree.proofs.Measures.{flat_push}
 use Rattle.path_tree.proofs.folder.extent.counted.Goals as goal
 
 pub loop-child-init : goal.loop-child-init
@@ -29,7 +29,7 @@ loop-child-preserved c =
     record {
       extent =
           c.joined-extent.ensures (flat (rows_of before)) (row_tree child) c.loop-child.invariant.extent row
-          ∙ ap extent_of (sym (flat-push before child) ∙ ap (λ (l : List Child). flat (rows_of l)) (sym front));
+          ∙ ap extent_of (sym (flat_push before child) ∙ ap (λ (l : List Child). flat (rows_of l)) (sym front));
       fit = (subst (λ (l : List Child). AllFit (rows_of l)) more c.loop-child.invariant.fit).1;
     }
 

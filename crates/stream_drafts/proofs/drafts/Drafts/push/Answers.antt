@@ -4,13 +4,13 @@ use Rattle.plain_model.specs.declared.event.PlainEvent.{PlainEvent}
 use Rattle.stream_drafts.specs.Events.{event_of}
 use Rattle.stream_drafts.specs.Placed.{ArePlaced}
 use Rattle.stream_drafts.specs.Rising.{finds}
-use Rattle.stream_drafts.proofs.Indexes.{IsIndexed-push}
+use Rattle.stream_drafts.proofs.Indexes.{IsIndexed_push}
 use Rattle.stream_drafts.proofs.drafts.Drafts.push.Goals as goal
 
 pub invariant_of-self-2 : goal.invariant_of-self-2
 invariant_of-self-2 c =
     let at_end : c.push-pushed.new.self.items ≡ c.self.inside.drafts.items ++ c.args.draft ∷ [] = grind arith in
-    let indexed = IsIndexed-push c.self.inside.drafts.items c.push-pushed.new.self.items c.args.draft
+    let indexed = IsIndexed_push c.self.inside.drafts.items c.push-pushed.new.self.items c.args.draft
     (finds c.self.inside.blobs) (finds c.self.inside.commits)
     (finds c.make_room.new.self) (finds c.make_room-2.new.self) (finds c.note_blob.new.blobs) (finds c.note_commit.new.commits)
     (contains nat_eq c.self.inside.tags) (contains nat_eq c.make_tag_room.new.tags) (contains nat_eq c.note_tag.new.tags)
