@@ -11,13 +11,12 @@ use Rattle.std.specs.Prelude.{is_some, slice_get}
 use Rattle.plain_model.specs.declared.id.AnyId.{AnyId}
 use Rattle.plain_model.specs.declared.event.PlainEvent.{PlainEvent}
 use Rattle.plain_model.specs.Lookups.{id_of, is_listed, place_of}
-use Rattle.plain_model.specs.Soundness.{IsSound}
 use Rattle.history_laws.proofs.Lists.{item_at}
 use Rattle.edit_laws.specs.Settling.{is_ready}
 use Rattle.plan_steps.proofs.Counting.{none_item}
 use Rattle.squash_laws.specs.Removed.{Takings}
 use Rattle.plan_steps.specs.Flags.{FlagsAll, FlagsNamed}
-use Rattle.plan_steps.specs.Leaving.{goes, staying, with_takings}
+use Rattle.plan_steps.specs.Leaving.{goes}
 use Rattle.plan_steps.specs.Near.{AreNear, ArePlacesNear, ArePlacesOf, AreRising, IsOneOf, NoneNear, is_near}
 use Rattle.plan_steps.specs.Targets.{AreMoves, lost_target}
 use Rattle.plan_steps.proofs.NearLemmas.{apart_stays, is_apart}

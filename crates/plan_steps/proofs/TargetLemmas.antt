@@ -1,5 +1,5 @@
 -- Where tags and resets of removed commits go.
-use Rattle.std.proofs.Common.{◌≡◌, ◌∙◌, ℕ, true, false, cond, List, [], Option, Some, None, sym, ap, length, true≢false}
+use Rattle.std.proofs.Common.{◌≡◌, ◌∙◌, ℕ, false, cond, List, [], Option, Some, None, sym, ap, length, true≢false}
 use Rattle.std.specs.List.{list_any}
 use Rattle.std.specs.Prelude.{is_some, option_and_then}
 use Rattle.plain_model.specs.declared.id.AnyId.{AnyId}

@@ -8,10 +8,12 @@ ghost use Rattle.std.specs.Prelude.{
   false,
   filter,
   flat_map,
+  if◌then◌else◌,
   length,
   map,
   option_to_list,
   slice_get,
+  slice_index_or,
   true,
   IfOk,
   OnErr,
@@ -19,15 +21,7 @@ ghost use Rattle.std.specs.Prelude.{
 };
 ghost use Rattle.edit_laws.specs.Sweeping.{is_left_over, swept};
 ghost use Rattle.plain_model.specs.Lookups.{id_of, is_listed, op_blobs};
-ghost use Rattle.plan_steps.specs.Flags.{
-  AreCandidates,
-  FlagsAdd,
-  FlagsAll,
-  FlagsIds,
-  FlagsNamed,
-  FlagsSome,
-  KeepNames,
-};
+ghost use Rattle.plan_steps.specs.Flags.{AreCandidates, FlagsAdd, FlagsAll, FlagsIds, FlagsNamed, FlagsSome, KeepNames};
 
 use crate::selection::Selected;
 use event_arena::Plan;

@@ -1,4 +1,4 @@
-use Rattle.std.proofs.Common.{◌≡◌, ◌∙◌, ◌+◌, ℕ, add-one, ap, subst, suc, sym, take}
+use Rattle.std.proofs.Common.{◌≡◌, ◌∙◌, ◌+◌, add-one, ap, subst, suc, sym, take}
 use Rattle.plain_model.specs.declared.limit.TheConstants.{MAX_ALIASES, MAX_OPERATIONS}
 use Rattle.edit_laws.proofs.Limits.{not_many}
 use Rattle.plan_steps.specs.Counts.{IsSum, count_of, total_of}

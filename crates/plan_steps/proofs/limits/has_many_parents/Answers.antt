@@ -1,9 +1,7 @@
-use Rattle.std.proofs.Common.{◌∙◌, add-one, ap, length, sym}
-use Rattle.std.specs.List.{list_any}
+use Rattle.std.proofs.Common.{◌∙◌, add-one, length, sym}
 use Rattle.std.specs.Prelude.{nat_lt}
 use Rattle.plain_model.specs.Lookups.{event_parents}
 use Rattle.plain_model.specs.declared.limit.TheConstants.{MAX_PARENTS}
-use Rattle.event_arena.proofs.ListLemmas.{take_all}
 use Rattle.plan_steps.proofs.Counting.{any_item, none_item}
 use Rattle.plan_steps.proofs.limits.has_many_parents.Goals as goal
 
