@@ -1,8 +1,14 @@
--- What a squash leaves as it was.
-use Rattle.std.specs.Prelude.{◌≡◌, List, [], Some, None}
+-- What a squash leaves as it was, and which parents commits have afterwards.
+use Rattle.std.specs.Prelude.{◌≡◌, ℕ, List, [], Some, None}
 use Rattle.plain_model.specs.declared.event.PlainEvent.{PlainEvent}
 use Rattle.plain_model.specs.declared.event.PlainEvent.TheVariants.{Blob, Commit, Tag, Reset, Pass}
+use Rattle.plain_model.specs.declared.id.AnyId.{AnyId}
+use Rattle.plain_model.specs.Histories.{Node, node_at, past}
 use Rattle.plain_model.specs.Lookups.{find_event, id_of}
+use Rattle.edit_laws.specs.Removal.{expand_all}
+use Rattle.squash_laws.specs.Removed.{is_removed}
+
+-- ---- what is as it was
 
 -- an event without what a squash changes in it: comment, parents and operations of a commit, the target of a tag or a reset
 abbrev pub bare : PlainEvent → PlainEvent
@@ -17,3 +23,26 @@ bare (Pass id line) = Pass id line
 -- the history has the event, and the two differ in nothing else but that
 abbrev pub IsBareOneOf : List PlainEvent → PlainEvent → Type 0
 IsBareOneOf events e = (old : PlainEvent) × (find_event (id_of e) events ≡ Some old) × (bare old ≡ bare e)
+
+-- ---- parents
+
+-- what stands for these parents once the commits of the set are gone: one that stays for itself, a removed one by its own parents
+abbrev pub stand_for : List AnyId → List PlainEvent → List ℕ → List ℕ
+stand_for set events parents = expand_all (is_removed set) (past events) parents
+
+-- the history has the commit, and what stands for the parents that it has there are its parents
+abbrev pub HasParentsFor : List AnyId → List PlainEvent → Node → Type 0
+HasParentsFor set events n = (old : Node) × (node_at (past events) n.id ≡ Some old) × (stand_for set events old.parents ≡ n.parents)
+
+-- an event as it is, but that a commit has other parents, by those that it has
+abbrev pub with_parents : (List ℕ → List ℕ) → PlainEvent → PlainEvent
+with_parents parents_of (Commit id mark branch author committer encoding comment parents ops aliases) =
+    Commit id mark branch author committer encoding comment (parents_of parents) ops aliases
+with_parents parents_of (Blob id mark bytes) = Blob id mark bytes
+with_parents parents_of (Tag id name target tagger comment mark) = Tag id name target tagger comment mark
+with_parents parents_of (Reset id branch target) = Reset id branch target
+with_parents parents_of (Pass id line) = Pass id line
+
+-- the history has the event, and the two differ in nothing else than in those parents
+abbrev pub IsOneOn : (List ℕ → List ℕ) → List PlainEvent → PlainEvent → Type 0
+IsOneOn parents_of events e = (old : PlainEvent) × (find_event (id_of e) events ≡ Some old) × (with_parents parents_of old ≡ e)

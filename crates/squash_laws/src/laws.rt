@@ -16,7 +16,7 @@ ghost use Rattle.plain_model.specs.declared.policy.Lean.{Lean};
 ghost use Rattle.plain_model.specs.declared.policy.Policy.{Policy};
 ghost use Rattle.plain_model.specs.declared.policy.Push.TheVariants as push;
 ghost use Rattle.squash_laws.specs.Squash.{squash_of};
-ghost use Rattle.squash_laws.specs.Remaining.{IsBareOneOf};
+ghost use Rattle.squash_laws.specs.Remaining.{HasParentsFor, IsBareOneOf, IsOneOn, stand_for};
 ghost use Rattle.edit_laws.specs.Keeping.{AddsNothing, HasOperationsOf};
 ghost use Rattle.squash_laws.specs.Removed.{is_removed};
 ghost use Rattle.squash_laws.specs.Takings.{last_hanging, squashed};
@@ -54,6 +54,18 @@ pub fn nothing_is_added()
 pub fn what_stays_is_as_it_was()
     ensures { (how : Policy) (set : List AnyId) (events new : List PlainEvent) → IsSound events →
         squash_of how set events ≡ Ok new → AllByRecursion (IsBareOneOf events) new }
+{}
+
+/// Each commit that stays has what stands for its old parents: one that stays for itself, a removed one by its own parents. After a
+/// deletion all else of each event is as it was.
+pub fn parents_give_way_to_their_parents()
+    ensures parents { (how : Policy) (set : List AnyId) (events new : List PlainEvent) →
+        IsSound events → squash_of how set events ≡ Ok new →
+        AllByRecursion (HasParentsFor set events) (nodes new) }
+    ensures deletion { (set : List AnyId) (events : List PlainEvent) (tags : Lean)
+        (new : List PlainEvent) → IsSound events →
+        squash_of (record { push = push.Discard; tags = tags }) set events ≡ Ok new →
+        AllByRecursion (IsOneOn (stand_for set events) events) new }
 {}
 
 /// What isn't refused is within the limits.
