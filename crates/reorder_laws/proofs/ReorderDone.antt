@@ -30,8 +30,9 @@ use Rattle.commit_laws.specs.Selected.{chosen, kind_fault, listed, node_of}
 use Rattle.edit_laws.specs.Selecting.{IsSelection}
 use Rattle.edit_laws.proofs.Checked.{checked}
 use Rattle.edit_laws.proofs.Tallies.{aliases_counted, counted, one, ops_counted, own_aliases, own_ops}
+use Rattle.reorder_laws.specs.InOrder.{IsInOrder, IsOneInOrder}
 use Rattle.reorder_laws.specs.Reorder.{last_of, line_fault, lined_up, relinked, reorder_of, reorder_these, reordered, unless_refused}
-use Rattle.reorder_laws.proofs.Reordered.{left, left_few, left_ids, left_ops, left_settles, left_sums}
+use Rattle.reorder_laws.proofs.Reordered.{left, left_few, left_ids, left_in_order, left_ops, left_settles, left_sums}
 
 -- what is true where a reorder isn't refused
 record IsDone (set : List AnyId) (events : List PlainEvent) (h : IsSound events) (sel : IsSelection events set) (new : List PlainEvent) : Type 0 where
@@ -178,6 +179,22 @@ done_ops set events new h sel d = reorder_ops set events h sel new d
 pub done_fits : (set : List AnyId) (events new : List PlainEvent) → IsSound events → IsSelection events set →
     reorder_of set events ≡ Ok new → AllByRecursion (Fits (tree new)) (nodes new)
 done_fits set events new h sel d = reorder_fits set events h sel new d
+
+pub done_in_order : (set : List AnyId) (events new : List PlainEvent) → IsSound events → IsSelection events set →
+    reorder_of set events ≡ Ok new → IsInOrder set events new
+done_in_order set events new h sel d =
+    let done = done_parts set events h sel new d in
+    record {
+      first = done.v;
+      later = done.vs;
+      front = done.w;
+      behind = done.ws;
+      line = done.is_vs;
+      order = done.is_ws;
+      events_in_order =
+          settled_all (IsOneInOrder done.v done.vs done.w done.ws events) (left set events h sel done.v done.vs done.w done.ws done.is_vs done.is_ws done.line) new
+          (left_in_order set events h sel done.v done.vs done.w done.ws done.is_vs done.is_ws done.line) done.is;
+    }
 
 -- ---- as many as before
 

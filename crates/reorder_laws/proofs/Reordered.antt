@@ -11,11 +11,12 @@ use Rattle.plain_model.specs.declared.id.AnyId.TheVariants as any
 use Rattle.plain_model.specs.declared.event.PlainEvent.{PlainEvent}
 use Rattle.plain_model.specs.declared.event.PlainEvent.TheVariants.{Blob, Commit, Tag, Reset, Pass}
 use Rattle.plain_model.specs.Histories.{Node}
-use Rattle.plain_model.specs.Lookups.{id_of, is_listed, op_blobs, referents_of, same_id}
+use Rattle.plain_model.specs.Lookups.{find_event, id_of, is_listed, op_blobs, referents_of, same_id}
 use Rattle.plain_model.specs.Soundness.{IsFormedEvent, IsSound, are_distinct, has_id}
 use Rattle.edit_laws.specs.Parts.{AreOnce, CanBeSettled, HasFewParents, IsAbove, IsLawful, of_id, of_mark, one_if, tally}
 use Rattle.edit_laws.specs.Settling.{is_ready}
-use Rattle.history_laws.proofs.Ids.{has_id_append}
+use Rattle.history_laws.proofs.Ids.{each_found, has_id_append}
+use Rattle.history_laws.proofs.SoundOnce.{sound_once}
 use Rattle.history_laws.proofs.Lists.{all_imply, all_join}
 use Rattle.edit_laws.specs.Keeping.{HasOperationsOf}
 use Rattle.edit_laws.proofs.Lists.{OfNodes, all_rear, all_true, events_of_nodes, none_passing, own_id, some_passing, true_all}
@@ -25,6 +26,7 @@ use Rattle.edit_laws.specs.Selecting.{IsSelection}
 use Rattle.edit_laws.proofs.Fine.{There}
 use Rattle.commit_laws.proofs.Given.{IsGiven, IsHere, all_given, here_parents, parents_here, rank}
 use Rattle.commit_laws.proofs.Selections.{chosen_here}
+use Rattle.reorder_laws.specs.InOrder.{IsOneInOrder}
 use Rattle.reorder_laws.specs.Reorder.{filled, instead, last_of, line_fault, lined_up, parents_after, relinked, relinked_all}
 use Rattle.reorder_laws.proofs.Line.{IsApart, IsChild, all_children, distinct_instead, each_in, given_is, in_ws, line_here, node_is, not_given, not_new, number, number_given, number_other, outside}
 use Rattle.reorder_laws.proofs.Places.{filled_all, filled_same, filled_there}
@@ -291,3 +293,12 @@ module _ (set : List AnyId) (events : List PlainEvent) (h : IsSound events) (sel
 
   pub left_ops : AllByRecursion (OfNodes (HasOperationsOf events)) left
   left_ops = left_all Known (OfNodes (HasOperationsOf events)) own_ops known
+
+  abbrev IsFound : PlainEvent → Type 0
+  IsFound e = find_event (id_of e) events ≡ Some e
+
+  -- each event is as it was, but for the parents of a commit
+  pub left_in_order : AllByRecursion (IsOneInOrder v vs w ws events) left
+  left_in_order =
+      left_all IsFound (IsOneInOrder v vs w ws events) (λ e f. (e, ap (λ id. find_event id events) (same_id_of e) ∙ f, refl))
+      (each_found events (sound_once events h).ids)

@@ -15,6 +15,7 @@ ghost use Rattle.edit_laws.specs.Passing.{IsWithinLimits};
 ghost use Rattle.edit_laws.specs.Keeping.{HasOperationsOf};
 ghost use Rattle.commit_laws.specs.Selected.{chosen, listed};
 ghost use Rattle.edit_laws.specs.Selecting.{IsSelection};
+ghost use Rattle.reorder_laws.specs.InOrder.{IsInOrder};
 ghost use Rattle.reorder_laws.specs.Reorder.{line_fault, reorder_of, reordered};
 
 /// Settling a line that is put into another order comes to its end, so no parents run in a circle.
@@ -54,6 +55,13 @@ pub fn nothing_is_added()
 pub fn a_reorder_keeps_the_limits()
     ensures { (set : List AnyId) (events new : List PlainEvent) → IsSound events → IsSelection events set →
         IsWithinLimits events → reorder_of set events ≡ Ok new → IsWithinLimits new }
+{}
+
+/// After a reorder the line's commits have the parents that their new order gives them: the first one those of the line, each further
+/// one the commit before it. Children of the old last commit have the new last one instead. All else of each event is as it was.
+pub fn a_line_is_put_in_order()
+    ensures { (set : List AnyId) (events new : List PlainEvent) → IsSound events → IsSelection events set →
+        reorder_of set events ≡ Ok new → IsInOrder set events new }
 {}
 
 /// After a reorder each commit has the operations that it had, and its tree is what they make of its first parent's.
