@@ -1,5 +1,5 @@
 -- A split is an edit.
-use Rattle.std.proofs.Common.{◌≡◌, ◌∙◌, ℕ, ◌+◌, List, [], ◌∷◌, Option, Some, None, Result, Ok, Err, refl, sym, ap, subst, arith}
+use Rattle.std.proofs.Common.{◌≡◌, ◌∙◌, ℕ, ◌+◌, List, [], ◌∷◌, Some, None, Result, Ok, Err, refl, sym, ap, subst, arith}
 use Rattle.std.specs.Prelude.{IsTrue}
 use Rattle.std.specs.List.{AllByRecursion}
 use Rattle.plain_model.specs.declared.fault.Fault.{Fault}
@@ -7,10 +7,9 @@ use Rattle.plain_model.specs.declared.fault.Fault.TheVariants as fault
 use Rattle.plain_model.specs.declared.id.AnyId.{AnyId}
 use Rattle.plain_model.specs.declared.id.AnyId.TheVariants as any
 use Rattle.plain_model.specs.declared.event.PlainEvent.{PlainEvent}
-use Rattle.plain_model.specs.Lookups.{AreIdsBelow}
 use Rattle.plain_model.specs.Paths.{Bytes}
 use Rattle.plain_model.specs.Soundness.{IsCommitOf, has_id}
-use Rattle.edit_laws.specs.Editing.{IsEdit, IsLawfulHistory, with_number}
+use Rattle.edit_laws.specs.Editing.{IsEdit, with_number}
 use Rattle.edit_laws.specs.Selecting.{IsSelection}
 use Rattle.edit_laws.proofs.Edits.{edit_with, unspent}
 use Rattle.commit_laws.specs.Selected.{node_of, the_commit}
@@ -40,11 +39,17 @@ by_path copy path c events = elim (first_touch path 1 (node_of events c).ops) [
 commit_there : (events : List PlainEvent) (set : List AnyId) (c : ℕ) → IsSelection events set → set ≡ any.Commit c ∷ [] → IsCommitOf events c
 commit_there events set c selection only = (subst (AllByRecursion (λ id. IsTrue (has_id events id))) only selection.there).0
 
+pub at_one : (copy number : ℕ) (set : List AnyId) (events new : List PlainEvent) → split_at_of copy number set events ≡ Ok new → (c : ℕ) × (set ≡ any.Commit c ∷ [])
+at_one copy number set events new e = one_commit events set (λ c. split_from copy c number events) new e
+
+pub by_one : (copy : ℕ) (path : Bytes) (set : List AnyId) (events new : List PlainEvent) → split_by_of copy path set events ≡ Ok new → (c : ℕ) × (set ≡ any.Commit c ∷ [])
+by_one copy path set events new e = one_commit events set (λ c. by_path copy path c events) new e
+
 pub at_edit : (number : ℕ) → IsEdit (λ set next events. with_number (next + 1) (split_at_of next number set events))
 at_edit number =
     edit_with (λ next. next + 1) (λ set next events. split_at_of next number set events) (λ next. omega arith)
     (λ set next events new h below selection e.
-    let only = one_commit events set (λ c. split_from next c number events) new e in
+    let only = at_one next number set events new e in
     let same : split_at_of next number (any.Commit only.0 ∷ []) events ≡ Ok new = sym (ap (λ (s : List AnyId). split_at_of next number s events) only.1) ∙ e in
     let there = commit_there events set only.0 selection only.1 in (
       record {
@@ -58,7 +63,7 @@ pub by_edit : (path : Bytes) → IsEdit (λ set next events. with_number (next +
 by_edit path =
     edit_with (λ next. next + 1) (λ set next events. split_by_of next path set events) (λ next. omega arith)
     (λ set next events new h below selection e.
-    let only = one_commit events set (λ c. by_path next path c events) new e in
+    let only = by_one next path set events new e in
     let same : split_by_of next path (any.Commit only.0 ∷ []) events ≡ Ok new = sym (ap (λ (s : List AnyId). split_by_of next path s events) only.1) ∙ e in
     let there = commit_there events set only.0 selection only.1 in (
       record {

@@ -12,6 +12,14 @@ ghost use Rattle.edit_laws.specs.Passing.{IsWithinLimits};
 ghost use Rattle.split_laws.specs.Split.{split_at_of, split_by_of};
 ghost use Rattle.split_laws.specs.SplitTrees.{KeepsTrees};
 
+/// A split that isn't refused is of one event, which is a commit.
+pub fn a_split_is_of_one_commit()
+    ensures at { (copy number : ℕ) (set : List AnyId) (events new : List PlainEvent) →
+        split_at_of copy number set events ≡ Ok new → (c : ℕ) × (set ≡ any.Commit c ∷ []) }
+    ensures by { (copy : ℕ) (path : Bytes) (set : List AnyId) (events new : List PlainEvent) →
+        split_by_of copy path set events ≡ Ok new → (c : ℕ) × (set ≡ any.Commit c ∷ []) }
+{}
+
 /// After a split the copy has the tree that the commit had, and every other commit has its own, with the same bytes.
 pub fn a_split_keeps_trees()
     ensures at { (copy number c : ℕ) (events new : List PlainEvent) → IsSound events →
