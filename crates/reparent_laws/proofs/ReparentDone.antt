@@ -187,6 +187,9 @@ module _ (use_order rebase : Bool) (set : List AnyId) (events after : List Plain
   pub done_adds_nothing : AddsNothing events after
   done_adds_nothing = of_last (AddsNothing events after) (λ new c is x. its_events rebase events h c new after (here_c new c is) (here_new new c is) (distinct_new new c is) (done_of new c is x))
 
+  pub done_last : (others : List ℕ) × (c : ℕ) × (ordered use_order set events ≡ others ++ c ∷ [])
+  done_last = of_last ((others : List ℕ) × (c : ℕ) × (ordered use_order set events ≡ others ++ c ∷ [])) (λ new c is x. (new, c, is))
+
   pub done_changes_one : (others : List ℕ) (c : ℕ) → ordered use_order set events ≡ others ++ c ∷ [] → AllByRecursion (IsOneOf c (reparents rebase events others) events) after
   done_changes_one others c is =
       let x = sym (last_is rebase events others c) ∙ sym (ap (reparent_last rebase events) is) ∙ of_commits in

@@ -134,6 +134,13 @@ pub fn nothing_is_added()
         IsSound events → remove_of what set events ≡ Ok new → AddsNothing events new }
 {}
 
+/// A reparent that isn't refused has a last commit, to which it gives the others as parents.
+pub fn a_reparent_has_a_last_commit()
+    ensures { (use_order rebase : Bool) (set : List AnyId) (events new : List PlainEvent) →
+        IsSound events → IsSelection events set → reparent_of use_order rebase set events ≡ Ok new →
+        (others : List ℕ) × (c : ℕ) × (ordered use_order set events ≡ others ++ c ∷ []) }
+{}
+
 /// Each event is as it was, but for the parents and operations of one commit, which are those that the definition says:
 /// the last of the commits of a reparent, the later one of a merge, or the one that is selected.
 pub fn one_commit_is_changed()
