@@ -12,6 +12,7 @@ pub mod InTurn
 pub mod MovedPaths
 pub mod Nearby
 pub mod OpsAgain
+mod ParentsLeft
 pub mod Replacing
 pub mod Sides
 pub mod Still

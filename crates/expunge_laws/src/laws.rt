@@ -36,6 +36,7 @@ ghost use Rattle.history_laws.specs.FirstParents.{ops_along};
 ghost use Rattle.edit_laws.specs.Editing.{IsEdit, with_number};
 ghost use Rattle.edit_laws.specs.Passing.{IsWithinLimits};
 ghost use Rattle.edit_laws.specs.Sweeping.{is_named, swept};
+ghost use Rattle.squash_laws.specs.Remaining.{HasParentsFor};
 ghost use Rattle.squash_laws.specs.Takings.{back_of};
 ghost use Rattle.expunge_laws.specs.Expunged.{
   emptied,
@@ -120,6 +121,13 @@ pub fn an_expunge_adds_nothing()
 pub fn what_stays_is_as_it_was()
     ensures { (matched : Bytes → Bool) (events new : List PlainEvent) → IsSound events →
         expunge_of matched events ≡ Ok new → AllByRecursion (IsOneOf events) new }
+{}
+
+/// After an expunge each commit has what stands for its old parents: one that stays for itself, an emptied one by its own parent.
+pub fn parents_give_way_to_what_stays()
+    ensures { (matched : Bytes → Bool) (events new : List PlainEvent) → IsSound events →
+        expunge_of matched events ≡ Ok new →
+        AllByRecursion (HasParentsFor (emptied matched events) events) (nodes new) }
 {}
 
 /// An expunge of a history that is within the limits on events and aliases is refused exactly where there would be too

@@ -4,7 +4,7 @@ pub mod Done
 pub mod Forward
 pub mod Hung
 pub mod Left
-mod Parents
+pub mod Parents
 mod Rows
 pub mod Shows
 pub mod Squashed

@@ -36,10 +36,10 @@ module _ (set : List AnyId) (events : List PlainEvent) (taking : Takings) where
       settled_all P (without_set set events taking) new
       (all_filter P (λ e. not (is_left_over events left e)) left (all_flat Is P (left_of set events taking) each events all)) is
 
-  abbrev IsOwn : Node → Type 0
+  abbrev pub IsOwn : Node → Type 0
   IsOwn n = node_at (past events) n.id ≡ Some n
 
-  parents_of_one : (e : PlainEvent) → OfNodes IsOwn e → AllByRecursion (OfNodes (HasParentsFor set events)) (left_of set events taking e)
+  pub parents_of_one : (e : PlainEvent) → OfNodes IsOwn e → AllByRecursion (OfNodes (HasParentsFor set events)) (left_of set events taking e)
   parents_of_one (Commit id mark branch author committer encoding comment parents ops aliases) f =
       one_left (OfNodes (HasParentsFor set events)) (is_removed set id)
       (Commit id mark branch author committer encoding (taking.comment id parents comment) (parents_after set events taking parents) (taking.ops id parents ops) aliases)
@@ -52,7 +52,7 @@ module _ (set : List AnyId) (events : List PlainEvent) (taking : Takings) where
       one_moved (OfNodes (HasParentsFor set events)) (is_listed (any.Reset id) set) (λ t. Reset id branch (Some t)) (taking.target target) (λ t is. tt)
   parents_of_one (Pass id line) f = one_left (OfNodes (HasParentsFor set events)) (is_listed (any.Pass id) set) (Pass id line) (λ stays. tt)
 
-  own_nodes : IsSound events → AllByRecursion (OfNodes IsOwn) events
+  pub own_nodes : IsSound events → AllByRecursion (OfNodes IsOwn) events
   own_nodes h =
       nodes_of_events IsOwn events
       (subst (AllByRecursion IsOwn) (reverse-reverse (nodes events)) (all_reverse IsOwn (past events) (nodes_found (past events) (linked_past events h))))
