@@ -20,9 +20,11 @@ ghost use Rattle.plain_model.specs.declared.policy.Lean.{Lean};
 ghost use Rattle.stream_grammar.specs.Limits.{stream_of};
 ghost use Rattle.plain_model.specs.declared.policy.Push.TheVariants as push;
 ghost use Rattle.expunge_laws.specs.Matching.{Matches, matched_by};
+ghost use Rattle.history_machine.specs.Changed.{ChangesChosen, GivesLastTrees, Splits};
 ghost use Rattle.history_machine.specs.Kept.{
   Each,
   KeepsEveryTree,
+  KeepsHistory,
   KeepsTrees,
   KeepsTreesOfRest,
   LosesPaths,
@@ -63,8 +65,11 @@ use selection_eval::{
 };
 use simplify_laws::{a_simplify_is_an_edit, simplifying_keeps_the_ids, simplifying_keeps_trees};
 use soundness_laws::{what_is_read_is_sound, what_is_read_passes_no_limit};
-use split_laws::a_split_is_an_edit;
-use squash_laws::{a_push_forward_keeps_trees, a_squash_is_an_edit, nothing_is_added};
+use split_laws::{a_split_is_an_edit, a_split_is_of_one_commit, a_split_keeps_trees};
+use squash_laws::{
+    a_push_back_gives_the_last_tree, a_push_forward_keeps_trees, a_squash_is_an_edit,
+    a_squash_removes_its_commits, nothing_is_added,
+};
 
 /// A line that is refused leaves the session and the files as they were, one line is printed, and nothing is run in its place.
 pub fn a_refused_line_changes_nothing()
@@ -98,6 +103,14 @@ pub fn a_renumber_keeps_trees()
     renumbering_keeps_trees();
 }
 
+/// An assign that is done leaves every loaded repository its name, its history and its next number: only lists of events under names
+/// are others.
+pub fn an_assign_keeps_histories()
+    ensures { (denial : Option Denial) (s : Session) (files : Files) (selection name : List ℕ)
+        (t : Effect Session) → step denial s files (command.Assign selection name) ≡ Ok t →
+        Each KeepsHistory s.repos t.session.repos }
+{}
+
 /// A squash that pushes forward leaves every loaded repository its name, and each commit that is still there its tree.
 pub fn a_squash_forward_keeps_trees()
     ensures { (denial : Option Denial) (s : Session) (files : Files) (selection : Option (List ℕ))
@@ -109,6 +122,42 @@ pub fn a_squash_forward_keeps_trees()
 {
     a_push_forward_keeps_trees();
     nothing_is_added();
+}
+
+/// A squash that pushes back removes the selected commits of the chosen history and no others: each commit that is still there has
+/// the tree of the last removed one that hung on it, and where none did, its own. Nothing else changes.
+pub fn a_squash_back_gives_the_last_tree()
+    ensures { (denial : Option Denial) (s : Session) (files : Files) (selection : Option (List ℕ))
+        (tags : Lean) (t : Effect Session) →
+        step denial s files (command.Edit selection (edit.Squash (record {
+          push = push.Back;
+          tags = tags;
+        }))) ≡ Ok t → IsLawful s → ChangesChosen GivesLastTrees denial s
+        (command.Edit selection (edit.Squash (record { push = push.Back; tags = tags })))
+        t.session }
+{
+    a_push_back_gives_the_last_tree();
+    a_squash_removes_its_commits();
+}
+
+/// A split is of one commit of the chosen history: its copy has the tree that it had, and every other commit is there, and has its
+/// own. Nothing else changes.
+pub fn a_split_keeps_other_trees()
+    ensures at { (denial : Option Denial) (s : Session) (files : Files)
+        (selection : Option (List ℕ)) (number : ℕ) (t : Effect Session) →
+        step denial s files (command.Edit selection (edit.SplitAt number)) ≡ Ok t →
+        IsLawful s → ChangesChosen Splits denial s
+        (command.Edit selection (edit.SplitAt number)) t.session }
+    ensures by { (denial : Option Denial) (s : Session) (files : Files)
+        (selection : Option (List ℕ)) (path : List ℕ) (t : Effect Session) →
+        step denial s files (command.Edit selection (edit.SplitBy path)) ≡ Ok t →
+        IsLawful s → ChangesChosen Splits denial s
+        (command.Edit selection (edit.SplitBy path)) t.session }
+{
+    a_split_is_of_one_commit();
+    a_split_keeps_trees();
+    selections_are_live();
+    sound_histories_are_such();
 }
 
 /// A reparent without `--rebase`, a merge and an unmerge leave every loaded repository its name, and all its commits, each
@@ -171,6 +220,17 @@ pub fn an_expunge_takes_paths_out_of_trees()
     an_expunge_adds_nothing();
     an_expunge_comes_to_its_end();
 }
+
+/// Where each repository keeps the trees of its events it keeps every commit with its tree, and then the trees of what is still
+/// there; and what several commands in turn keep of these, all of them together keep.
+pub fn what_is_kept_composes()
+    ensures all { (old new : List Repo) → Each KeepsTrees old new → Each KeepsEveryTree old new }
+    ensures rest { (old new : List Repo) → Each KeepsEveryTree old new → Each KeepsTreesOfRest old new }
+    ensures every_in_turn { (first second third : List Repo) → Each KeepsEveryTree first second →
+        Each KeepsEveryTree second third → Each KeepsEveryTree first third }
+    ensures rest_in_turn { (first second third : List Repo) → Each KeepsTreesOfRest first second →
+        Each KeepsTreesOfRest second third → Each KeepsTreesOfRest first third }
+{}
 
 /// What is read of a stream is a lawful history.
 pub fn what_is_read_is_lawful()
