@@ -1,13 +1,28 @@
 -- What an edit changes of the chosen history, where trees don't all stay.
-use Rattle.std.specs.Prelude.{◌≡◌, ℕ, ◌+◌, ◌&&◌, ◌∷◌, not, [], Option, Ok}
+use Rattle.std.specs.Prelude.{◌≡◌, ℕ, ◌+◌, ◌++◌, ◌&&◌, Bool, IsTrue, List, ◌∷◌, [], not, Option, Ok, option_map, true}
+use Rattle.std.specs.List.{AllByRecursion}
+use Rattle.plain_model.specs.declared.event.PlainEvent.{PlainEvent}
+use Rattle.plain_model.specs.declared.id.AnyId.{AnyId}
 use Rattle.plain_model.specs.declared.id.AnyId.TheVariants as any
+use Rattle.plain_model.specs.Histories.{nodes, tree}
+use Rattle.plain_model.specs.Paths.{Bytes}
 use Rattle.plain_model.specs.Snapshots.{shown_tree}
 use Rattle.plain_model.specs.Soundness.{IsCommitOf, has_id}
 use Rattle.byte_patterns.specs.Judging.{Denial, under}
 use Rattle.edit_laws.specs.Editing.{Remade}
+use Rattle.edit_laws.specs.Equations.{Fits}
+use Rattle.edit_laws.specs.Keeping
+use Rattle.edit_laws.specs.Sweeping.{is_named}
 use Rattle.event_sets.specs.Sets.{Ids}
+use Rattle.expunge_laws.specs.Expunged.{emptied, is_emptied}
+use Rattle.expunge_laws.specs.Remaining.{LeavesWhere}
+use Rattle.expunge_laws.specs.Replaced.{restricted}
+use Rattle.reorder_laws.specs.InOrder.{IsInOrder}
+use Rattle.reparent_laws.specs.Remaining
+use Rattle.reparent_laws.specs.Reparent.{ordered, reparents}
 use Rattle.script_reader.specs.declared.command.Command.{Command}
 use Rattle.split_laws.specs.SplitTrees
+use Rattle.squash_laws.specs.Remaining.{HasParentsFor, IsOneOn, stand_for}
 use Rattle.squash_laws.specs.Removed.{is_removed}
 use Rattle.squash_laws.specs.Takings.{last_hanging}
 use Rattle.history_machine.specs.Sessions.{Repo, Session, Subject, chosen, ready, with_remade, with_repo}
@@ -44,3 +59,49 @@ pub record RemovesCommits (set : Ids) (old : Repo) (made : Remade) : Type 0 wher
 pub record GivesLastTrees (set : Ids) (old : Repo) (made : Remade) : Type 0 where
   pub removes : RemovesCommits set old made
   pub trees : (c : ℕ) → IsCommitOf made.history c → shown_tree made.history c ≡ shown_tree old.history (last_hanging set old.history c)
+
+-- ---- operations on other parents
+
+-- each tree is what the operations of its commit make of the tree of its first parent
+abbrev pub AreReplayed : List PlainEvent → Type 0
+AreReplayed events = AllByRecursion (Fits (tree events)) (nodes events)
+
+-- The commits of the set are gone, and no others. Each event that is still there is as it was, but that a commit has what stands for the
+-- parents that it had.
+pub record Deletes (set : Ids) (old : Repo) (made : Remade) : Type 0 where
+  pub removes : RemovesCommits set old made
+  pub events : AllByRecursion (IsOneOn (stand_for set old.history) old.history) made.history
+  pub trees : AreReplayed made.history
+
+-- The same events are there. The commits of the set have the parents that their order gives them, and all else is as it was, but that the
+-- last of the order stands among parents for the last of the line.
+pub record Reorders (set : Ids) (old : Repo) (made : Remade) : Type 0 where
+  pub next : made.next ≡ old.next
+  pub ids : (id : AnyId) → has_id made.history id ≡ has_id old.history id
+  pub order : IsInOrder set old.history made.history
+  pub trees : AreReplayed made.history
+
+-- The same events are there. The last of the commits has the others as its parents, and all else is as it was.
+pub record Rebases (use_order : Bool) (set : Ids) (old : Repo) (made : Remade) : Type 0 where
+  pub next : made.next ≡ old.next
+  pub ids : (id : AnyId) → has_id made.history id ≡ has_id old.history id
+  pub others : List ℕ
+  pub last : ℕ
+  pub are : ordered use_order set old.history ≡ others ++ last ∷ []
+  pub events : AllByRecursion (Remaining.IsOneOf last (reparents true old.history others) old.history) made.history
+  pub trees : AreReplayed made.history
+
+-- ---- an expunge
+
+-- A commit leaves exactly where it had an operation, has none left without the matched paths, and is no merge; a blob exactly where an
+-- operation named it and none does any more. No event comes. Each commit has what stands for its old parents, and its old tree without the
+-- matched paths; and all else of each event is as it was, but for the operations of commits and the targets of tags and resets.
+pub record Expunges (matched : Bytes → Bool) (ids : Ids) (old : Repo) (made : Remade) : Type 0 where
+  pub next : made.next ≡ old.next
+  pub commits : AllByRecursion (LeavesWhere (is_emptied matched old.history) made.history) old.history
+  pub blobs : (b : ℕ) → has_id made.history (any.Blob b)
+      ≡ has_id old.history (any.Blob b) && not (is_named old.history b && not (is_named made.history b))
+  pub none_new : (id : AnyId) → IsTrue (has_id made.history id) → IsTrue (has_id old.history id)
+  pub parents : AllByRecursion (HasParentsFor (emptied matched old.history) old.history) (nodes made.history)
+  pub trees : (c : ℕ) → IsCommitOf made.history c → shown_tree made.history c ≡ option_map (restricted matched) (shown_tree old.history c)
+  pub same : AllByRecursion (Keeping.IsOneOf old.history) made.history

@@ -1,5 +1,6 @@
 //! Laws of the machine. Each function's contract is one; its body is empty, or calls the laws that it rests on.
-ghost use Rattle.std.specs.Prelude.{◌≡◌, ℕ, Bool, false, List, [], None, Ok, Err, Option, Result};
+ghost use Rattle.std.specs.Prelude.{◌≡◌, ℕ, Bool, false, List, [], None, Ok, Err, Option, Result, take};
+ghost use Rattle.std.specs.List.{AllByRecursion};
 ghost use Rattle.plain_model.specs.declared.event.PlainEvent.{PlainEvent};
 ghost use Rattle.plain_model.specs.declared.fault.Fault.{Fault};
 ghost use Rattle.plain_model.specs.Faults.{refusal};
@@ -15,6 +16,7 @@ ghost use Rattle.script_reader.specs.declared.command.Command.TheVariants as com
 ghost use Rattle.script_reader.specs.declared.command.Command.{Command};
 ghost use Rattle.script_reader.specs.declared.edit.Edit.TheVariants as edit;
 ghost use Rattle.script_reader.specs.declared.edit.Edit.{Edit};
+ghost use Rattle.script_lines.specs.declared.script.ScriptItem.{ScriptItem};
 ghost use Rattle.script_lines.specs.declared.script.ScriptLine.{ScriptLine};
 ghost use Rattle.plain_model.specs.declared.policy.Lean.{Lean};
 ghost use Rattle.stream_grammar.specs.Limits.{stream_of};
@@ -30,12 +32,13 @@ ghost use Rattle.history_machine.specs.Kept.{
   LosesPaths,
 };
 ghost use Rattle.history_machine.specs.Lawful.{IsLawful};
-ghost use Rattle.history_machine.specs.Machine.{Effect, effect_of};
+ghost use Rattle.history_machine.specs.Machine.{Effect, effect_of, session_after};
 ghost use Rattle.history_machine.specs.PathWords.{matches_of};
 ghost use Rattle.history_machine.specs.Sessions.{
   Repo,
   Session,
   chosen,
+  empty_session,
   line_step,
   remade,
   sends,
@@ -49,6 +52,7 @@ ghost use Rattle.history_machine.specs.Several.{
   after_joining,
   after_uniting,
 };
+ghost use Rattle.history_machine.specs.Whole.{Denials, run, run_from};
 
 use coalesce_laws::{a_coalesce_is_an_edit, a_coalescing_keeps_trees};
 use expunge_laws::{
@@ -280,6 +284,22 @@ pub fn a_step_keeps_it()
     an_expunge_is_an_edit();
     a_renumbering_is_an_edit();
     a_command_is_spelled();
+}
+
+/// So is each session of a run that begins with such a one, as the empty one is: before each line that is carried out, after it, and
+/// where the run breaks off.
+pub fn each_session_of_a_run_is_lawful()
+    ensures empty { IsLawful empty_session }
+    ensures after { (denials : Denials) (s : Session) (files : Files) (items : List ScriptItem)
+        (keep_going : Bool) → IsLawful s → AllByRecursion (λ t. IsLawful t.session)
+        (run_from denials s files items keep_going).effects }
+    ensures before { (denials : Denials) (s : Session) (files : Files) (items : List ScriptItem)
+        (keep_going : Bool) → IsLawful s → (k : ℕ) →
+        IsLawful (session_after s (take k (run_from denials s files items keep_going).effects)) }
+    ensures whole { (denials : Denials) (words : List (List ℕ)) (files : Files) →
+        AllByRecursion (λ t. IsLawful t.session) (run denials words files).effects }
+{
+    a_step_keeps_it();
 }
 
 /// A command that takes another repository in leaves such a session, where what it makes of the two is an edit; and so do one that

@@ -1,0 +1,109 @@
+//! Laws of edits that keep operations, not trees: which commits are left, and on which parents; and of an expunge, which commits and
+//! blobs leave. Each function's contract is a law; its body calls the laws that it rests on.
+ghost use Rattle.std.specs.Prelude.{◌≡◌, Bool, List, Ok, Option, true, ℕ};
+ghost use Rattle.plain_model.specs.Files.{Files};
+ghost use Rattle.plain_model.specs.declared.policy.Lean.{Lean};
+ghost use Rattle.plain_model.specs.declared.policy.Push.TheVariants as push;
+ghost use Rattle.byte_patterns.specs.Judging.{Denial};
+ghost use Rattle.expunge_laws.specs.Matching.{Matches, matched_by};
+ghost use Rattle.script_reader.specs.declared.command.Command.TheVariants as command;
+ghost use Rattle.script_reader.specs.declared.edit.Edit.TheVariants as edit;
+ghost use Rattle.history_machine.specs.Changed.{
+  ChangesChosen,
+  Deletes,
+  Expunges,
+  Rebases,
+  Reorders,
+};
+ghost use Rattle.history_machine.specs.Lawful.{IsLawful};
+ghost use Rattle.history_machine.specs.Machine.{Effect};
+ghost use Rattle.history_machine.specs.PathWords.{matches_of};
+ghost use Rattle.history_machine.specs.Sessions.{Session, step};
+
+use expunge_laws::{
+    an_expunge_adds_nothing, an_expunge_comes_to_its_end, an_expunge_restricts_trees,
+    blobs_leave_that_nothing_names, emptied_commits_leave, parents_give_way_to_what_stays,
+    what_stays_is_as_it_was,
+};
+use reorder_laws::{a_line_is_put_in_order, a_reorder_keeps_the_ids, a_reorder_replays_operations};
+use reparent_laws::{
+    a_change_keeps_the_ids, a_rebase_replays_operations, a_reparent_has_a_last_commit,
+    one_commit_is_changed,
+};
+use selection_eval::{
+    selections_are_live, selections_are_without_repeats, sound_histories_are_such,
+};
+use squash_laws::{a_squash_removes_its_commits, parents_give_way_to_their_parents};
+
+/// A deletion removes the selected commits of the chosen history and no others. Each commit that is still there has its operations, on
+/// what stands for its old parents, and its tree is what they make of its new first parent's. Nothing else of an event changes.
+pub fn a_deletion_replays_what_remains()
+    ensures { (denial : Option Denial) (s : Session) (files : Files) (selection : Option (List ℕ))
+        (tags : Lean) (t : Effect Session) →
+        step denial s files (command.Edit selection (edit.Squash (record {
+          push = push.Discard;
+          tags = tags;
+        }))) ≡ Ok t → IsLawful s → ChangesChosen Deletes denial s
+        (command.Edit selection (edit.Squash (record { push = push.Discard; tags = tags })))
+        t.session }
+{
+    a_squash_removes_its_commits();
+    parents_give_way_to_their_parents();
+    squash_laws::a_deletion_replays_what_remains();
+}
+
+/// A reorder keeps all events of the chosen history. The selected commits have the parents that their order gives them, the last of
+/// them stands among parents for the last of the line, and nothing else of an event changes: each tree is what a commit's operations
+/// make of its new first parent's.
+pub fn a_reorder_replays_in_another_order()
+    ensures { (denial : Option Denial) (s : Session) (files : Files) (selection : Option (List ℕ))
+        (t : Effect Session) → step denial s files (command.Edit selection edit.Reorder) ≡ Ok t →
+        IsLawful s →
+        ChangesChosen Reorders denial s (command.Edit selection edit.Reorder) t.session }
+{
+    a_line_is_put_in_order();
+    a_reorder_keeps_the_ids();
+    a_reorder_replays_operations();
+    selections_are_without_repeats();
+    selections_are_live();
+    sound_histories_are_such();
+}
+
+/// A reparent with `--rebase` keeps all events of the chosen history. The last of its commits has the others as its parents, and
+/// nothing else of an event changes: each tree is what a commit's operations make of its new first parent's.
+pub fn a_rebase_replays_on_other_parents()
+    ensures { (denial : Option Denial) (s : Session) (files : Files) (selection : Option (List ℕ))
+        (use_order : Bool) (t : Effect Session) →
+        step denial s files (command.Edit selection (edit.Reparent (record {
+          use_order = use_order;
+          rebase = true;
+        }))) ≡ Ok t → IsLawful s → ChangesChosen (Rebases use_order) denial s
+        (command.Edit selection (edit.Reparent (record { use_order = use_order; rebase = true })))
+        t.session }
+{
+    one_commit_is_changed();
+    a_reparent_has_a_last_commit();
+    a_change_keeps_the_ids();
+    a_rebase_replays_operations();
+    selections_are_without_repeats();
+    selections_are_live();
+    sound_histories_are_such();
+}
+
+/// After an expunge those commits of the chosen history are gone that it emptied, and no others, and those blobs that nothing names any
+/// more. What stays has its tree without the paths that the words match, on what stands for its old parents. Nothing else of an event
+/// changes, but operations, and the targets of tags and resets.
+pub fn an_expunge_removes_what_it_emptied()
+    ensures { (denial : Option Denial) (s : Session) (files : Files) (words : List (List ℕ))
+        (t : Effect Session) → step denial s files (command.Expunge words) ≡ Ok t → IsLawful s →
+        (matchers : List Matches) × ((matches_of words).value ≡ Ok matchers)
+        × ChangesChosen (Expunges (matched_by matchers)) denial s (command.Expunge words) t.session }
+{
+    emptied_commits_leave();
+    blobs_leave_that_nothing_names();
+    parents_give_way_to_what_stays();
+    what_stays_is_as_it_was();
+    an_expunge_restricts_trees();
+    an_expunge_adds_nothing();
+    an_expunge_comes_to_its_end();
+}
