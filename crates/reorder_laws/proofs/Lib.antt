@@ -1,3 +1,4 @@
+mod InOrder
 pub mod Line
 pub mod Places
 pub mod ReorderDone

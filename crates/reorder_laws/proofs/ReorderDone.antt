@@ -6,15 +6,17 @@ use Rattle.std.proofs.lemmas.Bool.{cases_Bool}
 use Rattle.plain_model.specs.declared.fault.Fault.{Fault}
 use Rattle.plain_model.specs.declared.fault.Fault.TheVariants as fault
 use Rattle.plain_model.specs.declared.id.AnyId.{AnyId}
+use Rattle.plain_model.specs.declared.id.AnyId.TheVariants as any
 use Rattle.plain_model.specs.declared.limit.TheConstants.{MAX_ALIASES, MAX_EVENTS, MAX_OPERATIONS}
 use Rattle.plain_model.specs.declared.event.PlainEvent.{PlainEvent}
 use Rattle.plain_model.specs.declared.event.PlainEvent.TheVariants.{Blob, Commit, Tag, Reset, Pass}
-use Rattle.plain_model.specs.Histories.{nodes, tree}
+use Rattle.plain_model.specs.Histories.{Node, node_at, nodes, past, tree}
 use Rattle.plain_model.specs.Lookups.{alias_count}
-use Rattle.plain_model.specs.Soundness.{IsSound, has_id}
+use Rattle.plain_model.specs.Soundness.{IsSound, are_distinct, has_id}
 use Rattle.plain_model.specs.Streams.{is_marked}
 use Rattle.history_laws.specs.FirstParents.{ops_along}
 use Rattle.history_laws.proofs.Ids.{is_marked_append}
+use Rattle.history_laws.proofs.Lists.{all_imply}
 use Rattle.edit_laws.specs.Checking.{tree_check}
 use Rattle.edit_laws.specs.Equations.{Fits}
 use Rattle.edit_laws.specs.Keeping.{HasOperationsOf}
@@ -27,12 +29,16 @@ use Rattle.edit_laws.proofs.Settles.{any_event, settled_all, settled_ids, settle
 use Rattle.edit_laws.proofs.Sound.{in_parts}
 use Rattle.edit_laws.proofs.Trees.{trees_fit}
 use Rattle.commit_laws.specs.Selected.{chosen, kind_fault, listed, node_of}
+use Rattle.commit_laws.proofs.Found.{all_found}
+use Rattle.commit_laws.proofs.Given.{IsHere}
+use Rattle.commit_laws.proofs.Selections.{chosen_distinct, chosen_here}
 use Rattle.edit_laws.specs.Selecting.{IsSelection}
 use Rattle.edit_laws.proofs.Checked.{checked}
 use Rattle.edit_laws.proofs.Tallies.{aliases_counted, counted, one, ops_counted, own_aliases, own_ops}
 use Rattle.reorder_laws.specs.InOrder.{IsInOrder, IsOneInOrder}
 use Rattle.reorder_laws.specs.Reorder.{last_of, line_fault, lined_up, relinked, reorder_of, reorder_these, reordered, unless_refused}
-use Rattle.reorder_laws.proofs.Reordered.{left, left_few, left_ids, left_in_order, left_ops, left_settles, left_sums}
+use Rattle.reorder_laws.proofs.InOrder.{IsAfter, each_given, order_here, parents_given}
+use Rattle.reorder_laws.proofs.Reordered.{all_both, left, left_after, left_few, left_ids, left_in_order, left_ops, left_settles, left_sums}
 
 -- what is true where a reorder isn't refused
 record IsDone (set : List AnyId) (events : List PlainEvent) (h : IsSound events) (sel : IsSelection events set) (new : List PlainEvent) : Type 0 where
@@ -184,6 +190,11 @@ pub done_in_order : (set : List AnyId) (events new : List PlainEvent) → IsSoun
     reorder_of set events ≡ Ok new → IsInOrder set events new
 done_in_order set events new h sel d =
     let done = done_parts set events h sel new d in
+    let its = left set events h sel done.v done.vs done.w done.ws done.is_vs done.is_ws done.line in
+    let first = (node_of events done.v).parents in
+    let given = lined_up first (done.w ∷ done.ws) in
+    let old = last_of done.v done.vs in
+    let last = last_of done.w done.ws in
     record {
       first = done.v;
       later = done.vs;
@@ -191,10 +202,24 @@ done_in_order set events new h sel d =
       behind = done.ws;
       line = done.is_vs;
       order = done.is_ws;
+      parents =
+          parents_given new given old last
+          (all_both (IsAfter given old last) (λ (n : Node). node_at (past new) n.id ≡ Some n) (nodes new)
+          (events_of_nodes (IsAfter given old last) new
+          (settled_all (OfNodes (IsAfter given old last)) its new (left_after set events h sel done.v done.vs done.w done.ws done.is_vs done.is_ws done.line) done.is))
+          (all_found new (done_sound set events new h sel d)))
+          given
+          (order_here new (done.w ∷ done.ws) (here_after done.w done.ws done.is_ws) first)
+          (each_given first (done.w ∷ done.ws) (subst (λ (l : List ℕ). are_distinct l ≡ true) done.is_ws (chosen_distinct set sel.apart)));
       events_in_order =
-          settled_all (IsOneInOrder done.v done.vs done.w done.ws events) (left set events h sel done.v done.vs done.w done.ws done.is_vs done.is_ws done.line) new
+          settled_all (IsOneInOrder done.v done.vs done.w done.ws events) its new
           (left_in_order set events h sel done.v done.vs done.w done.ws done.is_vs done.is_ws done.line) done.is;
     }
+  where
+    here_after : (w : ℕ) (ws : List ℕ) → chosen set ≡ w ∷ ws → AllByRecursion (IsHere new) (w ∷ ws)
+    here_after w ws is =
+        all_imply (IsHere events) (IsHere new) (λ c k. done_ids set events new h sel d (any.Commit c) ∙ k) (w ∷ ws)
+        (subst (AllByRecursion (IsHere events)) is (chosen_here events set sel.there))
 
 -- ---- as many as before
 

@@ -28,10 +28,11 @@ use Rattle.commit_laws.proofs.Given.{IsGiven, IsHere, all_given, here_parents, p
 use Rattle.commit_laws.proofs.Selections.{chosen_here}
 use Rattle.reorder_laws.specs.InOrder.{IsOneInOrder}
 use Rattle.reorder_laws.specs.Reorder.{filled, instead, last_of, line_fault, lined_up, parents_after, relinked, relinked_all}
+use Rattle.reorder_laws.proofs.InOrder.{IsAfter}
 use Rattle.reorder_laws.proofs.Line.{IsApart, IsChild, all_children, distinct_instead, each_in, given_is, in_ws, line_here, node_is, not_given, not_new, number, number_given, number_other, outside}
 use Rattle.reorder_laws.proofs.Places.{filled_all, filled_same, filled_there}
 
-all_both : {X : Type 0} (P Q : X → Type 0) (xs : List X) → AllByRecursion P xs → AllByRecursion Q xs → AllByRecursion (λ x. P x × Q x) xs
+pub all_both : {X : Type 0} (P Q : X → Type 0) (xs : List X) → AllByRecursion P xs → AllByRecursion Q xs → AllByRecursion (λ x. P x × Q x) xs
 all_both P Q [] a b = tt
 all_both P Q (x ∷ xs) a b = ((a.0, b.0), all_both P Q xs a.1 b.1)
 
@@ -293,6 +294,16 @@ module _ (set : List AnyId) (events : List PlainEvent) (h : IsSound events) (sel
 
   pub left_ops : AllByRecursion (OfNodes (HasOperationsOf events)) left
   left_ops = left_all Known (OfNodes (HasOperationsOf events)) own_ops known
+
+  own_after : (e : PlainEvent) → OfNodes (IsAfter given old new) (link e)
+  own_after (Commit id mark branch author committer encoding comment parents ops aliases) = ((parents, refl), tt)
+  own_after (Blob id mark bytes) = tt
+  own_after (Tag id name target tagger comment mark) = tt
+  own_after (Reset id branch target) = tt
+  own_after (Pass id line) = tt
+
+  pub left_after : AllByRecursion (OfNodes (IsAfter given old new)) left
+  left_after = left_all Known (OfNodes (IsAfter given old new)) (λ e k. own_after e) known
 
   abbrev IsFound : PlainEvent → Type 0
   IsFound e = find_event (id_of e) events ≡ Some e
