@@ -5,6 +5,7 @@ pub mod Checked
 pub mod Cycles
 pub mod ListOrder
 pub mod Merged
+mod OneCommit
 pub mod Operated
 pub mod Puts
 pub mod ReparentDone

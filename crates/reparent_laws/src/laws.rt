@@ -141,6 +141,16 @@ pub fn a_reparent_has_a_last_commit()
         (others : List ℕ) × (c : ℕ) × (ordered use_order set events ≡ others ++ c ∷ []) }
 {}
 
+/// An addition and a removal that aren't refused are of one event, which is a commit, and an operation that is added is one of this
+/// history.
+pub fn an_operation_is_of_one_commit()
+    ensures add { (spelled : RawOp) (set : List AnyId) (events new : List PlainEvent) →
+        add_of spelled set events ≡ Ok new → (c : ℕ) × (op : FileOp) × (set ≡ any.Commit c ∷ [])
+        × (op_of events spelled ≡ Ok op) }
+    ensures remove { (what : Removal) (set : List AnyId) (events new : List PlainEvent) →
+        remove_of what set events ≡ Ok new → (c : ℕ) × (set ≡ any.Commit c ∷ []) }
+{}
+
 /// Each event is as it was, but for the parents and operations of one commit, which are those that the definition says:
 /// the last of the commits of a reparent, the later one of a merge, or the one that is selected.
 pub fn one_commit_is_changed()

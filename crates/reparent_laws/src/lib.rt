@@ -15,7 +15,7 @@ pub use laws::{
     a_change_keeps_the_ids, a_change_keeps_the_limits, a_cycle_is_a_path_of_parents,
     a_merge_goes_by_event_numbers, a_merge_with_a_parent_changes_nothing,
     a_rebase_replays_operations, a_reparent_has_a_last_commit, a_tree_is_written_out,
-    nothing_is_added, one_commit_is_changed, other_operations_are_replayed,
-    other_parents_keep_trees, settling_comes_to_its_end,
+    an_operation_is_of_one_commit, nothing_is_added, one_commit_is_changed,
+    other_operations_are_replayed, other_parents_keep_trees, settling_comes_to_its_end,
 };
 pub use removal::Removal;
