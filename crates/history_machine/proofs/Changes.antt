@@ -1,5 +1,5 @@
 -- What an edit changes that is done, whatever it makes of the history.
-use Rattle.std.proofs.Common.{◌≡◌, ℕ, List, Option, Result, Ok, Err, refl, sym, ap, subst, ◌∙◌, ◌++◌, [], ◌∷◌}
+use Rattle.std.proofs.Common.{◌≡◌, ℕ, List, Option, Result, Ok, Err, refl, sym, ap, subst, ◌++◌, [], ◌∷◌}
 use Rattle.plain_model.specs.Files.{Files}
 use Rattle.plain_model.specs.Paths.{Bytes}
 use Rattle.plain_model.specs.declared.event.PlainEvent.{PlainEvent}
@@ -15,7 +15,7 @@ use Rattle.history_machine.specs.Changed.{ChangesChosen}
 use Rattle.history_machine.specs.Kept.{Each, KeepsHistory}
 use Rattle.history_machine.specs.Machine.{Effect}
 use Rattle.history_machine.specs.PathWords.{said_path}
-use Rattle.history_machine.specs.Sessions.{Repo, Session, Subject, after_assign, after_edit, carried, changes, chosen, edited, find_repo, quiet, ready, remade, step, unassigned, with_remade, with_repo}
+use Rattle.history_machine.specs.Sessions.{Repo, Session, Subject, after_assign, after_edit, carried, changes, chosen, edited, quiet, ready, remade, step, unassigned, with_remade, with_repo}
 use Rattle.history_machine.proofs.Steps.{each_with, found, with_its_subject}
 
 -- ---- an edit
@@ -70,12 +70,13 @@ numbered next (Ok new) made h =
     (ap (λ (m : Remade). Ok m.history) is, ap (λ (m : Remade). m.next) (sym is))
 
 -- an edit of a path that a word says
-pub with_path : (text : Bytes) (edit : Bytes → Result Remade Fault) (made : Remade) → (said_path text >>= edit) ≡ Ok made → (path : Bytes) × (edit path ≡ Ok made)
-with_path text edit made h = go (said_path text) h
+pub with_path : (text : Bytes) (edit : Bytes → Result Remade Fault) (made : Remade) → (said_path text >>= edit) ≡ Ok made
+    → (path : Bytes) × (said_path text ≡ Ok path) × (edit path ≡ Ok made)
+with_path text edit made h = go (said_path text) refl h
   where
-    go : (r : Result Bytes Fault) → (r >>= edit) ≡ Ok made → (path : Bytes) × (edit path ≡ Ok made)
-    go (Ok path) h = (path, h)
-    go (Err why) h = absurd cc
+    go : (r : Result Bytes Fault) → said_path text ≡ r → (r >>= edit) ≡ Ok made → (path : Bytes) × (said_path text ≡ Ok path) × (edit path ≡ Ok made)
+    go (Ok path) is h = (path, is, h)
+    go (Err why) is h = absurd cc
 
 -- ---- an assign
 

@@ -4,11 +4,16 @@ use Rattle.std.specs.List.{AllByRecursion}
 use Rattle.plain_model.specs.declared.event.PlainEvent.{PlainEvent}
 use Rattle.plain_model.specs.declared.id.AnyId.{AnyId}
 use Rattle.plain_model.specs.declared.id.AnyId.TheVariants as any
+use Rattle.plain_model.specs.declared.operation.FileOp.{FileOp}
+use Rattle.plain_model.specs.declared.raw.RawOp.{RawOp}
 use Rattle.plain_model.specs.Histories.{nodes, tree}
+use Rattle.plain_model.specs.Lookups.{is_listed}
 use Rattle.plain_model.specs.Paths.{Bytes}
 use Rattle.plain_model.specs.Snapshots.{shown_tree}
 use Rattle.plain_model.specs.Soundness.{IsCommitOf, has_id}
 use Rattle.byte_patterns.specs.Judging.{Denial, under}
+use Rattle.coalesce_laws.specs.Coalesce.{joined_ones}
+use Rattle.coalesce_laws.specs.Remaining.{IsJoinedTo}
 use Rattle.edit_laws.specs.Editing.{Remade}
 use Rattle.edit_laws.specs.Equations.{Fits}
 use Rattle.edit_laws.specs.Keeping
@@ -18,6 +23,9 @@ use Rattle.expunge_laws.specs.Expunged.{emptied, is_emptied}
 use Rattle.expunge_laws.specs.Remaining.{LeavesWhere}
 use Rattle.expunge_laws.specs.Replaced.{restricted}
 use Rattle.reorder_laws.specs.InOrder.{IsInOrder}
+use Rattle.reparent_laws.specs.declared.removal.Removal.{Removal}
+use Rattle.reparent_laws.specs.declared.removal.Removal.TheVariants.{At}
+use Rattle.reparent_laws.specs.Operations.{adds, op_of, removes}
 use Rattle.reparent_laws.specs.Remaining
 use Rattle.reparent_laws.specs.Reparent.{ordered, reparents}
 use Rattle.script_reader.specs.declared.command.Command.{Command}
@@ -25,6 +33,7 @@ use Rattle.split_laws.specs.SplitTrees
 use Rattle.squash_laws.specs.Remaining.{HasParentsFor, IsOneOn, stand_for}
 use Rattle.squash_laws.specs.Removed.{is_removed}
 use Rattle.squash_laws.specs.Takings.{last_hanging}
+use Rattle.history_machine.specs.PathWords.{said_path}
 use Rattle.history_machine.specs.Sessions.{Repo, Session, Subject, chosen, ready, with_remade, with_repo}
 
 -- The history of the chosen repository becomes another, and nothing else changes, but that its lists under names lose the events that
@@ -54,6 +63,12 @@ pub record Splits (ids : Ids) (old : Repo) (made : Remade) : Type 0 where
 pub record RemovesCommits (set : Ids) (old : Repo) (made : Remade) : Type 0 where
   pub next : made.next ≡ old.next
   pub commits : (c : ℕ) → has_id made.history (any.Commit c) ≡ has_id old.history (any.Commit c) && not (is_removed set c)
+
+-- the commits that are joined to their only child are gone, and no event else
+pub record JoinsCommits (seconds : ℕ) (set : Ids) (old : Repo) (made : Remade) : Type 0 where
+  pub next : made.next ≡ old.next
+  pub ids : (id : AnyId) → has_id made.history id ≡ has_id old.history id && not (is_listed id (joined_ones seconds set old.history))
+  pub joined : (c : ℕ) → IsTrue (is_listed (any.Commit c) (joined_ones seconds set old.history)) → IsJoinedTo set old.history c
 
 -- each commit that is still there has the tree of the last removed one that hung on it, and where none did, its own
 pub record GivesLastTrees (set : Ids) (old : Repo) (made : Remade) : Type 0 where
@@ -90,6 +105,32 @@ pub record Rebases (use_order : Bool) (set : Ids) (old : Repo) (made : Remade) :
   pub are : ordered use_order set old.history ≡ others ++ last ∷ []
   pub events : AllByRecursion (Remaining.IsOneOf last (reparents true old.history others) old.history) made.history
   pub trees : AreReplayed made.history
+
+-- The same events are there. The one event is a commit, which has the operation after its own, and all else is as it was.
+pub record Adds (spelled : RawOp) (set : Ids) (old : Repo) (made : Remade) : Type 0 where
+  pub next : made.next ≡ old.next
+  pub ids : (id : AnyId) → has_id made.history id ≡ has_id old.history id
+  pub commit : ℕ
+  pub op : FileOp
+  pub only : set ≡ any.Commit commit ∷ []
+  pub said : op_of old.history spelled ≡ Ok op
+  pub events : AllByRecursion (Remaining.IsOneOf commit (adds op) old.history) made.history
+  pub trees : AreReplayed made.history
+
+-- The one event is a commit, which has lost such operations, and all else is as it was, but that blobs are gone which these alone named.
+pub record Removes (what : Removal) (set : Ids) (old : Repo) (made : Remade) : Type 0 where
+  pub next : made.next ≡ old.next
+  pub ids : (id : AnyId) → Keeping.IsNoBlob id → has_id made.history id ≡ has_id old.history id
+  pub blobs : (b : ℕ) → has_id made.history (any.Blob b)
+      ≡ has_id old.history (any.Blob b) && not (is_named old.history b && not (is_named made.history b))
+  pub commit : ℕ
+  pub only : set ≡ any.Commit commit ∷ []
+  pub events : AllByRecursion (Remaining.IsOneOf commit (removes what) old.history) made.history
+  pub trees : AreReplayed made.history
+
+-- the same of the operations at the path that a word says
+abbrev pub RemovesBy : Bytes → Ids → Repo → Remade → Type 0
+RemovesBy text set old made = (path : Bytes) × (said_path text ≡ Ok path) × Removes (At path) set old made
 
 -- ---- an expunge
 

@@ -19,10 +19,17 @@ ghost use Rattle.script_reader.specs.declared.edit.Edit.{Edit};
 ghost use Rattle.script_lines.specs.declared.script.ScriptItem.{ScriptItem};
 ghost use Rattle.script_lines.specs.declared.script.ScriptLine.{ScriptLine};
 ghost use Rattle.plain_model.specs.declared.policy.Lean.{Lean};
+ghost use Rattle.plain_model.specs.declared.policy.Policy.{Policy};
 ghost use Rattle.stream_grammar.specs.Limits.{stream_of};
 ghost use Rattle.plain_model.specs.declared.policy.Push.TheVariants as push;
 ghost use Rattle.expunge_laws.specs.Matching.{Matches, matched_by};
-ghost use Rattle.history_machine.specs.Changed.{ChangesChosen, GivesLastTrees, Splits};
+ghost use Rattle.history_machine.specs.Changed.{
+  ChangesChosen,
+  GivesLastTrees,
+  JoinsCommits,
+  RemovesCommits,
+  Splits,
+};
 ghost use Rattle.history_machine.specs.Kept.{
   Each,
   KeepsEveryTree,
@@ -54,7 +61,7 @@ ghost use Rattle.history_machine.specs.Several.{
 };
 ghost use Rattle.history_machine.specs.Whole.{Denials, run, run_from};
 
-use coalesce_laws::{a_coalesce_is_an_edit, a_coalescing_keeps_trees};
+use coalesce_laws::{a_coalesce_is_an_edit, a_coalescing_keeps_trees, only_joined_commits_go};
 use expunge_laws::{
     an_expunge_adds_nothing, an_expunge_comes_to_its_end, an_expunge_is_an_edit,
     an_expunge_restricts_trees,
@@ -200,6 +207,23 @@ pub fn a_coalesce_keeps_trees()
     coalesce_laws::nothing_is_added();
 }
 
+/// A squash removes the selected commits of the chosen history and no others, whichever way it pushes; a coalesce those that are
+/// joined to their only child, and no event else. Nothing else changes.
+pub fn no_other_commit_leaves()
+    ensures squash { (denial : Option Denial) (s : Session) (files : Files)
+        (selection : Option (List ℕ)) (how : Policy) (t : Effect Session) →
+        step denial s files (command.Edit selection (edit.Squash how)) ≡ Ok t → IsLawful s →
+        ChangesChosen RemovesCommits denial s (command.Edit selection (edit.Squash how)) t.session }
+    ensures coalesce { (denial : Option Denial) (s : Session) (files : Files)
+        (selection : Option (List ℕ)) (seconds : ℕ) (t : Effect Session) →
+        step denial s files (command.Edit selection (edit.Coalesce seconds)) ≡ Ok t → IsLawful s →
+        ChangesChosen (JoinsCommits seconds) denial s
+        (command.Edit selection (edit.Coalesce seconds)) t.session }
+{
+    a_squash_removes_its_commits();
+    only_joined_commits_go();
+}
+
 /// A simplify leaves every loaded repository its name, and all its commits, each with its tree.
 pub fn a_simplify_keeps_trees()
     ensures { (denial : Option Denial) (s : Session) (files : Files)
@@ -213,7 +237,7 @@ pub fn a_simplify_keeps_trees()
 }
 
 /// An expunge that is done takes the paths that its words match out of the chosen repository: each commit that is still
-/// there has the tree that it had, without them. All else stays.
+/// there has the tree that it had, without them. No other repository changes.
 pub fn an_expunge_takes_paths_out_of_trees()
     ensures { (denial : Option Denial) (s : Session) (files : Files) (words : List (List ℕ))
         (t : Effect Session) → step denial s files (command.Expunge words) ≡ Ok t → IsLawful s →

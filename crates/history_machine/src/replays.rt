@@ -4,15 +4,21 @@ ghost use Rattle.std.specs.Prelude.{◌≡◌, Bool, List, Ok, Option, true, ℕ
 ghost use Rattle.plain_model.specs.Files.{Files};
 ghost use Rattle.plain_model.specs.declared.policy.Lean.{Lean};
 ghost use Rattle.plain_model.specs.declared.policy.Push.TheVariants as push;
+ghost use Rattle.plain_model.specs.declared.raw.RawOp.{RawOp};
+ghost use Rattle.plain_model.specs.Fields.{HasItsContent, OpFits};
 ghost use Rattle.byte_patterns.specs.Judging.{Denial};
 ghost use Rattle.expunge_laws.specs.Matching.{Matches, matched_by};
+ghost use Rattle.reparent_laws.specs.declared.removal.Removal.TheVariants.{Index};
 ghost use Rattle.script_reader.specs.declared.command.Command.TheVariants as command;
 ghost use Rattle.script_reader.specs.declared.edit.Edit.TheVariants as edit;
 ghost use Rattle.history_machine.specs.Changed.{
+  Adds,
   ChangesChosen,
   Deletes,
   Expunges,
   Rebases,
+  Removes,
+  RemovesBy,
   Reorders,
 };
 ghost use Rattle.history_machine.specs.Lawful.{IsLawful};
@@ -27,8 +33,9 @@ use expunge_laws::{
 };
 use reorder_laws::{a_line_is_put_in_order, a_reorder_keeps_the_ids, a_reorder_replays_operations};
 use reparent_laws::{
-    a_change_keeps_the_ids, a_rebase_replays_operations, a_reparent_has_a_last_commit,
-    one_commit_is_changed,
+    a_blob_goes_with_its_last_operation, a_change_keeps_the_ids, a_rebase_replays_operations,
+    a_reparent_has_a_last_commit, an_operation_is_of_one_commit, one_commit_is_changed,
+    other_operations_are_replayed,
 };
 use selection_eval::{
     selections_are_live, selections_are_without_repeats, sound_histories_are_such,
@@ -88,6 +95,32 @@ pub fn a_rebase_replays_on_other_parents()
     selections_are_without_repeats();
     selections_are_live();
     sound_histories_are_such();
+}
+
+/// An add and a remove change the operations of one commit of the chosen history, and nothing else of any event: each tree is what a
+/// commit's operations make of its first parent's. A remove takes those blobs away that only the removed operations named.
+pub fn an_operation_changes_one_commit()
+    ensures add { (denial : Option Denial) (s : Session) (files : Files) (selection : Option (List ℕ))
+        (op : RawOp) (t : Effect Session) →
+        step denial s files (command.Edit selection (edit.Add op)) ≡ Ok t → IsLawful s →
+        HasItsContent op → OpFits op →
+        ChangesChosen (Adds op) denial s (command.Edit selection (edit.Add op)) t.session }
+    ensures remove_at { (denial : Option Denial) (s : Session) (files : Files)
+        (selection : Option (List ℕ)) (number : ℕ) (t : Effect Session) →
+        step denial s files (command.Edit selection (edit.RemoveAt number)) ≡ Ok t → IsLawful s →
+        ChangesChosen (Removes (Index number)) denial s
+        (command.Edit selection (edit.RemoveAt number)) t.session }
+    ensures remove_by { (denial : Option Denial) (s : Session) (files : Files)
+        (selection : Option (List ℕ)) (path : List ℕ) (t : Effect Session) →
+        step denial s files (command.Edit selection (edit.RemoveBy path)) ≡ Ok t → IsLawful s →
+        ChangesChosen (RemovesBy path) denial s (command.Edit selection (edit.RemoveBy path))
+        t.session }
+{
+    an_operation_is_of_one_commit();
+    one_commit_is_changed();
+    a_change_keeps_the_ids();
+    a_blob_goes_with_its_last_operation();
+    other_operations_are_replayed();
 }
 
 /// After an expunge those commits of the chosen history are gone that it emptied, and no others, and those blobs that nothing names any

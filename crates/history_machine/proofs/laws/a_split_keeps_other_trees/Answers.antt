@@ -1,4 +1,4 @@
-use Rattle.std.proofs.Common.{◌+◌, ◌≡◌, List, Ok, subst}
+use Rattle.std.proofs.Common.{◌+◌, ◌≡◌, Ok, subst}
 use Rattle.plain_model.specs.declared.id.AnyId.TheVariants as any
 use Rattle.edit_laws.specs.Editing.{with_number}
 use Rattle.edit_laws.proofs.Edits.{unspent}
@@ -39,7 +39,7 @@ returns-clause-by c = λ denial s files selection text t done lawful.
     (λ subject repo made ready is made_is.
     let was = chosen_lawful s repo is lawful in
     let said = with_path text (λ path. with_number (repo.next + 1) (split_by_of repo.next path subject.ids repo.history)) made made_is in
-    let new = numbered (repo.next + 1) (split_by_of repo.next said.0 subject.ids repo.history) made said.1 in
+    let new = numbered (repo.next + 1) (split_by_of repo.next said.0 subject.ids repo.history) made said.2 in
     let one = c.a_split_is_of_one_commit.ensures.by repo.next said.0 subject.ids repo.history made.history new.0 in
     let lives = ready_live c.selections_are_live.ensures c.sound_histories_are_such.ensures.tips denial s what subject lawful ready repo is in
     let there = listed_here repo.history (any.Commit one.0) (subst (AreLive repo.history) one.1 lives).0 in
