@@ -141,6 +141,14 @@ pub fn a_reparent_has_a_last_commit()
         (others : List ℕ) × (c : ℕ) × (ordered use_order set events ≡ others ++ c ∷ []) }
 {}
 
+/// A merge that isn't refused is of two commits, and an unmerge of one.
+pub fn a_merge_is_of_two_commits()
+    ensures merge { (set : List AnyId) (events new : List PlainEvent) → merge_of set events ≡ Ok new →
+        (low : ℕ) × (high : ℕ) × (listed set events ≡ low ∷ high ∷ []) }
+    ensures unmerge { (set : List AnyId) (events new : List PlainEvent) →
+        unmerge_of set events ≡ Ok new → (c : ℕ) × (set ≡ any.Commit c ∷ []) }
+{}
+
 /// An addition and a removal that aren't refused are of one event, which is a commit, and an operation that is added is one of this
 /// history.
 pub fn an_operation_is_of_one_commit()
