@@ -1,5 +1,5 @@
 -- What an edit changes of the chosen history, where trees don't all stay.
-use Rattle.std.specs.Prelude.{◌≡◌, ℕ, ◌+◌, ◌++◌, ◌&&◌, Bool, IsTrue, List, ◌∷◌, [], not, Option, Ok, option_map, true}
+use Rattle.std.specs.Prelude.{◌≡◌, ℕ, ◌+◌, ◌++◌, ◌&&◌, Bool, IsTrue, List, false, ◌∷◌, [], not, Option, Ok, option_map, true}
 use Rattle.std.specs.List.{AllByRecursion}
 use Rattle.plain_model.specs.declared.event.PlainEvent.{PlainEvent}
 use Rattle.plain_model.specs.declared.id.AnyId.{AnyId}
@@ -25,6 +25,7 @@ use Rattle.expunge_laws.specs.Replaced.{restricted}
 use Rattle.reorder_laws.specs.InOrder.{IsInOrder}
 use Rattle.reparent_laws.specs.declared.removal.Removal.{Removal}
 use Rattle.reparent_laws.specs.declared.removal.Removal.TheVariants.{At}
+use Rattle.reparent_laws.specs.Merge.{merges, unmerges}
 use Rattle.reparent_laws.specs.Operations.{adds, op_of, removes}
 use Rattle.reparent_laws.specs.Remaining
 use Rattle.reparent_laws.specs.Reparent.{ordered, reparents}
@@ -59,10 +60,11 @@ pub record Splits (ids : Ids) (old : Repo) (made : Remade) : Type 0 where
 
 -- ---- a squash
 
--- the commits of the set are gone, and no others, and no number is given
+-- the commits of the set are gone, and no others; each that is still there has what stands for its old parents
 pub record RemovesCommits (set : Ids) (old : Repo) (made : Remade) : Type 0 where
   pub next : made.next ≡ old.next
   pub commits : (c : ℕ) → has_id made.history (any.Commit c) ≡ has_id old.history (any.Commit c) && not (is_removed set c)
+  pub parents : AllByRecursion (HasParentsFor set old.history) (nodes made.history)
 
 -- the commits that are joined to their only child are gone, and no event else
 pub record JoinsCommits (seconds : ℕ) (set : Ids) (old : Repo) (made : Remade) : Type 0 where
@@ -75,14 +77,44 @@ pub record GivesLastTrees (set : Ids) (old : Repo) (made : Remade) : Type 0 wher
   pub removes : RemovesCommits set old made
   pub trees : (c : ℕ) → IsCommitOf made.history c → shown_tree made.history c ≡ shown_tree old.history (last_hanging set old.history c)
 
+-- ---- other parents
+
+-- The same events are there. The last of the commits has the others as its parents, with its operations where it is rebased, and else such
+-- as give its tree. All else of each event is as it was.
+pub record Reparents (use_order rebase : Bool) (set : Ids) (old : Repo) (made : Remade) : Type 0 where
+  pub next : made.next ≡ old.next
+  pub ids : (id : AnyId) → has_id made.history id ≡ has_id old.history id
+  pub others : List ℕ
+  pub last : ℕ
+  pub are : ordered use_order set old.history ≡ others ++ last ∷ []
+  pub events : AllByRecursion (Remaining.IsOneOf last (reparents rebase old.history others) old.history) made.history
+
+-- The same events are there. Of two commits the one that is later in the list has the other as a parent too. All else of each event is as
+-- it was.
+pub record Merges (set : Ids) (old : Repo) (made : Remade) : Type 0 where
+  pub next : made.next ≡ old.next
+  pub ids : (id : AnyId) → has_id made.history id ≡ has_id old.history id
+  pub low : ℕ
+  pub high : ℕ
+  pub are : ordered false set old.history ≡ low ∷ high ∷ []
+  pub events : AllByRecursion (Remaining.IsOneOf high (merges low) old.history) made.history
+
+-- The same events are there. The one event is a commit, which keeps its first parent alone. All else of each event is as it was.
+pub record Unmerges (set : Ids) (old : Repo) (made : Remade) : Type 0 where
+  pub next : made.next ≡ old.next
+  pub ids : (id : AnyId) → has_id made.history id ≡ has_id old.history id
+  pub commit : ℕ
+  pub only : set ≡ any.Commit commit ∷ []
+  pub events : AllByRecursion (Remaining.IsOneOf commit unmerges old.history) made.history
+
 -- ---- operations on other parents
 
 -- each tree is what the operations of its commit make of the tree of its first parent
 abbrev pub AreReplayed : List PlainEvent → Type 0
 AreReplayed events = AllByRecursion (Fits (tree events)) (nodes events)
 
--- The commits of the set are gone, and no others. Each event that is still there is as it was, but that a commit has what stands for the
--- parents that it had.
+-- The commits of the set are gone, and no others. Each event that is still there is as it was, but that a commit has what stands for its
+-- old parents.
 pub record Deletes (set : Ids) (old : Repo) (made : Remade) : Type 0 where
   pub removes : RemovesCommits set old made
   pub events : AllByRecursion (IsOneOn (stand_for set old.history) old.history) made.history
@@ -96,14 +128,9 @@ pub record Reorders (set : Ids) (old : Repo) (made : Remade) : Type 0 where
   pub order : IsInOrder set old.history made.history
   pub trees : AreReplayed made.history
 
--- The same events are there. The last of the commits has the others as its parents, and all else is as it was.
+-- the last of the commits has the others as its parents, and all else of each event is as it was
 pub record Rebases (use_order : Bool) (set : Ids) (old : Repo) (made : Remade) : Type 0 where
-  pub next : made.next ≡ old.next
-  pub ids : (id : AnyId) → has_id made.history id ≡ has_id old.history id
-  pub others : List ℕ
-  pub last : ℕ
-  pub are : ordered use_order set old.history ≡ others ++ last ∷ []
-  pub events : AllByRecursion (Remaining.IsOneOf last (reparents true old.history others) old.history) made.history
+  pub parents : Reparents use_order true set old made
   pub trees : AreReplayed made.history
 
 -- The same events are there. The one event is a commit, which has the operation after its own, and all else is as it was.

@@ -27,8 +27,11 @@ ghost use Rattle.history_machine.specs.Changed.{
   ChangesChosen,
   GivesLastTrees,
   JoinsCommits,
+  Merges,
   RemovesCommits,
+  Reparents,
   Splits,
+  Unmerges,
 };
 ghost use Rattle.history_machine.specs.Kept.{
   Each,
@@ -68,7 +71,10 @@ use expunge_laws::{
 };
 use renumbering::{a_renumbering_is_an_edit, ids_stay, renumbering_keeps_trees};
 use reorder_laws::a_reorder_is_an_edit;
-use reparent_laws::{a_change_is_an_edit, a_change_keeps_the_ids, other_parents_keep_trees};
+use reparent_laws::{
+    a_change_is_an_edit, a_change_keeps_the_ids, a_merge_is_of_two_commits,
+    a_reparent_has_a_last_commit, one_commit_is_changed, other_parents_keep_trees,
+};
 use sample_history::samples_are_lawful;
 use script_reader::a_command_is_spelled;
 use selection_eval::{
@@ -79,7 +85,7 @@ use soundness_laws::{what_is_read_is_sound, what_is_read_passes_no_limit};
 use split_laws::{a_split_is_an_edit, a_split_is_of_one_commit, a_split_keeps_trees};
 use squash_laws::{
     a_push_back_gives_the_last_tree, a_push_forward_keeps_trees, a_squash_is_an_edit,
-    a_squash_removes_its_commits, nothing_is_added,
+    a_squash_removes_its_commits, nothing_is_added, parents_give_way_to_their_parents,
 };
 
 /// A line that is refused leaves the session and the files as they were, one line is printed, and nothing is run in its place.
@@ -149,6 +155,7 @@ pub fn a_squash_back_gives_the_last_tree()
 {
     a_push_back_gives_the_last_tree();
     a_squash_removes_its_commits();
+    parents_give_way_to_their_parents();
 }
 
 /// A split is of one commit of the chosen history: its copy has the tree that it had, and every other commit is there, and has its
@@ -196,6 +203,38 @@ pub fn new_parents_keep_trees()
     sound_histories_are_such();
 }
 
+/// A reparent gives the last of its commits the others as parents, a merge gives the later one of two commits the other as a parent too,
+/// and an unmerge leaves a commit its first parent alone. All events of the chosen history are there, and nothing else of one changes
+/// but that commit's operations.
+pub fn new_parents_are_given()
+    ensures reparent { (denial : Option Denial) (s : Session) (files : Files)
+        (selection : Option (List ℕ)) (use_order rebase : Bool) (t : Effect Session) →
+        step denial s files (command.Edit selection (edit.Reparent (record {
+          use_order = use_order;
+          rebase = rebase;
+        }))) ≡ Ok t → IsLawful s → ChangesChosen (Reparents use_order rebase) denial s
+        (command.Edit selection (edit.Reparent (record {
+          use_order = use_order;
+          rebase = rebase;
+        }))) t.session }
+    ensures merge { (denial : Option Denial) (s : Session) (files : Files)
+        (selection : Option (List ℕ)) (t : Effect Session) →
+        step denial s files (command.Edit selection edit.Merge) ≡ Ok t → IsLawful s →
+        ChangesChosen Merges denial s (command.Edit selection edit.Merge) t.session }
+    ensures unmerge { (denial : Option Denial) (s : Session) (files : Files)
+        (selection : Option (List ℕ)) (t : Effect Session) →
+        step denial s files (command.Edit selection edit.Unmerge) ≡ Ok t → IsLawful s →
+        ChangesChosen Unmerges denial s (command.Edit selection edit.Unmerge) t.session }
+{
+    a_reparent_has_a_last_commit();
+    a_merge_is_of_two_commits();
+    one_commit_is_changed();
+    a_change_keeps_the_ids();
+    selections_are_without_repeats();
+    selections_are_live();
+    sound_histories_are_such();
+}
+
 /// A coalesce leaves every loaded repository its name, and each commit that is still there its tree.
 pub fn a_coalesce_keeps_trees()
     ensures { (denial : Option Denial) (s : Session) (files : Files)
@@ -207,8 +246,8 @@ pub fn a_coalesce_keeps_trees()
     coalesce_laws::nothing_is_added();
 }
 
-/// A squash removes the selected commits of the chosen history and no others, whichever way it pushes; a coalesce those that are
-/// joined to their only child, and no event else. Nothing else changes.
+/// A squash removes the selected commits of the chosen history and no others, whichever way it pushes, and each that is still there has
+/// what stands for its old parents. A coalesce removes the commits that are joined to their only child, and no event else.
 pub fn no_other_commit_leaves()
     ensures squash { (denial : Option Denial) (s : Session) (files : Files)
         (selection : Option (List ℕ)) (how : Policy) (t : Effect Session) →
@@ -221,6 +260,7 @@ pub fn no_other_commit_leaves()
         (command.Edit selection (edit.Coalesce seconds)) t.session }
 {
     a_squash_removes_its_commits();
+    parents_give_way_to_their_parents();
     only_joined_commits_go();
 }
 

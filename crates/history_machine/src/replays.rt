@@ -88,8 +88,8 @@ pub fn a_rebase_replays_on_other_parents()
         (command.Edit selection (edit.Reparent (record { use_order = use_order; rebase = true })))
         t.session }
 {
-    one_commit_is_changed();
     a_reparent_has_a_last_commit();
+    one_commit_is_changed();
     a_change_keeps_the_ids();
     a_rebase_replays_operations();
     selections_are_without_repeats();

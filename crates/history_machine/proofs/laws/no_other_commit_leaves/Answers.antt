@@ -18,7 +18,11 @@ returns-clause-squash c = λ denial s files selection how t done lawful.
     (λ subject repo made ready is made_is.
     let sound = (chosen_lawful s repo is lawful).history.sound in
     let new = numbered repo.next (squash_of how subject.ids repo.history) made made_is in
-    record { next = new.1; commits = c.a_squash_removes_its_commits.ensures how subject.ids repo.history made.history sound new.0 })
+    record {
+      next = new.1;
+      commits = c.a_squash_removes_its_commits.ensures how subject.ids repo.history made.history sound new.0;
+      parents = c.parents_give_way_to_their_parents.ensures.parents how subject.ids repo.history made.history sound new.0;
+    })
 
 pub returns-clause-coalesce : goal.returns-clause-coalesce
 returns-clause-coalesce c = λ denial s files selection seconds t done lawful.

@@ -18,6 +18,7 @@ returns c = λ denial s files selection tags t done lawful.
       removes = record {
         next = new.1;
         commits = c.a_squash_removes_its_commits.ensures how subject.ids repo.history made.history sound new.0;
+        parents = c.parents_give_way_to_their_parents.ensures.parents how subject.ids repo.history made.history sound new.0;
       };
       events = c.parents_give_way_to_their_parents.ensures.deletion subject.ids repo.history tags made.history sound new.0;
       trees = c.a_deletion_replays_what_remains.ensures.trees subject.ids repo.history tags made.history sound new.0;

@@ -22,11 +22,13 @@ returns c = λ denial s files selection use_order t done lawful.
     let set = selection_of repo.history subject.ids once lives in
     let all = c.a_reparent_has_a_last_commit.ensures use_order true subject.ids repo.history made.history sound set new.0 in
     record {
-      next = new.1;
-      ids = c.a_change_keeps_the_ids.ensures.reparent use_order true subject.ids repo.history made.history sound set new.0;
-      others = all.0;
-      last = all.1;
-      are = all.2;
-      events = c.one_commit_is_changed.ensures.reparent use_order true subject.ids repo.history made.history all.0 all.1 sound set new.0 all.2;
+      parents = record {
+        next = new.1;
+        ids = c.a_change_keeps_the_ids.ensures.reparent use_order true subject.ids repo.history made.history sound set new.0;
+        others = all.0;
+        last = all.1;
+        are = all.2;
+        events = c.one_commit_is_changed.ensures.reparent use_order true subject.ids repo.history made.history all.0 all.1 sound set new.0 all.2;
+      };
       trees = c.a_rebase_replays_operations.ensures.trees use_order subject.ids repo.history made.history sound set new.0;
     })

@@ -1,5 +1,4 @@
-use Rattle.std.proofs.Common.{◌≡◌, List, [], ◌∷◌, Ok, subst}
-use Rattle.plain_model.specs.declared.id.AnyId.TheVariants as any
+use Rattle.std.proofs.Common.{◌≡◌, Ok, subst}
 use Rattle.edit_laws.specs.Editing.{with_number}
 use Rattle.event_sets.specs.Sets.{Ids}
 use Rattle.reparent_laws.specs.Operations.{add_of, remove_of}
