@@ -16,8 +16,15 @@ ghost use Rattle.plain_model.specs.declared.policy.Lean.{Lean};
 ghost use Rattle.plain_model.specs.declared.policy.Policy.{Policy};
 ghost use Rattle.plain_model.specs.declared.policy.Push.TheVariants as push;
 ghost use Rattle.squash_laws.specs.Squash.{squash_of};
-ghost use Rattle.squash_laws.specs.Remaining.{HasParentsFor, IsBareOneOf, IsOneOn, stand_for};
-ghost use Rattle.edit_laws.specs.Keeping.{AddsNothing, HasOperationsOf};
+ghost use Rattle.squash_laws.specs.Remaining.{
+  HasParentsFor,
+  IsBareOneOf,
+  IsOneOn,
+  is_staying,
+  stand_for,
+};
+ghost use Rattle.edit_laws.specs.Keeping.{AddsNothing, HasOperationsOf, IsNoBlob};
+ghost use Rattle.edit_laws.specs.Sweeping.{is_named};
 ghost use Rattle.squash_laws.specs.Removed.{is_removed};
 ghost use Rattle.squash_laws.specs.Takings.{last_hanging, squashed};
 
@@ -47,6 +54,17 @@ pub fn nothing_is_added()
     ensures below { (how : Policy) (set : List AnyId) (events new : List PlainEvent) (next : ℕ) →
         IsSound events → squash_of how set events ≡ Ok new →
         AreIdsBelow next events → AreIdsBelow next new }
+{}
+
+/// Of all events but blobs those stay that aren't of the set, and no others; a tag or a reset only where there is a commit for it. A blob
+/// leaves exactly where an operation named it, and none names it any more.
+pub fn no_other_event_leaves()
+    ensures others { (how : Policy) (set : List AnyId) (events new : List PlainEvent) →
+        IsSound events → squash_of how set events ≡ Ok new → (id : AnyId) → IsNoBlob id →
+        has_id new id ≡ is_staying how set events id }
+    ensures blobs { (how : Policy) (set : List AnyId) (events new : List PlainEvent) →
+        IsSound events → squash_of how set events ≡ Ok new → (b : ℕ) → has_id new (any.Blob b)
+        ≡ has_id events (any.Blob b) && not (is_named events b && not (is_named new b)) }
 {}
 
 /// Each event that stays is as it was, but for the comment, the parents and the operations of a commit and the target of

@@ -12,6 +12,6 @@ pub use examples::{
 pub use laws::{
     a_deletion_replays_what_remains, a_push_back_gives_the_last_tree, a_push_forward_keeps_trees,
     a_squash_comes_to_its_end, a_squash_is_an_edit, a_squash_keeps_soundness,
-    a_squash_keeps_the_limits, a_squash_removes_its_commits, nothing_is_added,
-    parents_give_way_to_their_parents, what_stays_is_as_it_was,
+    a_squash_keeps_the_limits, a_squash_removes_its_commits, no_other_event_leaves,
+    nothing_is_added, parents_give_way_to_their_parents, what_stays_is_as_it_was,
 };
