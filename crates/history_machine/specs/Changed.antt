@@ -5,6 +5,9 @@ use Rattle.plain_model.specs.declared.event.PlainEvent.{PlainEvent}
 use Rattle.plain_model.specs.declared.id.AnyId.{AnyId}
 use Rattle.plain_model.specs.declared.id.AnyId.TheVariants as any
 use Rattle.plain_model.specs.declared.operation.FileOp.{FileOp}
+use Rattle.plain_model.specs.declared.policy.Lean.{Lean}
+use Rattle.plain_model.specs.declared.policy.Policy.{Policy}
+use Rattle.plain_model.specs.declared.policy.Push.TheVariants as push
 use Rattle.plain_model.specs.declared.raw.RawOp.{RawOp}
 use Rattle.plain_model.specs.Histories.{nodes, tree}
 use Rattle.plain_model.specs.Lookups.{is_listed}
@@ -31,7 +34,7 @@ use Rattle.reparent_laws.specs.Remaining
 use Rattle.reparent_laws.specs.Reparent.{ordered, reparents}
 use Rattle.script_reader.specs.declared.command.Command.{Command}
 use Rattle.split_laws.specs.SplitTrees
-use Rattle.squash_laws.specs.Remaining.{HasParentsFor, IsOneOn, stand_for}
+use Rattle.squash_laws.specs.Remaining.{HasParentsFor, IsOneOn, is_staying, stand_for}
 use Rattle.squash_laws.specs.Removed.{is_removed}
 use Rattle.squash_laws.specs.Takings.{last_hanging}
 use Rattle.history_machine.specs.PathWords.{said_path}
@@ -60,10 +63,14 @@ pub record Splits (ids : Ids) (old : Repo) (made : Remade) : Type 0 where
 
 -- ---- a squash
 
--- the commits of the set are gone, and no others; each that is still there has what stands for its old parents
-pub record RemovesCommits (set : Ids) (old : Repo) (made : Remade) : Type 0 where
+-- Of all events but blobs those of the set are gone, and no others but tags and resets for which there is no commit; of blobs those that an
+-- operation named and none does any more. Each commit has what stands for its old parents.
+pub record RemovesSelected (how : Policy) (set : Ids) (old : Repo) (made : Remade) : Type 0 where
   pub next : made.next ≡ old.next
   pub commits : (c : ℕ) → has_id made.history (any.Commit c) ≡ has_id old.history (any.Commit c) && not (is_removed set c)
+  pub others : (id : AnyId) → Keeping.IsNoBlob id → has_id made.history id ≡ is_staying how set old.history id
+  pub blobs : (b : ℕ) → has_id made.history (any.Blob b)
+      ≡ has_id old.history (any.Blob b) && not (is_named old.history b && not (is_named made.history b))
   pub parents : AllByRecursion (HasParentsFor set old.history) (nodes made.history)
 
 -- the commits that are joined to their only child are gone, and no event else
@@ -73,8 +80,8 @@ pub record JoinsCommits (seconds : ℕ) (set : Ids) (old : Repo) (made : Remade)
   pub joined : (c : ℕ) → IsTrue (is_listed (any.Commit c) (joined_ones seconds set old.history)) → IsJoinedTo set old.history c
 
 -- each commit that is still there has the tree of the last removed one that hung on it, and where none did, its own
-pub record GivesLastTrees (set : Ids) (old : Repo) (made : Remade) : Type 0 where
-  pub removes : RemovesCommits set old made
+pub record GivesLastTrees (tags : Lean) (set : Ids) (old : Repo) (made : Remade) : Type 0 where
+  pub removes : RemovesSelected (record { push = push.Back; tags = tags }) set old made
   pub trees : (c : ℕ) → IsCommitOf made.history c → shown_tree made.history c ≡ shown_tree old.history (last_hanging set old.history c)
 
 -- ---- other parents
@@ -113,10 +120,10 @@ pub record Unmerges (set : Ids) (old : Repo) (made : Remade) : Type 0 where
 abbrev pub AreReplayed : List PlainEvent → Type 0
 AreReplayed events = AllByRecursion (Fits (tree events)) (nodes events)
 
--- The commits of the set are gone, and no others. Each event that is still there is as it was, but that a commit has what stands for its
--- old parents.
-pub record Deletes (set : Ids) (old : Repo) (made : Remade) : Type 0 where
-  pub removes : RemovesCommits set old made
+-- The set is gone, with the tags and resets of its commits. Each event that is still there is as it was, but that a commit has what stands
+-- for its old parents.
+pub record Deletes (tags : Lean) (set : Ids) (old : Repo) (made : Remade) : Type 0 where
+  pub removes : RemovesSelected (record { push = push.Discard; tags = tags }) set old made
   pub events : AllByRecursion (IsOneOn (stand_for set old.history) old.history) made.history
   pub trees : AreReplayed made.history
 

@@ -28,7 +28,7 @@ ghost use Rattle.history_machine.specs.Changed.{
   GivesLastTrees,
   JoinsCommits,
   Merges,
-  RemovesCommits,
+  RemovesSelected,
   Reparents,
   Splits,
   Unmerges,
@@ -149,12 +149,13 @@ pub fn a_squash_back_gives_the_last_tree()
         step denial s files (command.Edit selection (edit.Squash (record {
           push = push.Back;
           tags = tags;
-        }))) ≡ Ok t → IsLawful s → ChangesChosen GivesLastTrees denial s
+        }))) ≡ Ok t → IsLawful s → ChangesChosen (GivesLastTrees tags) denial s
         (command.Edit selection (edit.Squash (record { push = push.Back; tags = tags })))
         t.session }
 {
     a_push_back_gives_the_last_tree();
     a_squash_removes_its_commits();
+    squash_laws::no_other_event_leaves();
     parents_give_way_to_their_parents();
 }
 
@@ -246,13 +247,14 @@ pub fn a_coalesce_keeps_trees()
     coalesce_laws::nothing_is_added();
 }
 
-/// A squash removes the selected commits of the chosen history and no others, whichever way it pushes, and each that is still there has
-/// what stands for its old parents. A coalesce removes the commits that are joined to their only child, and no event else.
-pub fn no_other_commit_leaves()
+/// A squash removes the selected events of the chosen history, whichever way it pushes, and no others but blobs that nothing names any
+/// more, and tags and resets for which there is no commit; and each commit has what stands for its old parents. A coalesce removes the
+/// commits that are joined to their only child, and no event else.
+pub fn no_other_event_leaves()
     ensures squash { (denial : Option Denial) (s : Session) (files : Files)
         (selection : Option (List ℕ)) (how : Policy) (t : Effect Session) →
         step denial s files (command.Edit selection (edit.Squash how)) ≡ Ok t → IsLawful s →
-        ChangesChosen RemovesCommits denial s (command.Edit selection (edit.Squash how)) t.session }
+        ChangesChosen (RemovesSelected how) denial s (command.Edit selection (edit.Squash how)) t.session }
     ensures coalesce { (denial : Option Denial) (s : Session) (files : Files)
         (selection : Option (List ℕ)) (seconds : ℕ) (t : Effect Session) →
         step denial s files (command.Edit selection (edit.Coalesce seconds)) ≡ Ok t → IsLawful s →
@@ -260,6 +262,7 @@ pub fn no_other_commit_leaves()
         (command.Edit selection (edit.Coalesce seconds)) t.session }
 {
     a_squash_removes_its_commits();
+    squash_laws::no_other_event_leaves();
     parents_give_way_to_their_parents();
     only_joined_commits_go();
 }

@@ -40,9 +40,12 @@ use reparent_laws::{
 use selection_eval::{
     selections_are_live, selections_are_without_repeats, sound_histories_are_such,
 };
-use squash_laws::{a_squash_removes_its_commits, parents_give_way_to_their_parents};
+use squash_laws::{
+    a_squash_removes_its_commits, no_other_event_leaves, parents_give_way_to_their_parents,
+};
 
-/// A deletion removes the selected commits of the chosen history and no others. Each commit that is still there has its operations, on
+/// A deletion removes the selected events of the chosen history with the tags and resets of removed commits, and no others but blobs that
+/// nothing names any more. Each commit that is still there has its operations, on
 /// what stands for its old parents, and its tree is what they make of its new first parent's. Nothing else of an event changes.
 pub fn a_deletion_replays_what_remains()
     ensures { (denial : Option Denial) (s : Session) (files : Files) (selection : Option (List ℕ))
@@ -50,11 +53,12 @@ pub fn a_deletion_replays_what_remains()
         step denial s files (command.Edit selection (edit.Squash (record {
           push = push.Discard;
           tags = tags;
-        }))) ≡ Ok t → IsLawful s → ChangesChosen Deletes denial s
+        }))) ≡ Ok t → IsLawful s → ChangesChosen (Deletes tags) denial s
         (command.Edit selection (edit.Squash (record { push = push.Discard; tags = tags })))
         t.session }
 {
     a_squash_removes_its_commits();
+    no_other_event_leaves();
     parents_give_way_to_their_parents();
     squash_laws::a_deletion_replays_what_remains();
 }

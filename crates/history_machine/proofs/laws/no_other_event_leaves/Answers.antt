@@ -7,20 +7,22 @@ use Rattle.plain_model.specs.Soundness.{has_id}
 use Rattle.script_reader.specs.declared.edit.Edit.TheVariants as edit
 use Rattle.coalesce_laws.specs.Coalesce.{coalesce_of, joined_ones}
 use Rattle.squash_laws.specs.Squash.{squash_of}
-use Rattle.history_machine.specs.Changed.{JoinsCommits, RemovesCommits}
+use Rattle.history_machine.specs.Changed.{JoinsCommits, RemovesSelected}
 use Rattle.history_machine.proofs.Changes.{chosen_changes, numbered}
 use Rattle.history_machine.proofs.Ready.{chosen_lawful}
-use Rattle.history_machine.proofs.laws.no_other_commit_leaves.Goals as goal
+use Rattle.history_machine.proofs.laws.no_other_event_leaves.Goals as goal
 
 pub returns-clause-squash : goal.returns-clause-squash
 returns-clause-squash c = λ denial s files selection how t done lawful.
-    chosen_changes RemovesCommits denial s files selection (edit.Squash how) t done
+    chosen_changes (RemovesSelected how) denial s files selection (edit.Squash how) t done
     (λ subject repo made ready is made_is.
     let sound = (chosen_lawful s repo is lawful).history.sound in
     let new = numbered repo.next (squash_of how subject.ids repo.history) made made_is in
     record {
       next = new.1;
       commits = c.a_squash_removes_its_commits.ensures how subject.ids repo.history made.history sound new.0;
+      others = c.no_other_event_leaves.ensures.others how subject.ids repo.history made.history sound new.0;
+      blobs = c.no_other_event_leaves.ensures.blobs how subject.ids repo.history made.history sound new.0;
       parents = c.parents_give_way_to_their_parents.ensures.parents how subject.ids repo.history made.history sound new.0;
     })
 
