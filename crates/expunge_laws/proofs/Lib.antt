@@ -15,6 +15,7 @@ pub mod OpsAgain
 mod ParentsLeft
 pub mod Replacing
 pub mod Sides
+mod StayingLeft
 pub mod Still
 pub mod TreesLeft
 pub mod Whole

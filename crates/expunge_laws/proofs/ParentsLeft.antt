@@ -57,10 +57,10 @@ module _ (matched : Bytes → Bool) (events : List PlainEvent) where
   abbrev changed : List PlainEvent
   changed = replaced_events matched events
 
-  abbrev ops_of : Node → Node
+  abbrev pub ops_of : Node → Node
   ops_of n = record n { ops = ops_left matched events n.parents n.ops }
 
-  nodes_changed : (es : List PlainEvent) → nodes (map (replaced_event matched events) es) ≡ map ops_of (nodes es)
+  pub nodes_changed : (es : List PlainEvent) → nodes (map (replaced_event matched events) es) ≡ map ops_of (nodes es)
   nodes_changed [] = refl
   nodes_changed (Commit id mark branch author committer encoding comment parents ops aliases ∷ es) =
       ap (λ (ns : List Node). record { id = id; parents = parents; ops = ops_left matched events parents ops } ∷ ns) (nodes_changed es)
@@ -69,7 +69,7 @@ module _ (matched : Bytes → Bool) (events : List PlainEvent) where
   nodes_changed (Reset id branch target ∷ es) = nodes_changed es
   nodes_changed (Pass id line ∷ es) = nodes_changed es
 
-  past_changed : past changed ≡ map ops_of (past events)
+  pub past_changed : past changed ≡ map ops_of (past events)
   past_changed = ap reverse (nodes_changed events) ∙ sym (map_reverse ops_of (nodes events))
 
   stand_same : (ps : List ℕ) → stand_for set changed ps ≡ stand_for set events ps

@@ -26,6 +26,9 @@ ghost use Rattle.plain_model.specs.declared.fault.Fault.TheVariants as fault;
 ghost use Rattle.plain_model.specs.declared.fault.Which.TheVariants as limit;
 ghost use Rattle.plain_model.specs.declared.id.AnyId.TheVariants as any;
 ghost use Rattle.plain_model.specs.declared.limit.TheConstants.{MAX_ALIASES, MAX_EVENTS, MAX_OPERATIONS};
+ghost use Rattle.plain_model.specs.declared.id.AnyId.{AnyId};
+ghost use Rattle.plain_model.specs.declared.policy.Lean.TheVariants as lean;
+ghost use Rattle.plain_model.specs.declared.policy.Push.TheVariants as push;
 ghost use Rattle.plain_model.specs.Histories.{nodes, tree};
 ghost use Rattle.plain_model.specs.Lookups.{AreIdsBelow, alias_count};
 ghost use Rattle.plain_model.specs.Paths.{Bytes};
@@ -36,7 +39,7 @@ ghost use Rattle.history_laws.specs.FirstParents.{ops_along};
 ghost use Rattle.edit_laws.specs.Editing.{IsEdit, with_number};
 ghost use Rattle.edit_laws.specs.Passing.{IsWithinLimits};
 ghost use Rattle.edit_laws.specs.Sweeping.{is_named, swept};
-ghost use Rattle.squash_laws.specs.Remaining.{HasParentsFor};
+ghost use Rattle.squash_laws.specs.Remaining.{HasParentsFor, is_staying};
 ghost use Rattle.squash_laws.specs.Takings.{back_of};
 ghost use Rattle.expunge_laws.specs.Expunged.{
   emptied,
@@ -48,7 +51,7 @@ ghost use Rattle.expunge_laws.specs.Expunged.{
 };
 ghost use Rattle.expunge_laws.specs.InLine.{IsInLine, tree_in_place};
 ghost use Rattle.expunge_laws.specs.Remaining.{LeavesWhere};
-ghost use Rattle.edit_laws.specs.Keeping.{AddsNothing, IsOneOf};
+ghost use Rattle.edit_laws.specs.Keeping.{AddsNothing, IsNoBlob, IsOneOf};
 ghost use Rattle.expunge_laws.specs.Replaced.{restricted};
 ghost use Rattle.expunge_laws.specs.Untouched.{is_touched, may_be_touched};
 
@@ -94,6 +97,15 @@ pub fn blobs_leave_that_nothing_names()
     ensures { (matched : Bytes → Bool) (events new : List PlainEvent) → IsSound events →
         expunge_of matched events ≡ Ok new → (b : ℕ) → has_id new (any.Blob b)
         ≡ has_id events (any.Blob b) && not (is_named events b && not (is_named new b)) }
+{}
+
+/// Of all events but blobs those stay that aren't emptied commits, and no others; a tag or a reset only where there is a commit for it:
+/// its own, else the next that stays, or the one before.
+pub fn no_other_event_leaves()
+    ensures { (matched : Bytes → Bool) (events new : List PlainEvent) → IsSound events →
+        expunge_of matched events ≡ Ok new → (id : AnyId) → IsNoBlob id →
+        has_id new id ≡ is_staying (record { push = push.Forward; tags = lean.Forward })
+        (emptied matched events) events id }
 {}
 
 /// A sound history stays sound.

@@ -20,8 +20,9 @@ pub use laws::{
     an_expunge_adds_nothing, an_expunge_again_changes_nothing, an_expunge_comes_to_its_end,
     an_expunge_is_an_edit, an_expunge_keeps_soundness, an_expunge_keeps_the_limits,
     an_expunge_restricts_trees, blobs_leave_that_nothing_names, emptied_commits_give_way_in_line,
-    emptied_commits_leave, no_matched_path_is_left, operations_alone_refuse_an_expunge,
-    parents_give_way_to_what_stays, what_no_matched_path_touches_stays, what_stays_is_as_it_was,
+    emptied_commits_leave, no_matched_path_is_left, no_other_event_leaves,
+    operations_alone_refuse_an_expunge, parents_give_way_to_what_stays,
+    what_no_matched_path_touches_stays, what_stays_is_as_it_was,
 };
 pub use operations::{
     copies_and_renames_change_what_they_move, operations_are_replaced_in_turn,

@@ -8,5 +8,5 @@ pub mod Parents
 mod Rows
 pub mod Shows
 pub mod Squashed
-mod Staying
+pub mod Staying
 pub mod Takes
