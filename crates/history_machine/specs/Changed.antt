@@ -6,6 +6,7 @@ use Rattle.plain_model.specs.declared.id.AnyId.{AnyId}
 use Rattle.plain_model.specs.declared.id.AnyId.TheVariants as any
 use Rattle.plain_model.specs.declared.operation.FileOp.{FileOp}
 use Rattle.plain_model.specs.declared.policy.Lean.{Lean}
+use Rattle.plain_model.specs.declared.policy.Lean.TheVariants as lean
 use Rattle.plain_model.specs.declared.policy.Policy.{Policy}
 use Rattle.plain_model.specs.declared.policy.Push.TheVariants as push
 use Rattle.plain_model.specs.declared.raw.RawOp.{RawOp}
@@ -169,14 +170,15 @@ RemovesBy text set old made = (path : Bytes) × (said_path text ≡ Ok path) × 
 -- ---- an expunge
 
 -- A commit leaves exactly where it had an operation, has none left without the matched paths, and is no merge; a blob exactly where an
--- operation named it and none does any more. No event comes. Each commit has what stands for its old parents, and its old tree without the
+-- operation named it and none does any more; and of other events none but tags and resets for which there is no commit. Each commit has what stands for its old parents, and its old tree without the
 -- matched paths; and all else of each event is as it was, but for the operations of commits and the targets of tags and resets.
 pub record Expunges (matched : Bytes → Bool) (ids : Ids) (old : Repo) (made : Remade) : Type 0 where
   pub next : made.next ≡ old.next
   pub commits : AllByRecursion (LeavesWhere (is_emptied matched old.history) made.history) old.history
   pub blobs : (b : ℕ) → has_id made.history (any.Blob b)
       ≡ has_id old.history (any.Blob b) && not (is_named old.history b && not (is_named made.history b))
-  pub none_new : (id : AnyId) → IsTrue (has_id made.history id) → IsTrue (has_id old.history id)
+  pub others : (id : AnyId) → Keeping.IsNoBlob id
+      → has_id made.history id ≡ is_staying (record { push = push.Forward; tags = lean.Forward }) (emptied matched old.history) old.history id
   pub parents : AllByRecursion (HasParentsFor (emptied matched old.history) old.history) (nodes made.history)
   pub trees : (c : ℕ) → IsCommitOf made.history c → shown_tree made.history c ≡ option_map (restricted matched) (shown_tree old.history c)
   pub same : AllByRecursion (Keeping.IsOneOf old.history) made.history

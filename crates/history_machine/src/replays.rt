@@ -27,9 +27,8 @@ ghost use Rattle.history_machine.specs.PathWords.{matches_of};
 ghost use Rattle.history_machine.specs.Sessions.{Session, step};
 
 use expunge_laws::{
-    an_expunge_adds_nothing, an_expunge_comes_to_its_end, an_expunge_restricts_trees,
-    blobs_leave_that_nothing_names, emptied_commits_leave, parents_give_way_to_what_stays,
-    what_stays_is_as_it_was,
+    an_expunge_restricts_trees, blobs_leave_that_nothing_names, emptied_commits_leave,
+    parents_give_way_to_what_stays, what_stays_is_as_it_was,
 };
 use reorder_laws::{a_line_is_put_in_order, a_reorder_keeps_the_ids, a_reorder_replays_operations};
 use reparent_laws::{
@@ -127,9 +126,9 @@ pub fn an_operation_changes_one_commit()
     other_operations_are_replayed();
 }
 
-/// After an expunge those commits of the chosen history are gone that it emptied, and no others, and those blobs that nothing names any
-/// more. What stays has its tree without the paths that the words match, on what stands for its old parents. Nothing else of an event
-/// changes, but operations, and the targets of tags and resets.
+/// After an expunge those commits of the chosen history are gone that it emptied, and no others; those blobs that nothing names any
+/// more; and those tags and resets for which there is no commit. What stays has its tree without the paths that the words match, on
+/// what stands for its old parents. Nothing else of an event changes, but operations, and the targets of tags and resets.
 pub fn an_expunge_removes_what_it_emptied()
     ensures { (denial : Option Denial) (s : Session) (files : Files) (words : List (List ℕ))
         (t : Effect Session) → step denial s files (command.Expunge words) ≡ Ok t → IsLawful s →
@@ -141,6 +140,5 @@ pub fn an_expunge_removes_what_it_emptied()
     parents_give_way_to_what_stays();
     what_stays_is_as_it_was();
     an_expunge_restricts_trees();
-    an_expunge_adds_nothing();
-    an_expunge_comes_to_its_end();
+    expunge_laws::no_other_event_leaves();
 }

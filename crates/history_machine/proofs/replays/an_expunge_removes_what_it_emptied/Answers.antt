@@ -4,7 +4,7 @@ use Rattle.script_reader.specs.declared.command.Command.TheVariants as command
 use Rattle.history_machine.specs.Sessions.{without_paths}
 use Rattle.history_machine.proofs.Changes.{edit_made, numbered}
 use Rattle.history_machine.proofs.Ready.{chosen_lawful, expunge_reads}
-use Rattle.history_machine.proofs.Steps.{expunge_came, with_its_subject}
+use Rattle.history_machine.proofs.Steps.{with_its_subject}
 use Rattle.history_machine.proofs.replays.an_expunge_removes_what_it_emptied.Goals as goal
 
 pub returns : goal.returns
@@ -16,8 +16,7 @@ returns c = λ denial s files words t done lawful.
     let repo = its.0 in
     let made = its.1 in
     let sound = (chosen_lawful s repo its.2 lawful).history.sound in
-    let new = numbered repo.next (expunge_of matched repo.history) made its.3 in
-    let came = expunge_came matched repo.history made.history (c.an_expunge_comes_to_its_end.ensures matched repo.history sound) new.0 in (
+    let new = numbered repo.next (expunge_of matched repo.history) made its.3 in (
       read.0,
       read.1,
       record {
@@ -30,7 +29,7 @@ returns c = λ denial s files words t done lawful.
           next = new.1;
           commits = c.emptied_commits_leave.ensures.leaves matched repo.history made.history sound new.0;
           blobs = c.blobs_leave_that_nothing_names.ensures matched repo.history made.history sound new.0;
-          none_new = (c.an_expunge_adds_nothing.ensures.added matched repo.history made.history came).ids;
+          others = c.no_other_event_leaves.ensures matched repo.history made.history sound new.0;
           parents = c.parents_give_way_to_what_stays.ensures matched repo.history made.history sound new.0;
           trees = c.an_expunge_restricts_trees.ensures.shown matched repo.history made.history sound new.0;
           same = c.what_stays_is_as_it_was.ensures matched repo.history made.history sound new.0;
