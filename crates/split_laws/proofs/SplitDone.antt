@@ -13,7 +13,7 @@ use Rattle.edit_laws.proofs.Limits.{limits_hold}
 use Rattle.commit_laws.specs.Selected.{node_of}
 use Rattle.commit_laws.proofs.Greatest.{next_a_mark, next_unmarked}
 use Rattle.split_laws.specs.Split.{first_touch, split_at_of, split_by_of, split_from, split_list, unless_limit}
-use Rattle.split_laws.specs.SplitTrees.{KeepsTrees}
+use Rattle.split_laws.specs.SplitTrees.{IsFirstTouch, IsInHalves, KeepsTrees}
 use Rattle.split_laws.proofs.Halves.{copy_here, copy_tree, other_tree, split_shown, split_sound, still_here}
 
 -- what is true where a split isn't refused
@@ -95,3 +95,20 @@ at_limits copy number c events new d = from_limits copy c number events new d
 
 pub by_limits : (copy : ℕ) (path : Bytes) (c : ℕ) (events new : List PlainEvent) → split_by_of copy path (any.Commit c ∷ []) events ≡ Ok new → IsWithinLimits new
 by_limits copy path c events new d = let from = by_from copy path c events new d in from_limits copy c from.0 events new from.1
+
+-- ---- halves
+
+pub at_halves : (copy number c : ℕ) (events new : List PlainEvent) → split_at_of copy number (any.Commit c ∷ []) events ≡ Ok new → IsInHalves c copy number events new
+at_halves copy number c events new d =
+    let done = from_done copy c number events new d in
+    record { mark = done.mark; its_mark = done.next; halves = done.is }
+
+pub by_halves : (copy : ℕ) (path : Bytes) (c : ℕ) (events new : List PlainEvent) → split_by_of copy path (any.Commit c ∷ []) events ≡ Ok new
+    → (number : ℕ) × IsFirstTouch path c events number × IsInHalves c copy number events new
+by_halves copy path c events new d = go (first_touch path 1 (node_of events c).ops) refl d
+  where
+    go : (o : Option ℕ) → first_touch path 1 (node_of events c).ops ≡ o
+        → ◌≡◌ {A = Result (List PlainEvent) Fault} (elim o [ Some number ↦ split_from copy c number events | None ↦ Err (fault.NoSuchPath path) ]) (Ok new)
+        → (number : ℕ) × IsFirstTouch path c events number × IsInHalves c copy number events new
+    go (Some number) is d = (number, is, at_halves copy number c events new d)
+    go None is d = absurd cc

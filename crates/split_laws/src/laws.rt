@@ -10,7 +10,7 @@ ghost use Rattle.plain_model.specs.Soundness.{IsCommitOf, IsSound, has_id};
 ghost use Rattle.edit_laws.specs.Editing.{IsEdit, with_number};
 ghost use Rattle.edit_laws.specs.Passing.{IsWithinLimits};
 ghost use Rattle.split_laws.specs.Split.{split_at_of, split_by_of};
-ghost use Rattle.split_laws.specs.SplitTrees.{KeepsTrees};
+ghost use Rattle.split_laws.specs.SplitTrees.{IsFirstTouch, IsInHalves, KeepsTrees};
 
 /// A split that isn't refused is of one event, which is a commit.
 pub fn a_split_is_of_one_commit()
@@ -18,6 +18,17 @@ pub fn a_split_is_of_one_commit()
         split_at_of copy number set events ≡ Ok new → (c : ℕ) × (set ≡ any.Commit c ∷ []) }
     ensures by { (copy : ℕ) (path : Bytes) (set : List AnyId) (events new : List PlainEvent) →
         split_by_of copy path set events ≡ Ok new → (c : ℕ) × (set ≡ any.Commit c ∷ []) }
+{}
+
+/// A split puts the commit's operations into two halves, from the one of a number on, or from the first that touches a path. What was on
+/// the commit is on its copy, and nothing else of an event changes.
+pub fn a_split_makes_two_halves()
+    ensures at { (copy number c : ℕ) (events new : List PlainEvent) →
+        split_at_of copy number (any.Commit c ∷ []) events ≡ Ok new →
+        IsInHalves c copy number events new }
+    ensures by { (copy : ℕ) (path : Bytes) (c : ℕ) (events new : List PlainEvent) →
+        split_by_of copy path (any.Commit c ∷ []) events ≡ Ok new →
+        (number : ℕ) × IsFirstTouch path c events number × IsInHalves c copy number events new }
 {}
 
 /// After a split the copy has the tree that the commit had, and every other commit has its own, with the same bytes.
