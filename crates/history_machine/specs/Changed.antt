@@ -35,14 +35,16 @@ use Rattle.reparent_laws.specs.Remaining
 use Rattle.reparent_laws.specs.Reparent.{ordered, reparents}
 use Rattle.script_reader.specs.declared.command.Command.{Command}
 use Rattle.split_laws.specs.SplitTrees
+use Rattle.split_laws.specs.SplitTrees.{IsFirstTouch, IsInHalves}
 use Rattle.squash_laws.specs.Remaining.{HasParentsFor, IsOneOn, is_staying, stand_for}
 use Rattle.squash_laws.specs.Removed.{is_removed}
 use Rattle.squash_laws.specs.Takings.{last_hanging}
 use Rattle.history_machine.specs.PathWords.{said_path}
 use Rattle.history_machine.specs.Sessions.{Repo, Session, Subject, chosen, ready, with_remade, with_repo}
 
--- The history of the chosen repository becomes another, and nothing else changes, but that its lists under names lose the events that
--- are gone. How the history changes is said by the events of which the command speaks, the repository and what is made of it.
+-- The history of the chosen repository becomes another, with a next number, and nothing else of the session changes, but that the repository's
+-- lists under names lose the events that are gone. How the history changes is said by the events of which the command speaks, the repository
+-- as it was, and what is made of it.
 pub record ChangesChosen (Changes : Ids → Repo → Remade → Type 0) (denial : Option Denial) (s : Session) (what : Command) (after : Session) : Type 0 where
   pub subject : Subject
   pub old : Repo
@@ -54,13 +56,22 @@ pub record ChangesChosen (Changes : Ids → Repo → Remade → Type 0) (denial 
 
 -- ---- a split
 
--- The one event is a commit. Its copy, which has the next number, has the tree that it had; and every other commit is there, and has its
--- own.
-pub record Splits (ids : Ids) (old : Repo) (made : Remade) : Type 0 where
+-- The one event is a commit, which is in two halves, from the operation of this number on. Its copy, whose id is the next number, has the
+-- tree that it had; and every other commit is there, and has its own.
+pub record Splits (number : ℕ) (ids : Ids) (old : Repo) (made : Remade) : Type 0 where
   pub commit : ℕ
   pub only : ids ≡ any.Commit commit ∷ []
   pub next : made.next ≡ old.next + 1
+  pub halves : IsInHalves commit old.next number old.history made.history
   pub trees : SplitTrees.KeepsTrees commit old.next old.history made.history
+
+-- the same from the first operation on that touches the path which a word says
+pub record SplitsBy (text : Bytes) (ids : Ids) (old : Repo) (made : Remade) : Type 0 where
+  pub path : Bytes
+  pub says : said_path text ≡ Ok path
+  pub number : ℕ
+  pub splits : Splits number ids old made
+  pub touches : IsFirstTouch path splits.commit old.history number
 
 -- ---- a squash
 
@@ -170,8 +181,9 @@ RemovesBy text set old made = (path : Bytes) × (said_path text ≡ Ok path) × 
 -- ---- an expunge
 
 -- A commit leaves exactly where it had an operation, has none left without the matched paths, and is no merge; a blob exactly where an
--- operation named it and none does any more; and of other events none but tags and resets for which there is no commit. Each commit has what stands for its old parents, and its old tree without the
--- matched paths; and all else of each event is as it was, but for the operations of commits and the targets of tags and resets.
+-- operation named it and none does any more; and of other events none but tags and resets for which there is no commit. Each commit has
+-- what stands for its old parents, and its old tree without the matched paths. All else of each event is as it was, but for the
+-- operations of commits and the targets of tags and resets.
 pub record Expunges (matched : Bytes → Bool) (ids : Ids) (old : Repo) (made : Remade) : Type 0 where
   pub next : made.next ≡ old.next
   pub commits : AllByRecursion (LeavesWhere (is_emptied matched old.history) made.history) old.history

@@ -31,6 +31,7 @@ ghost use Rattle.history_machine.specs.Changed.{
   RemovesSelected,
   Reparents,
   Splits,
+  SplitsBy,
   Unmerges,
 };
 ghost use Rattle.history_machine.specs.Kept.{
@@ -82,7 +83,9 @@ use selection_eval::{
 };
 use simplify_laws::{a_simplify_is_an_edit, simplifying_keeps_the_ids, simplifying_keeps_trees};
 use soundness_laws::{what_is_read_is_sound, what_is_read_passes_no_limit};
-use split_laws::{a_split_is_an_edit, a_split_is_of_one_commit, a_split_keeps_trees};
+use split_laws::{
+    a_split_is_an_edit, a_split_is_of_one_commit, a_split_keeps_trees, a_split_makes_two_halves,
+};
 use squash_laws::{
     a_push_back_gives_the_last_tree, a_push_forward_keeps_trees, a_squash_is_an_edit,
     a_squash_removes_its_commits, nothing_is_added, parents_give_way_to_their_parents,
@@ -142,7 +145,7 @@ pub fn a_squash_forward_keeps_trees()
 }
 
 /// A squash that pushes back removes the selected commits of the chosen history and no others: each commit that is still there has
-/// the tree of the last removed one that hung on it, and where none did, its own. Nothing else changes.
+/// the tree of the last removed one that hung on it, and where none did, its own.
 pub fn a_squash_back_gives_the_last_tree()
     ensures { (denial : Option Denial) (s : Session) (files : Files) (selection : Option (List ℕ))
         (tags : Lean) (t : Effect Session) →
@@ -159,21 +162,22 @@ pub fn a_squash_back_gives_the_last_tree()
     parents_give_way_to_their_parents();
 }
 
-/// A split is of one commit of the chosen history: its copy has the tree that it had, and every other commit is there, and has its
-/// own. Nothing else changes.
+/// A split is of one commit of the chosen history: its operations are in two halves, what was on it is on its copy, and nothing else of
+/// an event changes. The copy has the tree that the commit had, and every other commit its own.
 pub fn a_split_keeps_other_trees()
     ensures at { (denial : Option Denial) (s : Session) (files : Files)
         (selection : Option (List ℕ)) (number : ℕ) (t : Effect Session) →
         step denial s files (command.Edit selection (edit.SplitAt number)) ≡ Ok t →
-        IsLawful s → ChangesChosen Splits denial s
+        IsLawful s → ChangesChosen (Splits number) denial s
         (command.Edit selection (edit.SplitAt number)) t.session }
     ensures by { (denial : Option Denial) (s : Session) (files : Files)
         (selection : Option (List ℕ)) (path : List ℕ) (t : Effect Session) →
         step denial s files (command.Edit selection (edit.SplitBy path)) ≡ Ok t →
-        IsLawful s → ChangesChosen Splits denial s
+        IsLawful s → ChangesChosen (SplitsBy path) denial s
         (command.Edit selection (edit.SplitBy path)) t.session }
 {
     a_split_is_of_one_commit();
+    a_split_makes_two_halves();
     a_split_keeps_trees();
     selections_are_live();
     sound_histories_are_such();

@@ -1,5 +1,5 @@
-//! Laws of edits that keep operations, not trees: which commits are left, and on which parents; and of an expunge, which commits and
-//! blobs leave. Each function's contract is a law; its body calls the laws that it rests on.
+//! Laws of edits that keep operations, not trees: which events are left, and on which parents commits are; and of an expunge, which
+//! events leave. Each function's contract is a law; its body calls the laws that it rests on.
 ghost use Rattle.std.specs.Prelude.{◌≡◌, Bool, List, Ok, Option, true, ℕ};
 ghost use Rattle.plain_model.specs.Files.{Files};
 ghost use Rattle.plain_model.specs.declared.policy.Lean.{Lean};
@@ -43,9 +43,9 @@ use squash_laws::{
     a_squash_removes_its_commits, no_other_event_leaves, parents_give_way_to_their_parents,
 };
 
-/// A deletion removes the selected events of the chosen history with the tags and resets of removed commits, and no others but blobs that
-/// nothing names any more. Each commit that is still there has its operations, on
-/// what stands for its old parents, and its tree is what they make of its new first parent's. Nothing else of an event changes.
+/// A deletion removes the selected events of the chosen history with the tags and resets of removed commits, and no others but blobs
+/// that nothing names any more. Each commit that is still there has its operations, on what stands for its old parents, and its tree
+/// is what they make of its new first parent's. Nothing else of an event changes.
 pub fn a_deletion_replays_what_remains()
     ensures { (denial : Option Denial) (s : Session) (files : Files) (selection : Option (List ℕ))
         (tags : Lean) (t : Effect Session) →
