@@ -28,9 +28,9 @@ use Rattle.selection_eval.specs.Given.{AreNamesOnce, AreTipsLive, GivesLive, Giv
 use Rattle.selection_eval.specs.Names.{Names, assigned}
 use Rattle.selection_parser.specs.Plain.{PlainSelection}
 use Rattle.sample_history.specs.Sample.{sample}
-use Rattle.script_reader.specs.Added.{IsSpelledCommand, IsSpelledEdit}
 use Rattle.script_lines.specs.Answering.{◌>>=◌}
-use Rattle.script_reader.specs.Commands.{order_of}
+use Rattle.script_reader.specs.Commands.{IsSpelledCommand, order_of}
+use Rattle.script_reader.specs.Edits.{IsSpelledEdit}
 use Rattle.script_reader.specs.Macros.{called}
 use Rattle.script_lines.specs.Names.{is_repo_name}
 use Rattle.script_reader.specs.declared.command.Command.{Command}

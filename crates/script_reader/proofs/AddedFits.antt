@@ -3,10 +3,8 @@ use Rattle.std.proofs.Common.{◌≡◌, ℕ, Bool, true, false, cond, List, [],
 use Rattle.std.specs.Prelude.{option_and_then}
 use Rattle.plain_model.specs.declared.fault.Fault.{Fault}
 use Rattle.plain_model.specs.declared.fault.Fault.TheVariants as fault
-use Rattle.plain_model.specs.declared.raw.RawOp.{RawOp}
 use Rattle.plain_model.specs.Paths.{Bytes}
 use Rattle.plain_model.specs.declared.limit.TheConstants.{MAX_SAMPLE_COMMITS}
-use Rattle.plain_model.specs.Policies.{delete_how}
 use Rattle.script_lines.specs.Answering.{◌>>=◌}
 use Rattle.script_lines.specs.Names.{is_repo_name, repo_name}
 use Rattle.script_lines.specs.Redirections.{redirected}
@@ -15,32 +13,26 @@ use Rattle.script_lines.specs.Texts.{or_at_fault, text_before, texts_in, whole_i
 use Rattle.script_lines.specs.Words.{after_head, head_of, words_of}
 use Rattle.script_lines.specs.declared.redirection.Direction.TheVariants.{Input}
 use Rattle.script_lines.specs.declared.word.Word.{Word}
-use Rattle.script_reader.specs.Commands.{add_words, added, alone, asked_by, assign_form, choose_form, choose_of, coalesce_words, cut_form, do_form, drop_form, drop_of, edit_form, expunge_form, form_of, last_name, name_within, names_form, op_by, order_after, order_in, order_of, output_in, plain_form, read_form, read_of, remove_words, removal_of, renumber_form, reparent_words, reparenting_by, said_of, sample_form, sample_start, show_form, split_words, squash_words, steps, summary_form, write_form}
-use Rattle.script_reader.specs.Cuts.{cut_of}
-use Rattle.script_reader.specs.Keywords.{edit_word, keyword_of, needs_selection}
-use Rattle.script_reader.specs.Numbers.{index_in, said_between, seconds_in}
-use Rattle.script_reader.specs.Options.{nothing_asked, policy_of, reparenting}
+use Rattle.script_reader.specs.Commands.{IsSpelledCommand, assign_form, choose_form, choose_of, do_form, drop_form, drop_of, edit_form, expunge_form, form_of, last_name, names_form, order_after, order_in, order_of, plain_form, read_form, read_of, renumber_form, sample_form, sample_start, show_form, steps, summary_form, write_form}
+use Rattle.script_reader.specs.Edits.{IsSpelledEdit, edit_word, needs_selection, said_of}
+use Rattle.script_reader.specs.Forms.{alone, name_within, output_in}
+use Rattle.script_reader.specs.Keywords.{keyword_of}
+use Rattle.script_reader.specs.Numbers.{said_between}
 use Rattle.script_reader.specs.Selecting.{front_of, is_superfluous}
-use Rattle.script_reader.specs.Added.{IsSpelledCommand, IsSpelledEdit}
-use Rattle.script_reader.specs.Spelled.{IsSpelled, whole_op}
 use Rattle.script_reader.specs.declared.command.Command.{Command}
 use Rattle.script_reader.specs.declared.command.Command.TheVariants as command
 use Rattle.script_reader.specs.declared.command.Listing.{Listing}
 use Rattle.script_reader.specs.declared.command.Order.{Order}
 use Rattle.script_reader.specs.declared.command.Order.TheVariants as order
-use Rattle.script_reader.specs.declared.cut.Cut.{Cut}
-use Rattle.script_reader.specs.declared.cut.Cut.TheVariants as cut
 use Rattle.script_reader.specs.declared.edit.Edit.{Edit}
-use Rattle.script_reader.specs.declared.edit.Edit.TheVariants as edit
-use Rattle.script_reader.specs.declared.keyword.EditWord.{EditWord}
-use Rattle.script_reader.specs.declared.keyword.EditWord.TheVariants as edit_word
+use Rattle.script_reader.specs.declared.edit.EditWord.{EditWord}
 use Rattle.script_reader.specs.declared.keyword.Keyword.{Keyword}
 use Rattle.script_reader.specs.declared.keyword.Keyword.TheVariants as keyword
 use Rattle.script_reader.specs.declared.keyword.PlainWord.{PlainWord}
 use Rattle.script_reader.specs.declared.keyword.PlainWord.TheVariants as plain
 use Rattle.script_reader.specs.declared.number.TheConstants.{MAX_START}
-use Rattle.script_reader.specs.declared.spelled.SaidOp.TheVariants.{Nothing}
-use Rattle.script_reader.proofs.SpelledFits.{spelled_fits}
+use Rattle.script_reader.proofs.Answered.{IfAnswered, bound, found, lone}
+use Rattle.script_reader.proofs.SaidEdits.{said_fits}
 
 -- ---- what is claimed of an edit, a command, an order
 
@@ -48,81 +40,7 @@ abbrev OrderFits : Order → Type 0
 OrderFits (order.Step what) = IsSpelledCommand what
 OrderFits (order.Do call) = Unit {0}
 
--- what is answered, if it isn't a refusal
-abbrev IfAnswered : {A : Type 0} → (A → Type 0) → Result A Fault → Type 0
-IfAnswered P (Ok x) = P x
-IfAnswered P (Err why) = Unit {0}
-
-bound : {A B : Type 0} (P : B → Type 0) (m : Result A Fault) (f : A → Result B Fault) → ((x : A) → m ≡ Ok x → IfAnswered P (f x)) → IfAnswered P (m >>= f)
-bound P (Ok x) f h = h x refl
-bound P (Err why) f h = tt
-
-found : {A : Type 0} (P : A → Type 0) (word : Word) (o : Option A) → ((x : A) → o ≡ Some x → P x) → IfAnswered P (or_at_fault word o)
-found P word (Some x) h = h x refl
-found P word None h = tt
-
-lone : {A : Type 0} (P : A → Type 0) (x : A) (words : List Word) → P x → IfAnswered P (alone x words)
-lone P x [] h = h
-lone P x (word ∷ words) h = tt
-
 -- ---- edits
-
-squash_fits : (words : List Word) → IfAnswered IsSpelledEdit (squash_words words)
-unfolding squash_words
-squash_fits words = bound IsSpelledEdit (asked_by nothing_asked words) (λ asked. Ok (edit.Squash (policy_of asked))) (λ asked is. tt)
-
-cut_fits : (place : Cut) (words : List Word) → IfAnswered IsSpelledEdit (cut_form place words)
-cut_fits place [] = tt
-cut_fits cut.At (word ∷ words) =
-    bound IsSpelledEdit (or_at_fault word (option_and_then index_in (whole_in word))) (λ number. alone (edit.SplitAt number) words) (λ number is. lone IsSpelledEdit (edit.SplitAt number) words tt)
-cut_fits cut.By (word ∷ words) =
-    bound IsSpelledEdit (or_at_fault word (text_before words word)) (λ path. alone (edit.SplitBy path) words) (λ path is. lone IsSpelledEdit (edit.SplitBy path) words tt)
-
-split_fits : (words : List Word) → IfAnswered IsSpelledEdit (split_words words)
-unfolding split_words
-split_fits [] = tt
-split_fits (word ∷ words) = bound IsSpelledEdit (or_at_fault word (option_and_then cut_of (whole_in word))) (λ place. cut_form place words) (λ place is. cut_fits place words)
-
-reparent_fits : (words : List Word) → IfAnswered IsSpelledEdit (reparent_words words)
-unfolding reparent_words
-reparent_fits words = bound IsSpelledEdit (reparenting_by reparenting words) (λ how. Ok (edit.Reparent how)) (λ how is. tt)
-
-add_fits : (words : List Word) → IfAnswered IsSpelledEdit (add_words words)
-unfolding add_words
-add_fits words = bound IsSpelledEdit (op_by Nothing words) (λ said. added (whole_op said)) (λ said is. go (whole_op said) (λ op e. spelled_fits words said op is e))
-  where
-    go : (o : Option RawOp) → ((op : RawOp) → o ≡ Some op → IsSpelled op) → IfAnswered IsSpelledEdit (added o)
-    go (Some op) h = h op refl
-    go None h = tt
-
-remove_fits : (words : List Word) → IfAnswered IsSpelledEdit (remove_words words)
-unfolding remove_words
-remove_fits [] = tt
-remove_fits (word ∷ words) = bound IsSpelledEdit (or_at_fault word (text_before words word)) (λ text. alone (removal_of text) words) (λ text is. lone IsSpelledEdit (removal_of text) words (go text (index_in text)))
-  where
-    go : (text : Bytes) (number : Option ℕ) → IsSpelledEdit (elim number [ Some n ↦ edit.RemoveAt n | None ↦ edit.RemoveBy text ])
-    go text (Some n) = tt
-    go text None = tt
-
-coalesce_fits : (words : List Word) → IfAnswered IsSpelledEdit (coalesce_words words)
-unfolding coalesce_words
-coalesce_fits [] = tt
-coalesce_fits (word ∷ words) =
-    bound IsSpelledEdit (or_at_fault word (option_and_then seconds_in (whole_in word))) (λ seconds. alone (edit.Coalesce seconds) words)
-    (λ seconds is. lone IsSpelledEdit (edit.Coalesce seconds) words tt)
-
-said_fits : (word : EditWord) (words : List Word) → IfAnswered IsSpelledEdit (said_of word words)
-said_fits edit_word.Squash words = squash_fits words
-said_fits edit_word.Delete words = lone IsSpelledEdit (edit.Squash delete_how) words tt
-said_fits edit_word.Split words = split_fits words
-said_fits edit_word.Reorder words = lone IsSpelledEdit edit.Reorder words tt
-said_fits edit_word.Reparent words = reparent_fits words
-said_fits edit_word.Merge words = lone IsSpelledEdit edit.Merge words tt
-said_fits edit_word.Unmerge words = lone IsSpelledEdit edit.Unmerge words tt
-said_fits edit_word.Add words = add_fits words
-said_fits edit_word.Remove words = remove_fits words
-said_fits edit_word.Coalesce words = coalesce_fits words
-said_fits edit_word.Simplify words = lone IsSpelledEdit edit.Simplify words tt
 
 made_fits : (selection : Option Bytes) (said : Result Edit Fault) → IfAnswered IsSpelledEdit said → IfAnswered IsSpelledCommand (said >>= λ what. Ok (command.Edit selection what))
 made_fits selection (Ok what) h = h

@@ -1,10 +1,10 @@
 -- The command words. (reposurgeon manual)
-use Rattle.std.specs.Prelude.{Bool, true, false, Option, Some, None, bytes_eq, codes, if◌then◌else◌}
+use Rattle.std.specs.Prelude.{Option, Some, None, bytes_eq, codes, if◌then◌else◌}
 use Rattle.plain_model.specs.Paths.{Bytes}
+use Rattle.script_reader.specs.Edits.{word_of}
 use Rattle.script_reader.specs.declared.command.Listing.{Listing}
 use Rattle.script_reader.specs.declared.command.Listing.TheVariants as listing
-use Rattle.script_reader.specs.declared.keyword.EditWord.{EditWord}
-use Rattle.script_reader.specs.declared.keyword.EditWord.TheVariants as word
+use Rattle.script_reader.specs.declared.edit.EditWord.{EditWord}
 use Rattle.script_reader.specs.declared.keyword.Keyword.{Keyword}
 use Rattle.script_reader.specs.declared.keyword.Keyword.TheVariants as keyword
 use Rattle.script_reader.specs.declared.keyword.PlainWord.{PlainWord}
@@ -22,41 +22,6 @@ plain_word_of text =
     if bytes_eq text (codes "summary") then Some plain.Summary else
     if bytes_eq text (codes "sample") then Some plain.Sample else
     if bytes_eq text (codes "expunge") then Some plain.Expunge else None
-
--- the command word of an edit that bytes are
-unfoldable pub edit_word_of : Bytes → Option EditWord
-edit_word_of text =
-    if bytes_eq text (codes "squash") then Some word.Squash else
-    if bytes_eq text (codes "delete") then Some word.Delete else
-    if bytes_eq text (codes "split") then Some word.Split else
-    if bytes_eq text (codes "reorder") then Some word.Reorder else
-    if bytes_eq text (codes "reparent") then Some word.Reparent else
-    if bytes_eq text (codes "merge") then Some word.Merge else
-    if bytes_eq text (codes "unmerge") then Some word.Unmerge else
-    if bytes_eq text (codes "add") then Some word.Add else
-    if bytes_eq text (codes "remove") then Some word.Remove else
-    if bytes_eq text (codes "coalesce") then Some word.Coalesce else
-    if bytes_eq text (codes "simplify") then Some word.Simplify else None
-
--- the same as it is written
-abbrev pub edit_word : EditWord → Bytes
-edit_word word.Squash = codes "squash"
-edit_word word.Delete = codes "delete"
-edit_word word.Split = codes "split"
-edit_word word.Reorder = codes "reorder"
-edit_word word.Reparent = codes "reparent"
-edit_word word.Merge = codes "merge"
-edit_word word.Unmerge = codes "unmerge"
-edit_word word.Add = codes "add"
-edit_word word.Remove = codes "remove"
-edit_word word.Coalesce = codes "coalesce"
-edit_word word.Simplify = codes "simplify"
-
--- a selection has to be before it
-abbrev pub needs_selection : EditWord → Bool
-needs_selection word.Coalesce = false
-needs_selection word.Simplify = false
-needs_selection other = true
 
 -- the command word of a text of events that bytes are
 unfoldable pub listing_of : Bytes → Option Listing
@@ -83,4 +48,4 @@ among None None None other = other
 
 -- the command word that bytes are; case counts
 abbrev pub keyword_of : Bytes → Option Keyword
-keyword_of text = among (plain_word_of text) (edit_word_of text) (listing_of text) (other_of text)
+keyword_of text = among (plain_word_of text) (word_of text) (listing_of text) (other_of text)

@@ -14,14 +14,11 @@ ghost use Rattle.script_reader.specs.Commands.{
   form_of,
   if_given,
   last_name,
-  name_within,
   names_form,
-  output_in,
   plain_form,
   read_form,
   read_of,
   renumber_form,
-  said_of,
   sample_form,
   sample_start,
   show_form,
@@ -29,12 +26,12 @@ ghost use Rattle.script_reader.specs.Commands.{
   summary_form,
   write_form,
 };
+ghost use Rattle.script_reader.specs.Forms.{name_within, output_in};
 ghost use Rattle.script_reader.specs.Numbers.{said_between};
 
 use crate::command::{Call, Command, Listing, Order};
-use crate::edit::Edit;
-use crate::edit_words::{add, coalesce, delete, only, remove, reparent, split, squash};
-use crate::keyword::{EditWord, Keyword, PlainWord};
+use crate::edit::EditWord;
+use crate::keyword::{Keyword, PlainWord};
 use crate::number::{MAX_START, number_between};
 use crate::selecting::WrittenSelection;
 use plain_model::{Halt, Items, MAX_SAMPLE_COMMITS, NoMemory, Text};
@@ -313,25 +310,6 @@ fn steps(command: Result<Command, Halt>) -> Result<Order, Halt>
     }
 }
 
-// The edit that the words after its command word say.
-fn said(alloc: Global, word: EditWord, words: &[Word]) -> Result<Edit, Halt>
-    ensures { Returns (λ what. what) result (said_of word words.now) }
-{
-    match word {
-        EditWord::Squash => squash(alloc, words),
-        EditWord::Delete => delete(alloc, words),
-        EditWord::Split => split(alloc, words),
-        EditWord::Reorder => only(alloc, Edit::Reorder, words),
-        EditWord::Reparent => reparent(alloc, words),
-        EditWord::Merge => only(alloc, Edit::Merge, words),
-        EditWord::Unmerge => only(alloc, Edit::Unmerge, words),
-        EditWord::Add => add(alloc, words),
-        EditWord::Remove => remove(alloc, words),
-        EditWord::Coalesce => coalesce(alloc, words),
-        EditWord::Simplify => only(alloc, Edit::Simplify, words),
-    }
-}
-
 // An edit of selected events, or of all where none has to be selected.
 fn edit(
     alloc: Global,
@@ -344,7 +322,7 @@ fn edit(
     if selection.is_none() && word.needs_selection() {
         return Err(bad_words(alloc, word.text()));
     }
-    let what = said(alloc, word, words)?;
+    let what = word.said(alloc, words)?;
     Ok(Command::Edit { selection, what })
 }
 

@@ -1,17 +1,15 @@
 //! Command words.
 ghost use Rattle.std.specs.Prelude.{◌≡◌};
 ghost use Rattle.script_reader.specs.Keywords.{
-  edit_word,
-  edit_word_of,
   keyword_of,
   listing_of,
-  needs_selection,
   other_of,
   plain_word_of,
 };
 ghost use Rattle.script_reader.specs.Selecting.{takes_selection};
 
 use crate::command::Listing;
+use crate::edit::EditWord;
 
 /// A command word. (reposurgeon manual)
 #[derive(Clone, Copy)]
@@ -41,22 +39,6 @@ pub enum PlainWord {
     Expunge,
 }
 
-/// A command word of an edit of events.
-#[derive(Clone, Copy)]
-pub enum EditWord {
-    Squash,
-    Delete,
-    Split,
-    Reorder,
-    Reparent,
-    Merge,
-    Unmerge,
-    Add,
-    Remove,
-    Coalesce,
-    Simplify,
-}
-
 impl PlainWord {
     /// The word without a selection that these bytes are.
     #[tactic(auto, unfolding(crate::specs::Keywords::plain_word_of))]
@@ -75,55 +57,6 @@ impl PlainWord {
             "expunge" => Some(PlainWord::Expunge),
             _ => None,
         }
-    }
-}
-
-impl EditWord {
-    /// The word of an edit that these bytes are.
-    #[tactic(auto, unfolding(crate::specs::Keywords::edit_word_of))]
-    pub fn of(word: &str) -> Option<EditWord>
-        ensures { result ≡ edit_word_of word.now }
-    {
-        match word {
-            "squash" => Some(EditWord::Squash),
-            "delete" => Some(EditWord::Delete),
-            "split" => Some(EditWord::Split),
-            "reorder" => Some(EditWord::Reorder),
-            "reparent" => Some(EditWord::Reparent),
-            "merge" => Some(EditWord::Merge),
-            "unmerge" => Some(EditWord::Unmerge),
-            "add" => Some(EditWord::Add),
-            "remove" => Some(EditWord::Remove),
-            "coalesce" => Some(EditWord::Coalesce),
-            "simplify" => Some(EditWord::Simplify),
-            _ => None,
-        }
-    }
-
-    /// The word as it is written.
-    pub fn text(self) -> &'static [u8]
-        ensures { result.now ≡ edit_word self }
-    {
-        match self {
-            EditWord::Squash => b"squash",
-            EditWord::Delete => b"delete",
-            EditWord::Split => b"split",
-            EditWord::Reorder => b"reorder",
-            EditWord::Reparent => b"reparent",
-            EditWord::Merge => b"merge",
-            EditWord::Unmerge => b"unmerge",
-            EditWord::Add => b"add",
-            EditWord::Remove => b"remove",
-            EditWord::Coalesce => b"coalesce",
-            EditWord::Simplify => b"simplify",
-        }
-    }
-
-    /// Whether a selection has to be before it.
-    pub fn needs_selection(self) -> bool
-        ensures { result ≡ needs_selection self }
-    {
-        !matches!(self, EditWord::Coalesce | EditWord::Simplify)
     }
 }
 

@@ -2,7 +2,7 @@ use Rattle.std.proofs.Common.{◌+◌}
 use Rattle.edit_laws.specs.Editing.{IsEdit, with_number}
 use Rattle.reparent_laws.specs.Operations.{remove_of}
 use Rattle.reparent_laws.specs.declared.removal.Removal.TheVariants.{At, Index}
-use Rattle.script_reader.specs.Added.{IsSpelledEdit}
+use Rattle.script_reader.specs.Edits.{IsSpelledEdit}
 use Rattle.script_reader.specs.declared.edit.Edit.{Edit}
 use Rattle.script_reader.specs.declared.edit.Edit.TheVariants as edit
 use Rattle.split_laws.specs.Split.{split_by_of}
