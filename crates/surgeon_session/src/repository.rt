@@ -4,6 +4,7 @@ ghost use Rattle.byte_patterns.specs.Judging.{Judges};
 ghost use Rattle.coalesce_laws.specs.Coalesce.{coalesce_of};
 ghost use Rattle.event_sets.specs.Once.{AreLive, IsOnce};
 ghost use Rattle.edit_laws.specs.Editing.{with_number};
+ghost use Rattle.edit_laws.specs.Selecting.{IsSelection};
 ghost use Rattle.history_machine.specs.Sessions.{
   edited,
   remade,
@@ -172,8 +173,7 @@ impl Repository {
 
     // The plan of an edit of some of its events.
     fn plan_of(&mut self, what: &Edit, ids: &[AnyId]) -> Result<Plan, Halt>
-        requires once { IsOnce ids.now }
-        requires live { AreLive self.old.history ids.now }
+        requires selection { IsSelection self.old.history ids.now }
         ensures plans { Returns made_by result
             (remade what.now ids.now self.old.next self.old.history) }
         ensures before { IfOk result (λ plan. plan.before ≡ self.old.history) }

@@ -1,7 +1,11 @@
+use Rattle.history_machine.proofs.Selections.{selection_of}
 use Rattle.history_machine.specs.Sessions.{remade}
 use Rattle.surgeon_session.specs.Entries.{made_by}
 use Rattle.surgeon_session.proofs.Changing.{carried}
 use Rattle.surgeon_session.proofs.repository.Repository.edit.Goals as goal
+
+pub plan_of-requires : goal.plan_of-requires
+plan_of-requires c = record { selection = selection_of c.args.self.now.history c.args.ids.now c.requires.once c.requires.live }
 
 pub returns-clause-returns : goal.returns-clause-returns
 returns-clause-returns c = λ name.
