@@ -1,5 +1,5 @@
 -- What the words of each edit say.
-use Rattle.std.proofs.Common.{◌≡◌, ℕ, List, [], ◌∷◌, Option, Some, None, Result, Ok, Err, refl}
+use Rattle.std.proofs.Common.{◌≡◌, ℕ, List, [], ◌∷◌, codes, Option, Some, None, Result, Ok, Err, refl}
 use Rattle.std.specs.Prelude.{option_and_then}
 use Rattle.plain_model.specs.declared.raw.RawOp.{RawOp}
 use Rattle.plain_model.specs.Paths.{Bytes}
@@ -7,8 +7,9 @@ use Rattle.plain_model.specs.Policies.{delete_how}
 use Rattle.script_lines.specs.Texts.{or_at_fault, text_before, whole_in}
 use Rattle.script_lines.specs.declared.word.Word.{Word}
 use Rattle.script_reader.specs.Cuts.{cut_of}
-use Rattle.script_reader.specs.Edits.{IsSpelledEdit, add_words, added, asked_by, coalesce_words, cut_form, op_by, remove_words, removal_of, reparent_words, reparenting_by, said_of, split_words, squash_words}
+use Rattle.script_reader.specs.Edits.{IsSpelledEdit, add_words, added, asked_by, coalesce_words, cut_form, edit_word, op_by, remove_words, removal_of, reparent_words, reparenting_by, said_of, split_words, squash_words, word_of}
 use Rattle.script_reader.specs.Forms.{alone}
+use Rattle.script_reader.specs.Keywords.{plain_word_of}
 use Rattle.script_reader.specs.Numbers.{index_in, seconds_in}
 use Rattle.script_reader.specs.Options.{nothing_asked, policy_of, reparenting}
 use Rattle.script_reader.specs.Spelled.{IsSpelled, whole_op}
@@ -20,6 +21,38 @@ use Rattle.script_reader.specs.declared.edit.EditWord.TheVariants as word
 use Rattle.script_reader.specs.declared.spelled.SaidOp.TheVariants.{Nothing}
 use Rattle.script_reader.proofs.Answered.{IfAnswered, bound, lone}
 use Rattle.script_reader.proofs.SpelledFits.{spelled_fits}
+
+-- ---- command words
+
+-- the word is read as it is written
+pub word_again : (it : EditWord) → word_of (edit_word it) ≡ Some it
+unfolding word_of
+word_again word.Squash = refl
+word_again word.Delete = refl
+word_again word.Split = refl
+word_again word.Reorder = refl
+word_again word.Reparent = refl
+word_again word.Merge = refl
+word_again word.Unmerge = refl
+word_again word.Add = refl
+word_again word.Remove = refl
+word_again word.Coalesce = refl
+word_again word.Simplify = refl
+
+-- no word of an edit is one that takes no selection
+pub no_plain_word : (it : EditWord) → plain_word_of (edit_word it) ≡ None
+unfolding plain_word_of
+no_plain_word word.Squash = refl
+no_plain_word word.Delete = refl
+no_plain_word word.Split = refl
+no_plain_word word.Reorder = refl
+no_plain_word word.Reparent = refl
+no_plain_word word.Merge = refl
+no_plain_word word.Unmerge = refl
+no_plain_word word.Add = refl
+no_plain_word word.Remove = refl
+no_plain_word word.Coalesce = refl
+no_plain_word word.Simplify = refl
 
 -- ---- what is spelled
 
@@ -80,3 +113,10 @@ said_fits word.Add words = add_fits words
 said_fits word.Remove words = remove_fits words
 said_fits word.Coalesce words = coalesce_fits words
 said_fits word.Simplify words = lone IsSpelledEdit edit.Simplify words tt
+
+-- ---- edits as they are written
+
+-- `delete` and `squash --delete`
+pub delete_again : (it : Word) → whole_in it ≡ Some (codes "--delete") → said_of word.Squash (it ∷ []) ≡ said_of word.Delete []
+unfolding squash_words
+delete_again it h = rw h refl

@@ -1,7 +1,7 @@
 -- The command words. (reposurgeon manual)
 use Rattle.std.specs.Prelude.{Option, Some, None, bytes_eq, codes, if◌then◌else◌}
 use Rattle.plain_model.specs.Paths.{Bytes}
-use Rattle.script_reader.specs.Edits.{word_of}
+use Rattle.script_reader.specs.Edits.{edit_word, word_of}
 use Rattle.script_reader.specs.declared.command.Listing.{Listing}
 use Rattle.script_reader.specs.declared.command.Listing.TheVariants as listing
 use Rattle.script_reader.specs.declared.edit.EditWord.{EditWord}
@@ -49,3 +49,34 @@ among None None None other = other
 -- the command word that bytes are; case counts
 abbrev pub keyword_of : Bytes → Option Keyword
 keyword_of text = among (plain_word_of text) (word_of text) (listing_of text) (other_of text)
+
+-- ---- the words as they are written
+
+-- the command word of a text of events
+abbrev pub listing_word : Listing → Bytes
+listing_word listing.List = codes "list"
+listing_word listing.Index = codes "index"
+listing_word listing.Stamp = codes "stamp"
+listing_word listing.Resolve = codes "resolve"
+listing_word listing.Manifest = codes "manifest"
+
+-- a command word that takes no selection
+abbrev pub plain_word : PlainWord → Bytes
+plain_word plain.Read = codes "read"
+plain_word plain.Write = codes "write"
+plain_word plain.Choose = codes "choose"
+plain_word plain.Drop = codes "drop"
+plain_word plain.Renumber = codes "renumber"
+plain_word plain.Names = codes "names"
+plain_word plain.Summary = codes "summary"
+plain_word plain.Sample = codes "sample"
+plain_word plain.Expunge = codes "expunge"
+
+-- each command word
+abbrev pub command_word : Keyword → Bytes
+command_word (keyword.Plain word) = plain_word word
+command_word (keyword.Edit word) = edit_word word
+command_word (keyword.Show what) = listing_word what
+command_word keyword.Assign = codes "assign"
+command_word keyword.Do = codes "do"
+command_word keyword.Define = codes "define"
