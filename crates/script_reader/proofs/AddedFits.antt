@@ -1,6 +1,5 @@
 -- An operation that a line of a script adds is such as one of a stream is.
 use Rattle.std.proofs.Common.{◌≡◌, ℕ, Bool, true, false, cond, List, [], ◌∷◌, Option, Some, None, Result, Ok, Err, refl, subst}
-use Rattle.std.specs.Prelude.{option_and_then}
 use Rattle.plain_model.specs.declared.fault.Fault.{Fault}
 use Rattle.plain_model.specs.declared.fault.Fault.TheVariants as fault
 use Rattle.plain_model.specs.Paths.{Bytes}
@@ -9,7 +8,7 @@ use Rattle.script_lines.specs.Answering.{◌>>=◌}
 use Rattle.script_lines.specs.Names.{is_repo_name, repo_name}
 use Rattle.script_lines.specs.Redirections.{redirected}
 use Rattle.script_lines.specs.Scripts.{is_long, too_long}
-use Rattle.script_lines.specs.Texts.{or_at_fault, text_before, texts_in, whole_in}
+use Rattle.script_lines.specs.Texts.{or_at_fault, texts_in, whole_in}
 use Rattle.script_lines.specs.Words.{after_head, head_of, words_of}
 use Rattle.script_lines.specs.declared.redirection.Direction.TheVariants.{Input}
 use Rattle.script_lines.specs.declared.word.Word.{Word}

@@ -1,12 +1,10 @@
 -- The words of an operation are read as the operation that they say.
 use Rattle.std.proofs.Common.{◌≡◌, ◌≢◌, ℕ, Bool, true, false, cond, List, [], ◌∷◌, ◌++◌, codes, Option, Some, None, Result, Ok, Err, refl, sym, ap, subst, ◌∙◌, append_assoc, append-nil, eqb-true}
-use Rattle.std.specs.Prelude.{◌==◌, ◌&&◌, option_and_then, option_map, bytes_eq}
+use Rattle.std.specs.Prelude.{◌==◌, option_and_then, option_map, bytes_eq}
 use Rattle.std.specs.Result.{result_ok}
-use Rattle.std.proofs.lemmas.Bool.{and_parts}
 use Rattle.std.proofs.lemmas.Option.{cond_some}
 use Rattle.std.proofs.lemmas.Slice.Eq.{bytes_eq-Decides}
 use Rattle.plain_model.specs.declared.fault.Fault.{Fault}
-use Rattle.plain_model.specs.declared.fault.Fault.TheVariants as fault
 use Rattle.plain_model.specs.declared.fault.Why.{Why}
 use Rattle.plain_model.specs.declared.fault.Why.TheVariants.{BadMark, LeftOut}
 use Rattle.plain_model.specs.declared.operation.Mode.{Mode}
@@ -26,11 +24,9 @@ use Rattle.script_lines.specs.Texts.{or_at_fault, text_before, texts_in}
 use Rattle.script_lines.specs.declared.word.Word.{Word}
 use Rattle.script_reader.specs.Edits.{add_words, added, op_by}
 use Rattle.script_reader.specs.Spelled.{SaysOp, content_of, kind_of, mode_of, op_more, path_of, unless_inline, whole_op}
-use Rattle.script_reader.specs.declared.edit.Edit.{Edit}
 use Rattle.script_reader.specs.declared.edit.Edit.TheVariants as edit
 use Rattle.script_reader.specs.declared.spelled.SaidOp.{SaidOp}
 use Rattle.script_reader.specs.declared.spelled.SaidOp.TheVariants as said
-use Rattle.script_reader.proofs.SpelledContents.{path_fits}
 
 -- ---- one text after another
 

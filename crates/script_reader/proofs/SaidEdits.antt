@@ -1,5 +1,5 @@
 -- What the words of each edit say.
-use Rattle.std.proofs.Common.{◌≡◌, ℕ, List, [], ◌∷◌, codes, Option, Some, None, Result, Ok, Err, refl}
+use Rattle.std.proofs.Common.{◌≡◌, ℕ, List, [], ◌∷◌, codes, Option, Some, None, Ok, refl}
 use Rattle.std.specs.Prelude.{option_and_then}
 use Rattle.plain_model.specs.declared.raw.RawOp.{RawOp}
 use Rattle.plain_model.specs.Paths.{Bytes}

@@ -1,10 +1,9 @@
 -- Command words are read as they are written.
-use Rattle.std.proofs.Common.{◌≡◌, Option, Some, None, refl}
-use Rattle.script_reader.specs.Edits.{edit_word, word_of}
+use Rattle.std.proofs.Common.{◌≡◌, Some, refl}
+use Rattle.script_reader.specs.Edits.{word_of}
 use Rattle.script_reader.specs.Keywords.{command_word, keyword_of, listing_of, listing_word, other_of, plain_word, plain_word_of}
 use Rattle.script_reader.specs.declared.command.Listing.{Listing}
 use Rattle.script_reader.specs.declared.command.Listing.TheVariants as listing
-use Rattle.script_reader.specs.declared.edit.EditWord.{EditWord}
 use Rattle.script_reader.specs.declared.keyword.Keyword.{Keyword}
 use Rattle.script_reader.specs.declared.keyword.Keyword.TheVariants as keyword
 use Rattle.script_reader.specs.declared.keyword.PlainWord.{PlainWord}

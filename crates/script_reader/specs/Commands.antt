@@ -1,5 +1,5 @@
 -- What a line orders: a command, or that a macro is run. (reposurgeon manual, of each command word its section; what is at fault: own)
-use Rattle.std.specs.Prelude.{ℕ, IsTrue, List, [], ◌∷◌, Option, Some, None, option_and_then, Result, Ok, Err, codes, if◌then◌else◌}
+use Rattle.std.specs.Prelude.{ℕ, IsTrue, List, [], ◌∷◌, Option, Some, None, Result, Ok, Err, codes, if◌then◌else◌}
 use Rattle.plain_model.specs.Paths.{Bytes}
 use Rattle.plain_model.specs.declared.fault.Fault.{Fault}
 use Rattle.plain_model.specs.declared.fault.Fault.TheVariants as fault
@@ -8,9 +8,9 @@ use Rattle.script_lines.specs.Answering.{◌>>=◌}
 use Rattle.script_lines.specs.Names.{repo_name, is_given_name, is_repo_name}
 use Rattle.script_lines.specs.Redirections.{redirected}
 use Rattle.script_lines.specs.Scripts.{is_long, too_long}
-use Rattle.script_lines.specs.Texts.{at_fault, name_in, or_at_fault, text_before, texts_in, whole_in}
+use Rattle.script_lines.specs.Texts.{at_fault, or_at_fault, text_before, texts_in, whole_in}
 use Rattle.script_lines.specs.Words.{head_of, after_head, words_of}
-use Rattle.script_lines.specs.declared.redirection.Direction.TheVariants.{Input, Output}
+use Rattle.script_lines.specs.declared.redirection.Direction.TheVariants.{Input}
 use Rattle.script_lines.specs.declared.word.Word.{Word}
 use Rattle.script_reader.specs.Edits.{IsSpelledEdit, edit_word, needs_selection, said_of}
 use Rattle.script_reader.specs.Forms.{alone, name_within, output_in}

@@ -23,6 +23,7 @@ use Rattle.script_reader.specs.declared.edit.EditWord.TheVariants as word
 use Rattle.script_reader.specs.declared.number.TheConstants.{USUAL_SECONDS}
 use Rattle.script_reader.specs.declared.options.Asked.{Asked}
 use Rattle.script_reader.specs.declared.options.Reparenting.{Reparenting}
+use Rattle.script_reader.specs.declared.options.SquashOption.{SquashOption}
 use Rattle.script_reader.specs.declared.spelled.SaidOp.{SaidOp}
 use Rattle.script_reader.specs.declared.spelled.SaidOp.TheVariants.{Nothing}
 
@@ -73,11 +74,15 @@ needs_selection word.Simplify = false
 
 -- ---- the words after them
 
+-- the option of `squash` that a word is
+abbrev pub option_in : Word → Option SquashOption
+option_in word = option_and_then squash_option (whole_in word)
+
 -- what the options ask for that follow some
 abbrev pub asked_by : Asked → List Word → Result Asked Fault
 asked_by asked [] = Ok asked
 asked_by asked (word ∷ words) =
-    or_at_fault word (option_and_then (asked_more asked) (option_and_then squash_option (whole_in word))) >>= λ more. asked_by more words
+    or_at_fault word (option_and_then (asked_more asked) (option_in word)) >>= λ more. asked_by more words
 
 -- `squash [--pushforward | --pushback | --delete] [--tagforward | --tagback]`
 unfoldable pub squash_words : List Word → Result Edit Fault
