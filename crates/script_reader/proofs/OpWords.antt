@@ -1,5 +1,5 @@
 -- The words of an operation are read as the operation that they say.
-use Rattle.std.proofs.Common.{◌≡◌, ◌≢◌, ℕ, Bool, true, false, cond, List, [], ◌∷◌, ◌++◌, codes, Option, Some, None, Result, Ok, Err, refl, sym, ap, subst, ◌∙◌, append_assoc, append-nil, eqb-true}
+use Rattle.std.proofs.Common.{◌≡◌, ◌≢◌, ℕ, Bool, true, false, cond, List, [], ◌∷◌, ◌++◌, codes, decimal, Option, Some, None, Result, Ok, Err, refl, sym, ap, subst, ◌∙◌, append_assoc, append-nil, eqb-true}
 use Rattle.std.specs.Prelude.{◌==◌, option_and_then, option_map, bytes_eq}
 use Rattle.std.specs.Result.{result_ok}
 use Rattle.std.proofs.lemmas.Option.{cond_some}
@@ -19,11 +19,14 @@ use Rattle.plain_model.specs.Parts.{begins, mark_of}
 use Rattle.plain_model.specs.Paths.{Bytes, IsPath, path_fault}
 use Rattle.field_laws.proofs.FieldSteps.{bind_ok, or_defect_is}
 use Rattle.field_laws.proofs.FieldsAgain.{content_again}
+use Rattle.field_laws.proofs.Numerals.{mark_read}
+use Rattle.field_laws.proofs.Written.{mark_numeral}
+use Rattle.plain_model.specs.Text.{mode_text}
 use Rattle.script_lines.specs.Answering.{◌>>=◌}
 use Rattle.script_lines.specs.Texts.{or_at_fault, text_before, texts_in}
 use Rattle.script_lines.specs.declared.word.Word.{Word}
 use Rattle.script_reader.specs.Edits.{add_words, added, op_by}
-use Rattle.script_reader.specs.Spelled.{SaysOp, content_of, kind_of, mode_of, op_more, path_of, unless_inline, whole_op}
+use Rattle.script_reader.specs.Spelled.{IsSpelled, SaysOp, content_of, kind_of, mode_of, op_more, op_texts, path_of, unless_inline, whole_op}
 use Rattle.script_reader.specs.declared.edit.Edit.TheVariants as edit
 use Rattle.script_reader.specs.declared.spelled.SaidOp.{SaidOp}
 use Rattle.script_reader.specs.declared.spelled.SaidOp.TheVariants as said
@@ -334,3 +337,28 @@ add_says words op e = go (op_by said.Nothing words) refl e
 pub says_add : (words : List Word) (op : RawOp) → ((texts : List Bytes) × (texts_in words ≡ Ok texts) × SaysOp texts op) → add_words words ≡ Ok (edit.Add op)
 unfolding add_words
 says_add words op (texts, are, says) = rw (by_told said.Nothing words texts (said.Whole op) are (said_told texts op says)) refl
+
+-- ---- an operation as it is written
+
+mode_again : (mode : Mode) → mode_in (mode_text mode) ≡ Ok mode
+unfolding mode_in
+mode_again Plain = refl
+mode_again Executable = refl
+mode_again Link = refl
+mode_again Gitlink = refl
+
+pub texts_say : (op : RawOp) → IsSpelled op → SaysOp (op_texts op) op
+texts_say (raw.Modify mode (Marked mark) path) h =
+    (mode_text mode, decimal mark, refl, mode_again mode, mark_read (decimal mark) mark (mark_numeral mark h.fits.0) h.fits.0, other mode h.content, h.fits.1)
+  where
+    other : (mode : Mode) → HasItsContent (raw.Modify mode (Marked mark) path) → mode ≢ Gitlink
+    other Gitlink has is = has
+    other Plain has is = absurd cc
+    other Executable has is = absurd cc
+    other Link has is = absurd cc
+texts_say (raw.Modify mode (Object id) path) h = (mode_text mode, refl, mode_again mode, h.fits.0, h.fits.1)
+texts_say (raw.Modify mode Inline path) h = h.data_free
+texts_say (raw.Delete path) h = (refl, h.fits)
+texts_say (raw.Copy source target) h = (refl, h.fits.0, h.fits.1)
+texts_say (raw.Rename source target) h = (refl, h.fits.0, h.fits.1)
+texts_say raw.DeleteAll h = refl

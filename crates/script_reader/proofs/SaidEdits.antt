@@ -1,26 +1,36 @@
 -- What the words of each edit say.
-use Rattle.std.proofs.Common.{◌≡◌, ℕ, List, [], ◌∷◌, codes, Option, Some, None, Ok, refl}
+use Rattle.std.proofs.Common.{◌≡◌, ℕ, ◌≤◌, Bool, true, false, List, [], ◌∷◌, map, codes, Option, Some, None, Ok, refl, ap, ◌∙◌}
 use Rattle.std.specs.Prelude.{option_and_then}
 use Rattle.plain_model.specs.declared.raw.RawOp.{RawOp}
+use Rattle.plain_model.specs.Numbers.{decimal_of}
 use Rattle.plain_model.specs.Paths.{Bytes}
 use Rattle.plain_model.specs.Policies.{delete_how}
+use Rattle.plain_model.specs.declared.policy.Lean.{Lean}
+use Rattle.plain_model.specs.declared.policy.Lean.TheVariants as lean
+use Rattle.plain_model.specs.declared.policy.Push.{Push}
+use Rattle.plain_model.specs.declared.policy.Push.TheVariants as push
 use Rattle.script_lines.specs.Texts.{or_at_fault, text_before, whole_in}
 use Rattle.script_lines.specs.declared.word.Word.{Word}
 use Rattle.script_reader.specs.Cuts.{cut_of}
-use Rattle.script_reader.specs.Edits.{IsSpelledEdit, add_words, added, asked_by, coalesce_words, cut_form, edit_word, op_by, remove_words, removal_of, reparent_words, reparenting_by, said_of, split_words, squash_words, word_of}
+use Rattle.script_reader.specs.Edits.{CanBeSaid, IsSpelledEdit, add_words, added, asked_by, coalesce_words, cut_form, edit_texts, edit_word, op_by, own_word, remove_words, removal_of, reparent_words, reparenting_by, said_of, split_words, squash_words, word_of}
 use Rattle.script_reader.specs.Forms.{alone}
 use Rattle.script_reader.specs.Keywords.{plain_word_of}
 use Rattle.script_reader.specs.Numbers.{index_in, seconds_in}
-use Rattle.script_reader.specs.Options.{nothing_asked, policy_of, reparenting}
-use Rattle.script_reader.specs.Spelled.{IsSpelled, whole_op}
+use Rattle.script_reader.specs.Options.{IsSaidPolicy, how_texts, nothing_asked, policy_of, policy_texts, reparenting}
+use Rattle.script_reader.specs.Spelled.{IsSpelled, op_texts, whole_op}
+use Rattle.script_reader.specs.Written.{word_for}
 use Rattle.script_reader.specs.declared.cut.Cut.{Cut}
 use Rattle.script_reader.specs.declared.cut.Cut.TheVariants as cut
+use Rattle.script_reader.specs.declared.edit.Edit.{Edit}
 use Rattle.script_reader.specs.declared.edit.Edit.TheVariants as edit
 use Rattle.script_reader.specs.declared.edit.EditWord.{EditWord}
 use Rattle.script_reader.specs.declared.edit.EditWord.TheVariants as word
+use Rattle.script_reader.specs.declared.number.TheConstants.{MAX_COALESCE_SECONDS, MAX_INDEX}
 use Rattle.script_reader.specs.declared.spelled.SaidOp.TheVariants.{Nothing}
 use Rattle.script_reader.proofs.Answered.{IfAnswered, bound, lone}
+use Rattle.script_reader.proofs.OpWords.{says_add, texts_say}
 use Rattle.script_reader.proofs.SpelledFits.{spelled_fits}
+use Rattle.script_reader.proofs.WrittenTexts.{index_again, name_again, seconds_again, texts_again, whole_again}
 
 -- ---- command words
 
@@ -120,3 +130,56 @@ said_fits word.Simplify words = lone IsSpelledEdit edit.Simplify words tt
 pub delete_again : (it : Word) → whole_in it ≡ Some (codes "--delete") → said_of word.Squash (it ∷ []) ≡ said_of word.Delete []
 unfolding squash_words
 delete_again it h = rw h refl
+
+squash_again : (push : Push) (tags : Lean) → IsSaidPolicy (record { push = push; tags = tags }) → squash_words (map word_for (policy_texts (record { push = push; tags = tags })))
+    ≡ Ok (edit.Squash (record { push = push; tags = tags }))
+unfolding squash_words
+squash_again push.Forward lean.Forward h = refl
+squash_again push.Forward lean.Back h = refl
+squash_again push.Back lean.Forward h = refl
+squash_again push.Back lean.Back h = refl
+squash_again push.Discard lean.Forward h = refl
+squash_again push.Discard lean.Back h = let other : lean.Back ≡ lean.Forward = h refl in absurd cc
+
+reparent_again : (use_order rebase : Bool) → reparent_words (map word_for (how_texts (record { use_order = use_order; rebase = rebase })))
+    ≡ Ok (edit.Reparent (record { use_order = use_order; rebase = rebase }))
+unfolding reparent_words
+reparent_again true true = refl
+reparent_again true false = refl
+reparent_again false true = refl
+reparent_again false false = refl
+
+split_at_again : (number : ℕ) → number ≤ MAX_INDEX → split_words (map word_for (codes "at" ∷ decimal_of number ∷ [])) ≡ Ok (edit.SplitAt number)
+unfolding split_words
+split_at_again number h = rw (whole_again (decimal_of number), index_again number h) refl
+
+split_by_again : (text : Bytes) → split_words (map word_for (codes "by" ∷ text ∷ [])) ≡ Ok (edit.SplitBy text)
+unfolding split_words
+split_by_again text = rw (name_again text) refl
+
+remove_again : (text : Bytes) → remove_words (map word_for (text ∷ [])) ≡ Ok (removal_of text)
+unfolding remove_words
+remove_again text = rw (name_again text) refl
+
+coalesce_again : (seconds : ℕ) → seconds ≤ MAX_COALESCE_SECONDS → coalesce_words (map word_for (decimal_of seconds ∷ [])) ≡ Ok (edit.Coalesce seconds)
+unfolding coalesce_words
+coalesce_again seconds h = rw (whole_again (decimal_of seconds), seconds_again seconds h) refl
+
+-- what removes an operation, by what its text says
+removed : (text : Bytes) (number : Option ℕ) → index_in text ≡ number → removal_of text ≡ elim number [ Some n ↦ edit.RemoveAt n | None ↦ edit.RemoveBy text ]
+removed text number is = ap (λ (number : Option ℕ). elim number [ Some n ↦ edit.RemoveAt n | None ↦ edit.RemoveBy text ]) is
+
+-- an edit is read as it is written
+pub edit_again : (what : Edit) → CanBeSaid what → said_of (own_word what) (map word_for (edit_texts what)) ≡ Ok what
+edit_again (edit.Squash how) h = squash_again how.push how.tags h
+edit_again (edit.SplitAt number) h = split_at_again number h
+edit_again (edit.SplitBy text) h = split_by_again text
+edit_again edit.Reorder h = refl
+edit_again (edit.Reparent how) h = reparent_again how.use_order how.rebase
+edit_again edit.Merge h = refl
+edit_again edit.Unmerge h = refl
+edit_again (edit.Add op) h = says_add (map word_for (op_texts op)) op (op_texts op, texts_again (op_texts op), texts_say op h)
+edit_again (edit.RemoveAt number) h = remove_again (decimal_of number) ∙ ap (λ (it : Edit). Ok it) (removed (decimal_of number) (Some number) (index_again number h))
+edit_again (edit.RemoveBy text) h = remove_again text ∙ ap (λ (it : Edit). Ok it) (removed text None h)
+edit_again (edit.Coalesce seconds) h = coalesce_again seconds h
+edit_again edit.Simplify h = refl

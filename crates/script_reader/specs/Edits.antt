@@ -1,6 +1,7 @@
 -- Edits of the chosen history: the command word of each, whether a selection has to be before it, and what the words after it say. (reposurgeon
 -- manual, of each command word its section; what is at fault: own)
-use Rattle.std.specs.Prelude.{Bool, true, false, List, [], ◌∷◌, Option, Some, None, option_and_then, Result, Ok, Err, bytes_eq, codes, if◌then◌else◌}
+use Rattle.std.specs.Prelude.{◌≡◌, ◌≤◌, Bool, true, false, List, [], ◌∷◌, Option, Some, None, option_and_then, Result, Ok, Err, bytes_eq, codes, if◌then◌else◌}
+use Rattle.plain_model.specs.Numbers.{decimal_of}
 use Rattle.plain_model.specs.Paths.{Bytes}
 use Rattle.plain_model.specs.Policies.{delete_how}
 use Rattle.plain_model.specs.declared.fault.Fault.{Fault}
@@ -12,15 +13,15 @@ use Rattle.script_lines.specs.declared.word.Word.{Word}
 use Rattle.script_reader.specs.Cuts.{cut_of}
 use Rattle.script_reader.specs.Forms.{alone}
 use Rattle.script_reader.specs.Numbers.{index_in, seconds_in}
-use Rattle.script_reader.specs.Options.{asked_more, nothing_asked, policy_of, reparenting, reparenting_more, squash_option}
-use Rattle.script_reader.specs.Spelled.{IsSpelled, op_more, whole_op}
+use Rattle.script_reader.specs.Options.{IsSaidPolicy, asked_more, how_texts, nothing_asked, policy_of, policy_texts, reparenting, reparenting_more, squash_option}
+use Rattle.script_reader.specs.Spelled.{IsSpelled, op_more, op_texts, whole_op}
 use Rattle.script_reader.specs.declared.cut.Cut.{Cut}
 use Rattle.script_reader.specs.declared.cut.Cut.TheVariants as cut
 use Rattle.script_reader.specs.declared.edit.Edit.{Edit}
 use Rattle.script_reader.specs.declared.edit.Edit.TheVariants as edit
 use Rattle.script_reader.specs.declared.edit.EditWord.{EditWord}
 use Rattle.script_reader.specs.declared.edit.EditWord.TheVariants as word
-use Rattle.script_reader.specs.declared.number.TheConstants.{USUAL_SECONDS}
+use Rattle.script_reader.specs.declared.number.TheConstants.{MAX_COALESCE_SECONDS, MAX_INDEX, USUAL_SECONDS}
 use Rattle.script_reader.specs.declared.options.Asked.{Asked}
 use Rattle.script_reader.specs.declared.options.Reparenting.{Reparenting}
 use Rattle.script_reader.specs.declared.options.SquashOption.{SquashOption}
@@ -167,3 +168,50 @@ IsSpelledEdit (edit.RemoveAt number) = Unit {0}
 IsSpelledEdit (edit.RemoveBy text) = Unit {0}
 IsSpelledEdit (edit.Coalesce seconds) = Unit {0}
 IsSpelledEdit edit.Simplify = Unit {0}
+
+-- ---- edits as they are written
+
+-- the command word of an edit
+abbrev pub own_word : Edit → EditWord
+own_word (edit.Squash how) = word.Squash
+own_word (edit.SplitAt number) = word.Split
+own_word (edit.SplitBy text) = word.Split
+own_word edit.Reorder = word.Reorder
+own_word (edit.Reparent how) = word.Reparent
+own_word edit.Merge = word.Merge
+own_word edit.Unmerge = word.Unmerge
+own_word (edit.Add op) = word.Add
+own_word (edit.RemoveAt number) = word.Remove
+own_word (edit.RemoveBy text) = word.Remove
+own_word (edit.Coalesce seconds) = word.Coalesce
+own_word edit.Simplify = word.Simplify
+
+-- the texts after it
+abbrev pub edit_texts : Edit → List Bytes
+edit_texts (edit.Squash how) = policy_texts how
+edit_texts (edit.SplitAt number) = codes "at" ∷ decimal_of number ∷ []
+edit_texts (edit.SplitBy text) = codes "by" ∷ text ∷ []
+edit_texts edit.Reorder = []
+edit_texts (edit.Reparent how) = how_texts how
+edit_texts edit.Merge = []
+edit_texts edit.Unmerge = []
+edit_texts (edit.Add op) = op_texts op
+edit_texts (edit.RemoveAt number) = decimal_of number ∷ []
+edit_texts (edit.RemoveBy text) = text ∷ []
+edit_texts (edit.Coalesce seconds) = decimal_of seconds ∷ []
+edit_texts edit.Simplify = []
+
+-- texts can say it: numbers are within bounds, and what is removed by its path isn't a number
+abbrev pub CanBeSaid : Edit → Type 0
+CanBeSaid (edit.Squash how) = IsSaidPolicy how
+CanBeSaid (edit.SplitAt number) = number ≤ MAX_INDEX
+CanBeSaid (edit.SplitBy text) = Unit {0}
+CanBeSaid edit.Reorder = Unit {0}
+CanBeSaid (edit.Reparent how) = Unit {0}
+CanBeSaid edit.Merge = Unit {0}
+CanBeSaid edit.Unmerge = Unit {0}
+CanBeSaid (edit.Add op) = IsSpelled op
+CanBeSaid (edit.RemoveAt number) = number ≤ MAX_INDEX
+CanBeSaid (edit.RemoveBy text) = index_in text ≡ None
+CanBeSaid (edit.Coalesce seconds) = seconds ≤ MAX_COALESCE_SECONDS
+CanBeSaid edit.Simplify = Unit {0}
