@@ -30,6 +30,7 @@ use Rattle.script_reader.specs.declared.spelled.SaidOp.TheVariants.{Nothing}
 use Rattle.script_reader.proofs.Answered.{IfAnswered, bound, lone}
 use Rattle.script_reader.proofs.OpWords.{says_add, texts_say}
 use Rattle.script_reader.proofs.SpelledFits.{spelled_fits}
+use Rattle.script_reader.proofs.WrittenLines.{IsWordText}
 use Rattle.script_reader.proofs.WrittenTexts.{index_again, name_again, seconds_again, texts_again, whole_again}
 
 -- ---- command words
@@ -63,6 +64,20 @@ no_plain_word word.Add = refl
 no_plain_word word.Remove = refl
 no_plain_word word.Coalesce = refl
 no_plain_word word.Simplify = refl
+
+-- each begins with a letter and has no blank
+pub edit_word_text : (it : EditWord) → IsWordText (edit_word it)
+edit_word_text word.Squash = refl
+edit_word_text word.Delete = refl
+edit_word_text word.Split = refl
+edit_word_text word.Reorder = refl
+edit_word_text word.Reparent = refl
+edit_word_text word.Merge = refl
+edit_word_text word.Unmerge = refl
+edit_word_text word.Add = refl
+edit_word_text word.Remove = refl
+edit_word_text word.Coalesce = refl
+edit_word_text word.Simplify = refl
 
 -- ---- what is spelled
 

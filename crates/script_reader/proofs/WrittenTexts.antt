@@ -1,19 +1,19 @@
 -- Texts that are written as words, and numbers as texts.
-use Rattle.std.proofs.Common.{◌≡◌, ℕ, ◌≤◌, ◌<◌, ◌^◌, Bool, true, false, cond, not, List, [], ◌∷◌, length, map, Some, None, Ok, refl, ap, sym, subst, ◌∙◌, arith, le-leb}
-use Rattle.std.specs.Prelude.{◌&&◌, nat_le}
-use Rattle.std.proofs.lemmas.Bool.{and_parts, cond-true, not-true}
+use Rattle.std.proofs.Common.{◌≡◌, ℕ, ◌≤◌, ◌<◌, ◌^◌, ◌+◌, ◌/◌, ◌%◌, Bool, true, false, cond, not, List, [], ◌∷◌, ◌++◌, length, map, Some, None, Ok, refl, ap, sym, subst, ◌∙◌, arith, le-leb, ne_eqb}
+use Rattle.std.specs.Prelude.{◌==◌, ◌&&◌, nat_le}
+use Rattle.std.proofs.lemmas.Bool.{and_parts, cond-false, cond-true, not-true}
 use Rattle.std.proofs.lemmas.Fmt.{length-decimal-le_wide}
 use Rattle.plain_model.specs.Numbers.{decimal_of}
 use Rattle.plain_model.specs.Parts.{number_within}
 use Rattle.plain_model.specs.Paths.{Bytes}
-use Rattle.field_laws.proofs.Decimals.{decimal_of_is, numeral_of}
+use Rattle.field_laws.proofs.Decimals.{decimal_of_by_steps, decimal_of_is, numeral_of}
 use Rattle.field_laws.proofs.Numerals.{within_read}
 use Rattle.script_lines.specs.Redirections.{begins_with_sign}
 use Rattle.script_lines.specs.Texts.{name_in, text_before, texts_in, whole_in}
 use Rattle.script_lines.specs.Written.{is_whole}
 use Rattle.script_lines.specs.declared.word.Word.{Word}
 use Rattle.script_lines.specs.declared.word.Word.TheVariants.{Plain, Quoted}
-use Rattle.script_reader.specs.Numbers.{index_in, seconds_in}
+use Rattle.script_reader.specs.Numbers.{at_least, index_in, leads_with_zero, number_between, seconds_in}
 use Rattle.script_reader.specs.Written.{word_for}
 use Rattle.script_reader.specs.declared.number.TheConstants.{MAX_COALESCE_SECONDS, MAX_INDEX, MAX_INDEX_DIGITS, MAX_SECOND_DIGITS}
 
@@ -57,3 +57,36 @@ seconds_again n h =
     cond-true (nat_le (length (decimal_of n)) MAX_SECOND_DIGITS) (number_within MAX_COALESCE_SECONDS (decimal_of n)) None
     (le-leb (length (decimal_of n)) MAX_SECOND_DIGITS (few_digits 9 n (omega arith) (omega (arith, h)) (omega (arith, h))))
     ∙ within_read MAX_COALESCE_SECONDS (decimal_of n) n (numeral_of n) h
+
+-- digits of a number, of which the first is no zero where there are more
+record AreOwn (n : ℕ) (digits : Bytes) : Type 0 where
+  first : ℕ
+  rest : Bytes
+  are : digits ≡ first ∷ rest
+  some : 1 ≤ n → (first == 48) ≡ false
+  plain : leads_with_zero digits ≡ false
+
+own_digits : (n : ℕ) → AreOwn n (decimal_of n)
+own_digits = decimal_of_by_steps AreOwn one more
+  where
+    one : (n : ℕ) → n < 10 → AreOwn n ((48 + n) ∷ [])
+    one n h = record { first = 48 + n; rest = []; are = refl; some = (λ h. ne_eqb (48 + n) 48 (λ e. absurd (omega (arith, h, e)))); plain = refl }
+
+    still : (first last : ℕ) (rest : Bytes) → (first == 48) ≡ false → leads_with_zero (first ∷ (rest ++ last ∷ [])) ≡ false
+    still first last [] h = h
+    still first last (b ∷ rest) h = h
+
+    more : (n : ℕ) (ds : Bytes) → 10 ≤ n → AreOwn (n / 10) ds → AreOwn n (ds ++ (48 + n % 10) ∷ [])
+    more n ds h own =
+        let first_one = own.some (omega (arith, h)) in record {
+          first = own.first;
+          rest = own.rest ++ (48 + n % 10) ∷ [];
+          are = ap (λ (ds : Bytes). ds ++ (48 + n % 10) ∷ []) own.are;
+          some = (λ some. first_one);
+          plain = ap (λ (ds : Bytes). leads_with_zero (ds ++ (48 + n % 10) ∷ [])) own.are ∙ still own.first (48 + n % 10) own.rest first_one;
+        }
+
+pub number_again : (least most n : ℕ) → least ≤ n → n ≤ most → number_between least most (decimal_of n) ≡ Some n
+number_again least most n low high =
+    cond-false (leads_with_zero (decimal_of n)) None (at_least least (number_within most (decimal_of n))) (own_digits n).plain
+    ∙ ap (at_least least) (within_read most (decimal_of n) n (numeral_of n) high) ∙ cond-true (nat_le least n) (Some n) None (le-leb least n low)
