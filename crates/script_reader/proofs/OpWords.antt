@@ -340,7 +340,7 @@ says_add words op (texts, are, says) = rw (by_told said.Nothing words texts (sai
 
 -- ---- an operation as it is written
 
-mode_again : (mode : Mode) → mode_in (mode_text mode) ≡ Ok mode
+pub mode_again : (mode : Mode) → mode_in (mode_text mode) ≡ Ok mode
 unfolding mode_in
 mode_again Plain = refl
 mode_again Executable = refl
