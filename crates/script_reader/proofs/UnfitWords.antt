@@ -115,7 +115,7 @@ no_more texts now text e none (more, op, says) =
 
 -- ---- the first word that doesn't fit
 
-whole_too : (words : List Word) (word : Word) (text : Bytes) → text_before words word ≡ Some text → whole_in word ≡ Some text
+pub whole_too : (words : List Word) (word : Word) (text : Bytes) → text_before words word ≡ Some text → whole_in word ≡ Some text
 whole_too (next ∷ words) word text h = h
 whole_too [] (written.Plain own) text h = go (begins_with_sign own) h
   where
