@@ -48,17 +48,20 @@ told_by before (word ∷ words) last e = go (λ more e. told_by more words last 
     Later = (more : SaidOp) → op_by more words ≡ Ok last → (texts : List Bytes) × (texts_in words ≡ Ok texts) × (told more texts ≡ Some last)
 
     next : Later → (text : Bytes) → text_before words word ≡ Some text → (more : Option SaidOp) → op_more before text ≡ more
-        → ((or_at_fault word more) >>= (λ more. op_by more words)) ≡ Ok last → (texts : List Bytes) × (texts_in (word ∷ words) ≡ Ok texts) × (told before texts ≡ Some last)
+        → ((or_at_fault word more) >>= (λ more. op_by more words)) ≡ Ok last
+        → (texts : List Bytes) × (texts_in (word ∷ words) ≡ Ok texts) × (told before texts ≡ Some last)
     next later text is (Some more) said e = let rest = later more e in (text ∷ rest.0, rw (is, rest.1) refl, rw said rest.2)
     next later text is None said e = absurd cc
 
-    go : Later → (text : Option Bytes) → text_before words word ≡ text → ((or_at_fault word (option_and_then (op_more before) text)) >>= (λ more. op_by more words)) ≡ Ok last
+    go : Later → (text : Option Bytes) → text_before words word ≡ text
+        → ((or_at_fault word (option_and_then (op_more before) text)) >>= (λ more. op_by more words)) ≡ Ok last
         → (texts : List Bytes) × (texts_in (word ∷ words) ≡ Ok texts) × (told before texts ≡ Some last)
     go later (Some text) is e = next later text is (op_more before text) refl e
     go later None is e = absurd cc
 
 -- and the other way round
-pub by_told : (before : SaidOp) (words : List Word) (texts : List Bytes) (last : SaidOp) → texts_in words ≡ Ok texts → told before texts ≡ Some last → op_by before words ≡ Ok last
+pub by_told : (before : SaidOp) (words : List Word) (texts : List Bytes) (last : SaidOp) → texts_in words ≡ Ok texts → told before texts ≡ Some last
+    → op_by before words ≡ Ok last
 by_told before [] texts last h e = let none : [] ≡ texts = cc in let same : Some before ≡ Some last = subst (λ ts. told before ts ≡ Some last) (sym none) e in cc
 by_told before (word ∷ words) texts last h e = go (λ now more rest e. by_told now words more last rest e) (text_before words word) refl h
   where
@@ -68,7 +71,8 @@ by_told before (word ∷ words) texts last h e = go (λ now more rest e. by_told
     Later : Type 0
     Later = (now : SaidOp) (more : List Bytes) → texts_in words ≡ Ok more → told now more ≡ Some last → op_by now words ≡ Ok last
 
-    step : Later → (text : Bytes) → text_before words word ≡ Some text → (more : List Bytes) → texts_in words ≡ Ok more → (now : Option SaidOp) → op_more before text ≡ now
+    step : Later → (text : Bytes) → text_before words word ≡ Some text → (more : List Bytes) → texts_in words ≡ Ok more → (now : Option SaidOp)
+        → op_more before text ≡ now
         → option_and_then (λ it. told it more) now ≡ Some last → Goal
     step later text is more rest (Some now) said e = rw (is, said) (later now more rest e)
     step later text is more rest None said e = absurd cc
@@ -97,7 +101,8 @@ unfolding mark_in
 mark_said [] mark e = absurd cc
 mark_said (c ∷ digits) mark e = go (c == 58) refl e
   where
-    go : (t : Bool) → (c == 58) ≡ t → cond t (or_defect BadMark (mark_of digits)) (Err BadMark) ≡ Ok mark → (ds : Bytes) × (c ∷ digits ≡ 58 ∷ ds) × (mark_of ds ≡ Some mark)
+    go : (t : Bool) → (c == 58) ≡ t → cond t (or_defect BadMark (mark_of digits)) (Err BadMark) ≡ Ok mark
+        → (ds : Bytes) × (c ∷ digits ≡ 58 ∷ ds) × (mark_of ds ≡ Some mark)
     go true is e = (digits, ap (λ d. d ∷ digits) (eqb-true c 58 is), or_defect_is BadMark (mark_of digits) mark e)
     go false is e = absurd cc
 
@@ -185,7 +190,8 @@ SaidBy (said.RenameOf source) texts = (texts ≡ codes "R" ∷ source ∷ []) ×
 SaidBy (said.Whole op) texts = SaysOp texts op
 
 -- what is made of a value that a text says
-made : {A : Type 0} (texts : List Bytes) (f : A → SaidOp) (o : Option A) (more : SaidOp) → option_map f o ≡ Some more → ((x : A) → o ≡ Some x → SaidBy (f x) texts) → SaidBy more texts
+made : {A : Type 0} (texts : List Bytes) (f : A → SaidOp) (o : Option A) (more : SaidOp) → option_map f o ≡ Some more
+    → ((x : A) → o ≡ Some x → SaidBy (f x) texts) → SaidBy more texts
 made texts f (Some x) more e h = let is : f x ≡ more = cc in subst (λ s. SaidBy s texts) is (h x refl)
 made texts f None more e h = absurd cc
 
@@ -195,7 +201,8 @@ one_more texts front text is = ap (λ (ts : List Bytes). ts ++ text ∷ []) is
 path_said : (text path : Bytes) → path_of text ≡ Some path → (text ≡ path) × IsPath path
 path_said text path e = go (path_fault text) refl e
   where
-    go : (fault : Option _) → path_fault text ≡ fault → ◌≡◌ {A = Option Bytes} (elim fault [ None ↦ Some text | Some why ↦ None ]) (Some path) → (text ≡ path) × IsPath path
+    go : (fault : Option _) → path_fault text ≡ fault → ◌≡◌ {A = Option Bytes} (elim fault [ None ↦ Some text | Some why ↦ None ]) (Some path)
+        → (text ≡ path) × IsPath path
     go None is e = let same : text ≡ path = cc in (same, subst IsPath same is)
     go (Some why) is e = absurd cc
 
@@ -238,7 +245,8 @@ put_said mode (Object id) texts text path (m, c, is, named, (from, fine)) same f
     (m, one_more texts _ text is ∙ (λ i. codes "M" ∷ m ∷ from i ∷ same i ∷ []), named, fine, fits)
 put_said mode Inline texts text path (m, c, is, named, none) same fits = absurd none
 
-more_said : (before : SaidOp) (texts : List Bytes) (text : Bytes) (more : SaidOp) → SaidBy before texts → op_more before text ≡ Some more → SaidBy more (texts ++ text ∷ [])
+more_said : (before : SaidOp) (texts : List Bytes) (text : Bytes) (more : SaidOp) → SaidBy before texts → op_more before text ≡ Some more
+    → SaidBy more (texts ++ text ∷ [])
 more_said said.Nothing texts text more h e = subst (λ ts. SaidBy more (ts ++ text ∷ [])) (sym h) (kind_said text more e)
 more_said said.Modify texts text more h e =
     made (texts ++ text ∷ []) said.ModifyAs (mode_of text) more e (λ mode is. (text, one_more texts _ text h, mode_said text mode is))
@@ -289,23 +297,28 @@ path_told path fits = ap (λ why. elim why [ None ↦ Some path | Some it ↦ No
 put_told : (mode : Mode) (content : RawContent) (text path : Bytes) → content_of mode text ≡ Some content → IsPath path
     → told (said.ModifyAs mode) (text ∷ path ∷ []) ≡ Some (said.Whole (raw.Modify mode content path))
 put_told mode content text path is fits = told_next (said.ModifyAs mode) (said.ModifyTo mode content) text (path ∷ []) (ap (option_map (said.ModifyTo mode)) is)
-    ∙ told_next (said.ModifyTo mode content) (said.Whole (raw.Modify mode content path)) path [] (ap (option_map (λ path. said.Whole (raw.Modify mode content path))) (path_told path fits))
+    ∙ told_next (said.ModifyTo mode content) (said.Whole (raw.Modify mode content path)) path []
+    (ap (option_map (λ path. said.Whole (raw.Modify mode content path))) (path_told path fits))
 
 -- texts that say an operation are told as it
 pub said_told : (texts : List Bytes) (op : RawOp) → SaysOp texts op → told said.Nothing texts ≡ Some (said.Whole op)
 said_told texts (raw.Modify mode (Marked mark) path) (m, digits, is, named, marks, other, fits) =
-    ap (told said.Nothing) is ∙ mode_told m mode ((58 ∷ digits) ∷ path ∷ []) named ∙ put_told mode (Marked mark) (58 ∷ digits) path (said_marked mode digits mark marks other) fits
+    ap (told said.Nothing) is ∙ mode_told m mode ((58 ∷ digits) ∷ path ∷ []) named
+    ∙ put_told mode (Marked mark) (58 ∷ digits) path (said_marked mode digits mark marks other) fits
 said_told texts (raw.Modify mode (Object id) path) (m, is, named, fine, fits) =
     ap (told said.Nothing) is ∙ mode_told m mode (id ∷ path ∷ []) named ∙ put_told mode (Object id) id path (said_object mode id fine) fits
 said_told texts (raw.Modify mode Inline path) none = absurd none
 said_told texts (raw.Delete path) (is, fits) =
-    ap (told said.Nothing) is ∙ told_next said.Delete (said.Whole (raw.Delete path)) path [] (ap (option_map (λ path. said.Whole (raw.Delete path))) (path_told path fits))
+    ap (told said.Nothing) is ∙ told_next said.Delete (said.Whole (raw.Delete path)) path []
+    (ap (option_map (λ path. said.Whole (raw.Delete path))) (path_told path fits))
 said_told texts (raw.Copy source target) (is, from, to) =
     ap (told said.Nothing) is ∙ told_next said.Copy (said.CopyOf source) source (target ∷ []) (ap (option_map said.CopyOf) (path_told source from))
-    ∙ told_next (said.CopyOf source) (said.Whole (raw.Copy source target)) target [] (ap (option_map (λ target. said.Whole (raw.Copy source target))) (path_told target to))
+    ∙ told_next (said.CopyOf source) (said.Whole (raw.Copy source target)) target []
+    (ap (option_map (λ target. said.Whole (raw.Copy source target))) (path_told target to))
 said_told texts (raw.Rename source target) (is, from, to) =
     ap (told said.Nothing) is ∙ told_next said.Rename (said.RenameOf source) source (target ∷ []) (ap (option_map said.RenameOf) (path_told source from))
-    ∙ told_next (said.RenameOf source) (said.Whole (raw.Rename source target)) target [] (ap (option_map (λ target. said.Whole (raw.Rename source target))) (path_told target to))
+    ∙ told_next (said.RenameOf source) (said.Whole (raw.Rename source target)) target []
+    (ap (option_map (λ target. said.Whole (raw.Rename source target))) (path_told target to))
 said_told texts raw.DeleteAll is = ap (told said.Nothing) is
 
 -- ---- the words after `add`
@@ -327,7 +340,8 @@ pub add_says : (words : List Word) (op : RawOp) → add_words words ≡ Ok (edit
 unfolding add_words
 add_says words op e = go (op_by said.Nothing words) refl e
   where
-    go : (r : Result SaidOp Fault) → op_by said.Nothing words ≡ r → (r >>= λ last. added (whole_op last)) ≡ Ok (edit.Add op) → (texts : List Bytes) × (texts_in words ≡ Ok texts) × SaysOp texts op
+    go : (r : Result SaidOp Fault) → op_by said.Nothing words ≡ r → (r >>= λ last. added (whole_op last)) ≡ Ok (edit.Add op)
+        → (texts : List Bytes) × (texts_in words ≡ Ok texts) × SaysOp texts op
     go (Ok last) is e =
         let whole = whole_is last op e in
         let by = told_by said.Nothing words (said.Whole op) (is ∙ ap (λ s. Ok s) whole) in

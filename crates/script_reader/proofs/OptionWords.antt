@@ -36,29 +36,39 @@ record Reads (before : Asked) (option : SquashOption) (more : Asked) : Type 0 wh
   tags : listed before.tags ++ leans_in (option ∷ []) ≡ listed more.tags
   apart : Apart more
 
+abbrev asking : Option Push → Option Lean → Asked
+asking push tags = record { push = push; tags = tags }
+
+is_read : (before : Asked) (option : SquashOption) (now more : Asked) → Reads before option now → ◌≡◌ {A = Option Asked} (Some now) (Some more)
+    → Reads before option more
+is_read before option now more h e = let is : now ≡ more = cc in subst (Reads before option) is h
+
 one_read : (before : Asked) (option : SquashOption) (more : Asked) → asked_more before option ≡ Some more → Reads before option more
 one_read before (Pushes to) more e = go before.push before.tags to e
   where
-    go : (p : Option Push) (t : Option Lean) (to : Push)
-        → cond (is_some p || (discards (Some to) && is_some t)) None (Some (record { push = Some to; tags = t })) ≡ Some more
-        → Reads (record { push = p; tags = t }) (Pushes to) more
+    reads : (t : Option Lean) (to : Push) → Apart (asking (Some to) t) → ◌≡◌ {A = Option Asked} (Some (asking (Some to) t)) (Some more)
+        → Reads (asking None t) (Pushes to) more
+    reads t to apart e = is_read (asking None t) (Pushes to) (asking (Some to) t) more (record { push = refl; tags = append-nil (listed t); apart = apart }) e
+
+    go : (p : Option Push) (t : Option Lean) (to : Push) → asked_more (asking p t) (Pushes to) ≡ Some more → Reads (asking p t) (Pushes to) more
     go (Some p) t to e = absurd cc
     go None (Some t) push.Discard e = absurd cc
-    go None (Some t) push.Forward e = let is : record { push = Some push.Forward; tags = Some t } ≡ more = cc in subst (Reads (record { push = None; tags = Some t }) (Pushes push.Forward)) is (record { push = refl; tags = refl; apart = refl })
-    go None (Some t) push.Back e = let is : record { push = Some push.Back; tags = Some t } ≡ more = cc in subst (Reads (record { push = None; tags = Some t }) (Pushes push.Back)) is (record { push = refl; tags = refl; apart = refl })
-    go None None push.Discard e = let is : record { push = Some push.Discard; tags = None } ≡ more = cc in subst (Reads (record { push = None; tags = None }) (Pushes push.Discard)) is (record { push = refl; tags = refl; apart = refl })
-    go None None push.Forward e = let is : record { push = Some push.Forward; tags = None } ≡ more = cc in subst (Reads (record { push = None; tags = None }) (Pushes push.Forward)) is (record { push = refl; tags = refl; apart = refl })
-    go None None push.Back e = let is : record { push = Some push.Back; tags = None } ≡ more = cc in subst (Reads (record { push = None; tags = None }) (Pushes push.Back)) is (record { push = refl; tags = refl; apart = refl })
+    go None (Some t) push.Forward e = reads (Some t) push.Forward refl e
+    go None (Some t) push.Back e = reads (Some t) push.Back refl e
+    go None None push.Discard e = reads None push.Discard refl e
+    go None None push.Forward e = reads None push.Forward refl e
+    go None None push.Back e = reads None push.Back refl e
 one_read before (Leans to) more e = go before.push before.tags e
   where
-    go : (p : Option Push) (t : Option Lean)
-        → cond (is_some t || discards p) None (Some (record { push = p; tags = Some to })) ≡ Some more
-        → Reads (record { push = p; tags = t }) (Leans to) more
+    reads : (p : Option Push) → Apart (asking p (Some to)) → ◌≡◌ {A = Option Asked} (Some (asking p (Some to))) (Some more) → Reads (asking p None) (Leans to) more
+    reads p apart e = is_read (asking p None) (Leans to) (asking p (Some to)) more (record { push = append-nil (listed p); tags = refl; apart = apart }) e
+
+    go : (p : Option Push) (t : Option Lean) → asked_more (asking p t) (Leans to) ≡ Some more → Reads (asking p t) (Leans to) more
     go p (Some t) e = absurd cc
-    go None None e = let is : record { push = None; tags = Some to } ≡ more = cc in subst (Reads (record { push = None; tags = None }) (Leans to)) is (record { push = refl; tags = refl; apart = refl })
+    go None None e = reads None refl e
     go (Some push.Discard) None e = absurd cc
-    go (Some push.Forward) None e = let is : record { push = Some push.Forward; tags = Some to } ≡ more = cc in subst (Reads (record { push = Some push.Forward; tags = None }) (Leans to)) is (record { push = refl; tags = refl; apart = refl })
-    go (Some push.Back) None e = let is : record { push = Some push.Back; tags = Some to } ≡ more = cc in subst (Reads (record { push = Some push.Back; tags = None }) (Leans to)) is (record { push = refl; tags = refl; apart = refl })
+    go (Some push.Forward) None e = reads (Some push.Forward) refl e
+    go (Some push.Back) None e = reads (Some push.Back) refl e
 
 more_pushes : (option : SquashOption) (options : List SquashOption) → pushes_in (option ∷ options) ≡ pushes_in (option ∷ []) ++ pushes_in options
 more_pushes (Pushes to) options = refl
@@ -76,7 +86,8 @@ asked_follow before [] asked apart e =
 asked_follow before (word ∷ words) asked apart e = go (λ more apart e. asked_follow more words asked apart e) (option_in word) refl e
   where
     Later : Type 0
-    Later = (more : Asked) → Apart more → asked_by more words ≡ Ok asked → (options : List SquashOption) × (map option_in words ≡ map Some options) × Follow more options asked
+    Later = (more : Asked) → Apart more → asked_by more words ≡ Ok asked → (options : List SquashOption) × (map option_in words
+        ≡ map Some options) × Follow more options asked
 
     next : Later → (option : SquashOption) → option_in word ≡ Some option → (more : Option Asked) → asked_more before option ≡ more
         → ((or_at_fault word more) >>= (λ more. asked_by more words)) ≡ Ok asked
@@ -87,16 +98,19 @@ asked_follow before (word ∷ words) asked apart e = go (λ more apart e. asked_
           option ∷ rest.0,
           (λ i. is i ∷ rest.1 i),
           record {
-            push = ap (λ (l : List Push). listed before.push ++ l) (more_pushes option rest.0) ∙ sym (append_assoc (listed before.push) (pushes_in (option ∷ [])) (pushes_in rest.0))
+            push = ap (λ (l : List Push). listed before.push ++ l) (more_pushes option rest.0)
+                ∙ sym (append_assoc (listed before.push) (pushes_in (option ∷ [])) (pushes_in rest.0))
                 ∙ ap (λ (l : List Push). l ++ pushes_in rest.0) one.push ∙ rest.2.push;
-            tags = ap (λ (l : List Lean). listed before.tags ++ l) (more_leans option rest.0) ∙ sym (append_assoc (listed before.tags) (leans_in (option ∷ [])) (leans_in rest.0))
+            tags = ap (λ (l : List Lean). listed before.tags ++ l) (more_leans option rest.0)
+                ∙ sym (append_assoc (listed before.tags) (leans_in (option ∷ [])) (leans_in rest.0))
                 ∙ ap (λ (l : List Lean). l ++ leans_in rest.0) one.tags ∙ rest.2.tags;
             apart = rest.2.apart;
           },
         )
     next later option is None read e = absurd cc
 
-    go : Later → (option : Option SquashOption) → option_in word ≡ option → ((or_at_fault word (option_and_then (asked_more before) option)) >>= (λ more. asked_by more words)) ≡ Ok asked
+    go : Later → (option : Option SquashOption) → option_in word ≡ option
+        → ((or_at_fault word (option_and_then (asked_more before) option)) >>= (λ more. asked_by more words)) ≡ Ok asked
         → (options : List SquashOption) × (option_in word ∷ map option_in words ≡ map Some options) × Follow before options asked
     go later (Some option) is e = next later option is (asked_more before option) refl e
     go later None is e = absurd cc
@@ -142,7 +156,8 @@ same_listed (Some x) None h = absurd cc
 same_listed (Some x) (Some y) h = cc
 
 -- options that ask together are read one after another
-follow_asked : (before : Asked) (words : List Word) (options : List SquashOption) (asked : Asked) → map option_in words ≡ map Some options → Follow before options asked
+follow_asked : (before : Asked) (words : List Word) (options : List SquashOption) (asked : Asked) → map option_in words ≡ map Some options
+    → Follow before options asked
     → asked_by before words ≡ Ok asked
 follow_asked before [] [] asked h f =
     let p = same_listed before.push asked.push f.push in let t = same_listed before.tags asked.tags f.tags in λ i. Ok (record { push = p i; tags = t i })
@@ -207,13 +222,22 @@ in_all : (n k : ℕ) → 0 + n ≡ k → n ≡ k
 in_all n k h = omega (arith, h)
 
 -- what is said by one word and those after it
-how_on : (before : Reparenting) (text : Bytes) (texts : List Bytes) (more how : Reparenting) → HowReads before text more → FollowHow more texts how → FollowHow before (text ∷ texts) how
+how_on : (before : Reparenting) (text : Bytes) (texts : List Bytes) (more how : Reparenting) → HowReads before text more → FollowHow more texts how
+    → FollowHow before (text ∷ texts) how
 how_on before text texts more how (inl (is, unsaid, same)) f =
     let g = subst (λ m. FollowHow m texts how) (sym same) f in
-    subst (λ t. FollowHow before (t ∷ texts) how) (sym is) (record { known = g.known; order = ap (λ b. once b + suc (times (codes "--use-order") texts)) unsaid ∙ later (times (codes "--use-order") texts) (once how.use_order) g.order; rebase = g.rebase })
+    subst (λ t. FollowHow before (t ∷ texts) how) (sym is) (record {
+      known = g.known;
+      order = ap (λ b. once b + suc (times (codes "--use-order") texts)) unsaid ∙ later (times (codes "--use-order") texts) (once how.use_order) g.order;
+      rebase = g.rebase;
+    })
 how_on before text texts more how (inr (is, unsaid, same)) f =
     let g = subst (λ m. FollowHow m texts how) (sym same) f in
-    subst (λ t. FollowHow before (t ∷ texts) how) (sym is) (record { known = g.known; order = g.order; rebase = ap (λ b. once b + suc (times (codes "--rebase") texts)) unsaid ∙ later (times (codes "--rebase") texts) (once how.rebase) g.rebase })
+    subst (λ t. FollowHow before (t ∷ texts) how) (sym is) (record {
+      known = g.known;
+      order = g.order;
+      rebase = ap (λ b. once b + suc (times (codes "--rebase") texts)) unsaid ∙ later (times (codes "--rebase") texts) (once how.rebase) g.rebase;
+    })
 
 how_follow : (before : Reparenting) (words : List Word) (how : Reparenting) → reparenting_by before words ≡ Ok how
     → (texts : List Bytes) × (map whole_in words ≡ map Some texts) × FollowHow before texts how
@@ -231,7 +255,8 @@ how_follow before (word ∷ words) how e = go (λ more e. how_follow more words 
         let rest = later more e in (text ∷ rest.0, (λ i. is i ∷ rest.1 i), how_on before text rest.0 more how (how_read before text more read) rest.2)
     next later text is None read e = absurd cc
 
-    go : Later → (text : Option Bytes) → whole_in word ≡ text → ((or_at_fault word (option_and_then (reparenting_more before) text)) >>= (λ more. reparenting_by more words)) ≡ Ok how
+    go : Later → (text : Option Bytes) → whole_in word ≡ text
+        → ((or_at_fault word (option_and_then (reparenting_more before) text)) >>= (λ more. reparenting_by more words)) ≡ Ok how
         → (texts : List Bytes) × (whole_in word ∷ map whole_in words ≡ map Some texts) × FollowHow before texts how
     go later (Some text) is e = next later text is (reparenting_more before text) refl e
     go later None is e = absurd cc
@@ -259,13 +284,27 @@ how_goes_on before text texts how f = elim (cases_Bool (bytes_eq (codes "--use-o
 
     order_first : FollowHow before (codes "--use-order" ∷ texts) how → Goal (codes "--use-order")
     order_first f =
-        let unsaid = unsaid_once before.use_order how.use_order (times (codes "--use-order") texts) f.order in
-        (record { use_order = true; rebase = before.rebase }, rw unsaid refl, record { known = f.known; order = sooner (times (codes "--use-order") texts) (once how.use_order) (ap (λ b. once b + suc (times (codes "--use-order") texts)) (sym unsaid) ∙ f.order); rebase = f.rebase })
+        let unsaid = unsaid_once before.use_order how.use_order (times (codes "--use-order") texts) f.order in (
+          record { use_order = true; rebase = before.rebase },
+          rw unsaid refl,
+          record {
+            known = f.known;
+            order = sooner (times (codes "--use-order") texts) (once how.use_order) (ap (λ b. once b + suc (times (codes "--use-order") texts)) (sym unsaid) ∙ f.order);
+            rebase = f.rebase;
+          },
+        )
 
     rebase_first : FollowHow before (codes "--rebase" ∷ texts) how → Goal (codes "--rebase")
     rebase_first f =
-        let unsaid = unsaid_once before.rebase how.rebase (times (codes "--rebase") texts) f.rebase in
-        (record { use_order = before.use_order; rebase = true }, rw unsaid refl, record { known = f.known; order = f.order; rebase = sooner (times (codes "--rebase") texts) (once how.rebase) (ap (λ b. once b + suc (times (codes "--rebase") texts)) (sym unsaid) ∙ f.rebase) })
+        let unsaid = unsaid_once before.rebase how.rebase (times (codes "--rebase") texts) f.rebase in (
+          record { use_order = before.use_order; rebase = true },
+          rw unsaid refl,
+          record {
+            known = f.known;
+            order = f.order;
+            rebase = sooner (times (codes "--rebase") texts) (once how.rebase) (ap (λ b. once b + suc (times (codes "--rebase") texts)) (sym unsaid) ∙ f.rebase);
+          },
+        )
 
     ordered : (text : Bytes) → codes "--use-order" ≡ text → FollowHow before (text ∷ texts) how → Goal text
     ordered text same f = subst Goal same (order_first (subst (λ t. FollowHow before (t ∷ texts) how) (sym same) f))
@@ -282,7 +321,8 @@ same_once false true h = absurd (omega (arith, h))
 follow_how : (before : Reparenting) (words : List Word) (texts : List Bytes) (how : Reparenting) → map whole_in words ≡ map Some texts → FollowHow before texts how
     → reparenting_by before words ≡ Ok how
 follow_how before [] [] how h f =
-    let u = same_once before.use_order how.use_order f.order in let r = same_once before.rebase how.rebase f.rebase in λ i. Ok (record { use_order = u i; rebase = r i })
+    let u = same_once before.use_order how.use_order f.order in let r = same_once before.rebase how.rebase f.rebase in
+    λ i. Ok (record { use_order = u i; rebase = r i })
 follow_how before [] (text ∷ texts) how h f = absurd cc
 follow_how before (word ∷ words) [] how h f = absurd cc
 follow_how before (word ∷ words) (text ∷ texts) how h f =
@@ -293,8 +333,11 @@ follow_how before (word ∷ words) (text ∷ texts) how h f =
     ∙ ap (λ o. (or_at_fault word o) >>= (λ more. reparenting_by more words)) on.1
     ∙ follow_how on.0 words texts how rest on.2
 
-pub how_together : (words : List Word) (how : Reparenting) → reparenting_by reparenting words ≡ Ok how → (texts : List Bytes) × (map whole_in words ≡ map Some texts) × SayHow texts how
-how_together words how e = let all = how_follow reparenting words how e in (all.0, all.1, record { known = all.2.known; order = in_all _ _ all.2.order; rebase = in_all _ _ all.2.rebase })
+pub how_together : (words : List Word) (how : Reparenting) → reparenting_by reparenting words ≡ Ok how
+    → (texts : List Bytes) × (map whole_in words ≡ map Some texts) × SayHow texts how
+how_together words how e = let all = how_follow reparenting words how e in
+    (all.0, all.1, record { known = all.2.known; order = in_all _ _ all.2.order; rebase = in_all _ _ all.2.rebase })
 
-pub together_how : (words : List Word) (how : Reparenting) → ((texts : List Bytes) × (map whole_in words ≡ map Some texts) × SayHow texts how) → reparenting_by reparenting words ≡ Ok how
+pub together_how : (words : List Word) (how : Reparenting) → ((texts : List Bytes) × (map whole_in words ≡ map Some texts) × SayHow texts how)
+    → reparenting_by reparenting words ≡ Ok how
 together_how words how (texts, are, say) = follow_how reparenting words texts how are (record { known = say.known; order = at_first _ _ say.order; rebase = at_first _ _ say.rebase })

@@ -88,14 +88,17 @@ squash_fits words = bound IsSpelledEdit (asked_by nothing_asked words) (λ asked
 cut_fits : (place : Cut) (words : List Word) → IfAnswered IsSpelledEdit (cut_form place words)
 cut_fits place [] = tt
 cut_fits cut.At (word ∷ words) =
-    bound IsSpelledEdit (or_at_fault word (option_and_then index_in (whole_in word))) (λ number. alone (edit.SplitAt number) words) (λ number is. lone IsSpelledEdit (edit.SplitAt number) words tt)
+    bound IsSpelledEdit (or_at_fault word (option_and_then index_in (whole_in word))) (λ number. alone (edit.SplitAt number) words)
+    (λ number is. lone IsSpelledEdit (edit.SplitAt number) words tt)
 cut_fits cut.By (word ∷ words) =
-    bound IsSpelledEdit (or_at_fault word (text_before words word)) (λ path. alone (edit.SplitBy path) words) (λ path is. lone IsSpelledEdit (edit.SplitBy path) words tt)
+    bound IsSpelledEdit (or_at_fault word (text_before words word)) (λ path. alone (edit.SplitBy path) words)
+    (λ path is. lone IsSpelledEdit (edit.SplitBy path) words tt)
 
 split_fits : (words : List Word) → IfAnswered IsSpelledEdit (split_words words)
 unfolding split_words
 split_fits [] = tt
-split_fits (word ∷ words) = bound IsSpelledEdit (or_at_fault word (option_and_then cut_of (whole_in word))) (λ place. cut_form place words) (λ place is. cut_fits place words)
+split_fits (word ∷ words) = bound IsSpelledEdit (or_at_fault word (option_and_then cut_of (whole_in word))) (λ place. cut_form place words)
+    (λ place is. cut_fits place words)
 
 reparent_fits : (words : List Word) → IfAnswered IsSpelledEdit (reparent_words words)
 unfolding reparent_words
@@ -112,7 +115,8 @@ add_fits words = bound IsSpelledEdit (op_by Nothing words) (λ said. added (whol
 remove_fits : (words : List Word) → IfAnswered IsSpelledEdit (remove_words words)
 unfolding remove_words
 remove_fits [] = tt
-remove_fits (word ∷ words) = bound IsSpelledEdit (or_at_fault word (text_before words word)) (λ text. alone (removal_of text) words) (λ text is. lone IsSpelledEdit (removal_of text) words (go text (index_in text)))
+remove_fits (word ∷ words) = bound IsSpelledEdit (or_at_fault word (text_before words word)) (λ text. alone (removal_of text) words)
+    (λ text is. lone IsSpelledEdit (removal_of text) words (go text (index_in text)))
   where
     go : (text : Bytes) (number : Option ℕ) → IsSpelledEdit (elim number [ Some n ↦ edit.RemoveAt n | None ↦ edit.RemoveBy text ])
     go text (Some n) = tt
@@ -146,7 +150,8 @@ pub delete_again : (it : Word) → whole_in it ≡ Some (codes "--delete") → s
 unfolding squash_words
 delete_again it h = rw h refl
 
-squash_again : (push : Push) (tags : Lean) → IsSaidPolicy (record { push = push; tags = tags }) → squash_words (map word_for (policy_texts (record { push = push; tags = tags })))
+squash_again : (push : Push) (tags : Lean) → IsSaidPolicy (record { push = push; tags = tags })
+    → squash_words (map word_for (policy_texts (record { push = push; tags = tags })))
     ≡ Ok (edit.Squash (record { push = push; tags = tags }))
 unfolding squash_words
 squash_again push.Forward lean.Forward h = refl

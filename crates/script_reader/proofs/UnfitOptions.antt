@@ -21,7 +21,8 @@ use Rattle.script_reader.proofs.UnfitWords.{whole_too}
 -- ---- words that are read one after another
 
 module _ {S : Type 0} (step : S → Word → Option S) (by : S → List Word → Result S Fault)
-    (ends : (s : S) → by s [] ≡ Ok s) (goes : (s : S) (word : Word) (words : List Word) → by s (word ∷ words) ≡ ((or_at_fault word (step s word)) >>= λ more. by more words)) where
+    (ends : (s : S) → by s [] ≡ Ok s) (goes : (s : S) (word : Word) (words : List Word) → by s (word ∷ words)
+    ≡ ((or_at_fault word (step s word)) >>= λ more. by more words)) where
   -- where they stop
   pub record Stops (s : S) (words : List Word) (why : Fault) : Type 0 where
     pub front : List Word
@@ -37,7 +38,8 @@ module _ {S : Type 0} (step : S → Word → Option S) (by : S → List Word →
   stops_at s [] why e = let both : ◌≡◌ {A = Result S Fault} (Ok s) (Err why) = sym (ends s) ∙ e in absurd cc
   stops_at s (word ∷ words) why e = go (λ more e. stops_at more words why e) (step s word) refl (sym (goes s word words) ∙ e)
     where
-      go : ((more : S) → by more words ≡ Err why → Stops more words why) → (o : Option S) → step s word ≡ o → ((or_at_fault word o) >>= λ more. by more words) ≡ Err why
+      go : ((more : S) → by more words ≡ Err why → Stops more words why) → (o : Option S) → step s word ≡ o
+          → ((or_at_fault word o) >>= λ more. by more words) ≡ Err why
           → Stops s (word ∷ words) why
       go later (Some more) is e =
           let after = later more e in record {
@@ -57,9 +59,11 @@ module _ {S : Type 0} (step : S → Word → Option S) (by : S → List Word →
   -- words after others that were read
   after_front : (s : S) (front words : List Word) (now : S) → by s front ≡ Ok now → by s (front ++ words) ≡ by now words
   after_front s [] words now e = let same : ◌≡◌ {A = Result S Fault} (Ok s) (Ok now) = sym (ends s) ∙ e in let is : s ≡ now = cc in ap (λ s. by s words) is
-  after_front s (word ∷ front) words now e = goes s word (front ++ words) ∙ go (λ more e. after_front more front words now e) (step s word) (sym (goes s word front) ∙ e)
+  after_front s (word ∷ front) words now e = goes s word (front ++ words)
+      ∙ go (λ more e. after_front more front words now e) (step s word) (sym (goes s word front) ∙ e)
     where
-      go : ((more : S) → by more front ≡ Ok now → by more (front ++ words) ≡ by now words) → (o : Option S) → ((or_at_fault word o) >>= λ more. by more front) ≡ Ok now
+      go : ((more : S) → by more front ≡ Ok now → by more (front ++ words) ≡ by now words) → (o : Option S)
+          → ((or_at_fault word o) >>= λ more. by more front) ≡ Ok now
           → ((or_at_fault word o) >>= λ more. by more (front ++ words)) ≡ by now words
       go later (Some more) e = later more e
       go later None e = absurd cc
@@ -68,7 +72,8 @@ module _ {S : Type 0} (step : S → Word → Option S) (by : S → List Word →
   pub not_read : (s : S) (words : List Word) (why : Fault) (at : Stops s words why) (last : S) → by s (at.front ++ at.word ∷ []) ≡ Ok last → ⊥
   not_read s words why at last e =
       let stopped = sym (after_front s at.front (at.word ∷ []) at.now at.done) ∙ e in
-      let here : ((or_at_fault at.word None) >>= λ more. by more []) ≡ Ok last = ap (λ o. (or_at_fault at.word o) >>= λ more. by more []) (sym at.stops) ∙ sym (goes at.now at.word []) ∙ stopped in absurd cc
+      let here : ((or_at_fault at.word None) >>= λ more. by more []) ≡ Ok last = ap (λ o. (or_at_fault at.word o) >>= λ more. by more []) (sym at.stops)
+      ∙ sym (goes at.now at.word []) ∙ stopped in absurd cc
 
 -- ---- texts of words
 
@@ -99,7 +104,8 @@ option_texts (word ∷ words) (option ∷ options) h =
     go more None is first = absurd cc
 
 -- and the other way round
-texts_options : (words : List Word) (texts : List Bytes) (options : List SquashOption) → map whole_in words ≡ map Some texts → map squash_option texts ≡ map Some options
+texts_options : (words : List Word) (texts : List Bytes) (options : List SquashOption) → map whole_in words ≡ map Some texts
+    → map squash_option texts ≡ map Some options
     → map option_in words ≡ map Some options
 texts_options [] [] options h k = k
 texts_options [] (text ∷ texts) options h k = absurd cc
@@ -115,7 +121,8 @@ texts_options (word ∷ words) (text ∷ texts) (option ∷ options) h k =
 -- ---- `squash` and `reparent`
 
 abbrev SquashStops : List Word → Fault → Type 0
-SquashStops words why = Stops (λ asked word. option_and_then (asked_more asked) (option_in word)) asked_by (λ asked. refl) (λ asked word words. refl) nothing_asked words why
+SquashStops words why = Stops (λ asked word. option_and_then (asked_more asked) (option_in word)) asked_by (λ asked. refl)
+    (λ asked word words. refl) nothing_asked words why
 
 squash_unfit : (words : List Word) (why : Fault) → (at : SquashStops words why) → IsFirstUnfit AreSquashOptions words (text_of at.word)
 squash_unfit words why at =
@@ -130,7 +137,8 @@ squash_unfit words why at =
       read = of.1;
       fits = (all.0, at.now, of.2, all.2);
       unfit = (λ text there more.
-          not_read (λ asked word. option_and_then (asked_more asked) (option_in word)) asked_by (λ asked. refl) (λ asked word words. refl) nothing_asked words why at more.1
+          not_read (λ asked word. option_and_then (asked_more asked) (option_in word)) asked_by (λ asked. refl)
+          (λ asked word words. refl) nothing_asked words why at more.1
           (together_options (at.front ++ at.word ∷ []) more.1 (
             more.0,
             texts_options (at.front ++ at.word ∷ []) (of.0 ++ text ∷ []) more.0 (append_read at.front of.0 at.word text of.1 (whole_too at.rest at.word text there)) more.2,
@@ -139,7 +147,8 @@ squash_unfit words why at =
     }
 
 -- what the words after `squash` are refused for
-pub squash_refused : (words : List Word) (why : Fault) → squash_words words ≡ Err why → (named : Bytes) × (why ≡ fault.BadWords named) × IsFirstUnfit AreSquashOptions words named
+pub squash_refused : (words : List Word) (why : Fault) → squash_words words ≡ Err why
+    → (named : Bytes) × (why ≡ fault.BadWords named) × IsFirstUnfit AreSquashOptions words named
 unfolding squash_words
 squash_refused words why e = go (asked_by nothing_asked words) refl e
   where
@@ -148,11 +157,13 @@ squash_refused words why e = go (asked_by nothing_asked words) refl e
     go (Ok asked) is e = absurd cc
     go (Err other) is e =
         let same : other ≡ why = cc in
-        let at = stops_at (λ asked word. option_and_then (asked_more asked) (option_in word)) asked_by (λ asked. refl) (λ asked word words. refl) nothing_asked words why (is ∙ ap (λ (f : Fault). Err f) same) in
+        let at = stops_at (λ asked word. option_and_then (asked_more asked) (option_in word)) asked_by (λ asked. refl)
+        (λ asked word words. refl) nothing_asked words why (is ∙ ap (λ (f : Fault). Err f) same) in
         (text_of at.word, at.named, squash_unfit words why at)
 
 abbrev ReparentStops : List Word → Fault → Type 0
-ReparentStops words why = Stops (λ how word. option_and_then (reparenting_more how) (whole_in word)) reparenting_by (λ how. refl) (λ how word words. refl) reparenting words why
+ReparentStops words why = Stops (λ how word. option_and_then (reparenting_more how) (whole_in word)) reparenting_by (λ how. refl)
+    (λ how word words. refl) reparenting words why
 
 reparent_unfit : (words : List Word) (why : Fault) → (at : ReparentStops words why) → IsFirstUnfit AreReparentOptions words (text_of at.word)
 reparent_unfit words why at =
@@ -166,12 +177,18 @@ reparent_unfit words why at =
       read = all.1;
       fits = (at.now, all.2);
       unfit = (λ text there more.
-          not_read (λ how word. option_and_then (reparenting_more how) (whole_in word)) reparenting_by (λ how. refl) (λ how word words. refl) reparenting words why at more.0
-          (together_how (at.front ++ at.word ∷ []) more.0 (all.0 ++ text ∷ [], append_read at.front all.0 at.word text all.1 (whole_too at.rest at.word text there), more.1)));
+          not_read (λ how word. option_and_then (reparenting_more how) (whole_in word)) reparenting_by (λ how. refl)
+          (λ how word words. refl) reparenting words why at more.0
+          (together_how (at.front ++ at.word ∷ []) more.0 (
+            all.0 ++ text ∷ [],
+            append_read at.front all.0 at.word text all.1 (whole_too at.rest at.word text there),
+            more.1,
+          )));
     }
 
 -- what the words after `reparent` are refused for
-pub reparent_refused : (words : List Word) (why : Fault) → reparent_words words ≡ Err why → (named : Bytes) × (why ≡ fault.BadWords named) × IsFirstUnfit AreReparentOptions words named
+pub reparent_refused : (words : List Word) (why : Fault) → reparent_words words ≡ Err why
+    → (named : Bytes) × (why ≡ fault.BadWords named) × IsFirstUnfit AreReparentOptions words named
 unfolding reparent_words
 reparent_refused words why e = go (reparenting_by reparenting words) refl e
   where
@@ -180,5 +197,6 @@ reparent_refused words why e = go (reparenting_by reparenting words) refl e
     go (Ok how) is e = absurd cc
     go (Err other) is e =
         let same : other ≡ why = cc in
-        let at = stops_at (λ how word. option_and_then (reparenting_more how) (whole_in word)) reparenting_by (λ how. refl) (λ how word words. refl) reparenting words why (is ∙ ap (λ (f : Fault). Err f) same) in
+        let at = stops_at (λ how word. option_and_then (reparenting_more how) (whole_in word)) reparenting_by (λ how. refl)
+        (λ how word words. refl) reparenting words why (is ∙ ap (λ (f : Fault). Err f) same) in
         (text_of at.word, at.named, reparent_unfit words why at)

@@ -52,7 +52,18 @@ marks mode texts m is named other =
 
 objects : (texts : List Bytes) (m : Bytes) → texts ≡ codes "M" ∷ m ∷ [] → mode_in m ≡ Ok Gitlink → BeginsOp texts
 unfolding an_object
-objects texts m is named = (an_object ∷ some_path ∷ [], raw.Modify Gitlink (Object an_object) some_path, (m, ap (λ (ts : List Bytes). ts ++ an_object ∷ some_path ∷ []) is, named, refl, is_path))
+objects texts m is named = (
+  an_object ∷ some_path ∷ [],
+  raw.Modify Gitlink (Object an_object) some_path,
+  (
+    m,
+    ap
+        (λ (ts : List Bytes). ts ++ an_object ∷ some_path ∷ []) is,
+    named,
+    refl,
+    is_path,
+  ),
+)
 
 puts : (mode : Mode) (texts : List Bytes) (m : Bytes) → texts ≡ codes "M" ∷ m ∷ [] → mode_in m ≡ Ok mode → BeginsOp texts
 puts Gitlink texts m is named = objects texts m is named
@@ -67,15 +78,26 @@ longer texts text (more, op, says) = (text ∷ more, op, subst (λ ts. SaysOp ts
 -- whatever is said so far, texts can complete it
 begins_op : (so_far : SaidOp) (texts : List Bytes) → SaidBy so_far texts → BeginsOp texts
 begins_op said.Nothing texts is = (codes "deleteall" ∷ [], raw.DeleteAll, ap (λ (ts : List Bytes). ts ++ codes "deleteall" ∷ []) is)
-begins_op said.Modify texts is = longer texts (mode_text Plain) (puts Plain (texts ++ mode_text Plain ∷ []) (mode_text Plain) (ap (λ (ts : List Bytes). ts ++ mode_text Plain ∷ []) is) (mode_again Plain))
+begins_op said.Modify texts is = longer texts (mode_text Plain) (puts Plain (texts ++ mode_text Plain ∷ []) (mode_text Plain)
+    (ap (λ (ts : List Bytes). ts ++ mode_text Plain ∷ []) is) (mode_again Plain))
 begins_op (said.ModifyAs mode) texts (m, is, named) = puts mode texts m is named
 begins_op (said.ModifyTo mode (Marked mark)) texts (m, text, is, named, (digits, from, marks, other)) = (
   some_path ∷ [],
   raw.Modify mode (Marked mark) some_path,
   (m, digits, ap (λ (ts : List Bytes). ts ++ some_path ∷ []) is ∙ (λ i. codes "M" ∷ m ∷ from i ∷ some_path ∷ []), named, marks, other, is_path),
 )
-begins_op (said.ModifyTo mode (Object id)) texts (m, text, is, named, (from, fine)) =
-    (some_path ∷ [], raw.Modify mode (Object id) some_path, (m, ap (λ (ts : List Bytes). ts ++ some_path ∷ []) is ∙ (λ i. codes "M" ∷ m ∷ from i ∷ some_path ∷ []), named, fine, is_path))
+begins_op (said.ModifyTo mode (Object id)) texts (m, text, is, named, (from, fine)) = (
+  some_path ∷ [],
+  raw.Modify mode (Object id) some_path,
+  (
+    m,
+    ap (λ (ts : List Bytes). ts ++ some_path ∷ []) is
+        ∙ (λ i. codes "M" ∷ m ∷ from i ∷ some_path ∷ []),
+    named,
+    fine,
+    is_path,
+  ),
+)
 begins_op (said.ModifyTo mode Inline) texts (m, text, is, named, none) = absurd none
 begins_op said.Delete texts is = (some_path ∷ [], raw.Delete some_path, (ap (λ (ts : List Bytes). ts ++ some_path ∷ []) is, is_path))
 begins_op said.Copy texts is =
@@ -101,7 +123,8 @@ told_append before (text ∷ front) rest = go (λ more. told_append more front r
     go later None = refl
 
 -- what is said with a text more
-told_more : (texts : List Bytes) (now : SaidOp) (text : Bytes) → told said.Nothing texts ≡ Some now → told said.Nothing (texts ++ text ∷ []) ≡ option_and_then (λ more. Some more) (op_more now text)
+told_more : (texts : List Bytes) (now : SaidOp) (text : Bytes) → told said.Nothing texts ≡ Some now
+    → told said.Nothing (texts ++ text ∷ []) ≡ option_and_then (λ more. Some more) (op_more now text)
 told_more texts now text e = told_append said.Nothing texts (text ∷ []) ∙ ap (option_and_then (λ now. told now (text ∷ []))) e
 
 -- where a text doesn't go on, nothing begins with it
@@ -138,14 +161,16 @@ record UnfitAfter (texts : List Bytes) (words : List Word) (why : Fault) : Type 
   so_far : told said.Nothing (texts ++ more) ≡ Some now
   unfit : (text : Bytes) → text_before rest word ≡ Some text → op_more now text ≡ None
 
-unfit_after : (before : SaidOp) (texts : List Bytes) (words : List Word) (why : Fault) → told said.Nothing texts ≡ Some before → op_by before words ≡ Err why → UnfitAfter texts words why
+unfit_after : (before : SaidOp) (texts : List Bytes) (words : List Word) (why : Fault) → told said.Nothing texts ≡ Some before → op_by before words ≡ Err why
+    → UnfitAfter texts words why
 unfit_after before texts [] why h e = absurd cc
 unfit_after before texts (word ∷ words) why h e = go (λ more text h e. unfit_after more (texts ++ text ∷ []) words why h e) (text_before words word) refl e
   where
     Later : Type 0
     Later = (more : SaidOp) (text : Bytes) → told said.Nothing (texts ++ text ∷ []) ≡ Some more → op_by more words ≡ Err why → UnfitAfter (texts ++ text ∷ []) words why
 
-    here : fault.BadWords (text_of word) ≡ why → ((text : Bytes) → text_before words word ≡ Some text → op_more before text ≡ None) → UnfitAfter texts (word ∷ words) why
+    here : fault.BadWords (text_of word) ≡ why → ((text : Bytes) → text_before words word ≡ Some text → op_more before text ≡ None)
+        → UnfitAfter texts (word ∷ words) why
     here is unfit = record {
       front = [];
       word = word;
@@ -177,7 +202,8 @@ unfit_after before texts (word ∷ words) why h e = go (λ more text h e. unfit_
     next later text is None stops e =
         let named : fault.BadWords (text_of word) ≡ why = cc in here named (λ other same. let one : text ≡ other = cc in subst (λ t. op_more before t ≡ None) one stops)
 
-    go : Later → (text : Option Bytes) → text_before words word ≡ text → ((or_at_fault word (option_and_then (op_more before) text)) >>= (λ more. op_by more words)) ≡ Err why
+    go : Later → (text : Option Bytes) → text_before words word ≡ text
+        → ((or_at_fault word (option_and_then (op_more before) text)) >>= (λ more. op_by more words)) ≡ Err why
         → UnfitAfter texts (word ∷ words) why
     go later (Some text) is e = next later text is (op_more before text) refl e
     go later None is e = let named : fault.BadWords (text_of word) ≡ why = cc in here named (λ other same. absurd cc)

@@ -19,14 +19,16 @@ use Rattle.script_reader.specs.Written.{IsSelectionText, spaced, with_front}
 
 -- ---- words
 
-in_word : (came text rest : Bytes) → list_all (λ b. not (is_blank b)) text ≡ true → words_from (InWord came) (text ++ rest) ≡ words_from (InWord (came ++ text)) rest
+in_word : (came text rest : Bytes) → list_all (λ b. not (is_blank b)) text ≡ true
+    → words_from (InWord came) (text ++ rest) ≡ words_from (InWord (came ++ text)) rest
 in_word came [] rest h = ap (λ (t : Bytes). words_from (InWord t) rest) (sym (append-nil came))
 in_word came (b ∷ text) rest h =
     let parts = and_parts (not (is_blank b)) (list_all (λ c. not (is_blank c)) text) h in
     let other : is_blank b ≡ false = not-true (is_blank b) parts.0 in
     rw other (in_word (came ++ b ∷ []) text rest parts.1 ∙ ap (λ (t : Bytes). words_from (InWord t) rest) (append_assoc came (b ∷ []) text))
 
-in_quotes : (whole came text rest : Bytes) → list_all (λ b. not (b == 34)) text ≡ true → words_from (InQuotes whole came) (text ++ 34 ∷ rest) ≡ words_from (Closed whole (came ++ text)) rest
+in_quotes : (whole came text rest : Bytes) → list_all (λ b. not (b == 34)) text ≡ true
+    → words_from (InQuotes whole came) (text ++ 34 ∷ rest) ≡ words_from (Closed whole (came ++ text)) rest
 in_quotes whole came [] rest h = ap (λ (t : Bytes). words_from (Closed whole t) rest) (sym (append-nil came))
 in_quotes whole came (b ∷ text) rest h =
     let parts = and_parts (not (b == 34)) (list_all (λ c. not (c == 34)) text) h in
@@ -48,7 +50,8 @@ one_word (Plain (b ∷ text)) words h =
     let first = and_parts (not (is_blank b)) (not (b == 34)) all.0 in
     let other : is_blank b ≡ false = not-true (is_blank b) first.0 in
     let unquoted : (b == 34) ≡ false = not-true (b == 34) first.1 in
-    rw (other, unquoted) (in_word (b ∷ []) text (spaced words) (and_parts (not (is_blank b)) (list_all (λ c. not (is_blank c)) text) all.1).1 ∙ plain_ends (b ∷ text) words)
+    rw (other, unquoted) (in_word (b ∷ []) text (spaced words) (and_parts (not (is_blank b)) (list_all (λ c. not (is_blank c)) text) all.1).1
+    ∙ plain_ends (b ∷ text) words)
 one_word (Quoted text) words h =
     subst (λ (rest : Bytes). words_from Between (34 ∷ rest) ≡ Quoted text ∷ words_from Between (spaced words)) (sym (append_assoc text (34 ∷ []) (spaced words)))
     (in_quotes (34 ∷ (text ++ 34 ∷ spaced words)) [] text (spaced words) h ∙ quoted_ends (34 ∷ (text ++ 34 ∷ spaced words)) text words)
@@ -84,7 +87,8 @@ cut_again (b ∷ text) words h =
     let rest = cut_again text words parts.1 in
     (rw other (ap (λ head. b ∷ head) rest.0), rw other rest.1)
 
-pub head_again : (text : Bytes) (words : List Word) → IsWordText text → (head_of (text ++ spaced words) ≡ text) × (after_head (text ++ spaced words) ≡ spaced words)
+pub head_again : (text : Bytes) (words : List Word) → IsWordText text
+    → (head_of (text ++ spaced words) ≡ text) × (after_head (text ++ spaced words) ≡ spaced words)
 head_again text words h = cut_again text words (and_parts (begins_with_letter text) (list_all (λ b. not (is_blank b)) text) h).1
 
 letter_first : (text rest : Bytes) → IsWordText text → begins_with_letter (text ++ rest) ≡ true
@@ -127,11 +131,16 @@ letterless [] rest h = refl
 letterless (b ∷ text) rest h = h
 
 -- a line falls into its selection and the rest
-pub front_again : ((text : Bytes) → IsRightAnswer text (selection_at text)) → (selection : Option Bytes) (text rest : Bytes) → IsSelectionText selection → IsWordText text
+pub front_again : ((text : Bytes) → IsRightAnswer text (selection_at text)) → (selection : Option Bytes) (text rest : Bytes) → IsSelectionText selection
+    → IsWordText text
     → front_of (with_front selection (text ++ rest)) ≡ Ok (record { selection = selection; rest = text ++ rest })
 unfolding front_of
 front_again right None text rest h k = rw (letter_first text rest k) refl
 front_again right (Some s) text rest (x, is, other) k =
     let cut : Front → Result Front Fault = λ (front : Front). Ok front in
     rw (letterless s (text ++ rest) other, selection_before right s (text ++ rest) x is)
-    (λ i. Ok (record { selection = Some (take-append_seam s (32 ∷ (text ++ rest)) i); rest = (ap without_blanks (drop-append_seam s (32 ∷ (text ++ rest))) ∙ no_blank_first text rest k) i }))
+    (λ i. Ok (record {
+      selection = Some (take-append_seam s (32 ∷ (text ++ rest)) i);
+      rest = (ap without_blanks (drop-append_seam s (32 ∷ (text ++ rest)))
+          ∙ no_blank_first text rest k) i;
+    }))

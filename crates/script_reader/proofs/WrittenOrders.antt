@@ -42,7 +42,8 @@ output_again : (to : Option Bytes) → IsTarget to → output_in (target_words t
 output_again None h = refl
 output_again (Some file) h = rw h refl
 
-read_again : (file : Bytes) → is_target file ≡ true → is_repo_name (repo_name file) ≡ true → read_form (source_word file ∷ []) ≡ Ok (command.Read file (repo_name file))
+read_again : (file : Bytes) → is_target file ≡ true → is_repo_name (repo_name file) ≡ true
+    → read_form (source_word file ∷ []) ≡ Ok (command.Read file (repo_name file))
 unfolding read_form
 read_again file h k = rw (h, k) refl
 
@@ -58,7 +59,8 @@ summary_again : (to : Option Bytes) → IsTarget to → summary_form (target_wor
 unfolding summary_form
 summary_again to h = rw (output_again to h) refl
 
-show_again : (selection : Option Bytes) (what : Listing) (to : Option Bytes) → IsTarget to → show_form selection what (target_words to) ≡ Ok (command.Show selection what to)
+show_again : (selection : Option Bytes) (what : Listing) (to : Option Bytes) → IsTarget to
+    → show_form selection what (target_words to) ≡ Ok (command.Show selection what to)
 unfolding show_form
 show_again selection what to h = rw (output_again to h) refl
 
@@ -93,9 +95,15 @@ sample_again : (count start : ℕ) → 1 ≤ count → count ≤ MAX_SAMPLE_COMM
     → sample_form (word_for (decimal_of count) ∷ word_for (decimal_of start) ∷ []) ≡ Ok (command.Sample count start)
 unfolding sample_form
 sample_again count start some many most =
-    rw (whole_again (decimal_of count), number_again 1 MAX_SAMPLE_COMMITS count some many, whole_again (decimal_of start), number_again 0 MAX_START start (omega arith) most) refl
+    rw (
+      whole_again (decimal_of count),
+      number_again 1 MAX_SAMPLE_COMMITS count some many,
+      whole_again (decimal_of start),
+      number_again 0 MAX_START start (omega arith) most,
+    ) refl
 
-edit_of_all : (what : Edit) → not (needs_selection (own_word what)) ≡ true → CanBeSaid what → edit_form (own_word what) None (map word_for (edit_texts what)) ≡ Ok (command.Edit None what)
+edit_of_all : (what : Edit) → not (needs_selection (own_word what)) ≡ true → CanBeSaid what
+    → edit_form (own_word what) None (map word_for (edit_texts what)) ≡ Ok (command.Edit None what)
 edit_of_all what h k = rw (not-true (needs_selection (own_word what)) h, edit_again what k) refl
 
 edit_of_some : (selection : Bytes) (what : Edit) → CanBeSaid what
