@@ -24,6 +24,11 @@ pub record StoreState : Type 0 where
 abbrev pub TellsRest : StoreState → Type 0
 TellsRest state = IfSome state.files (λ _. IsSome state.rest)
 
+-- no fault is counted; a miss may be
+pub record CountsNoFault (old new : StoreState) : Type 0 where
+  pub read_faults : new.read_faults ≡ old.read_faults
+  pub write_faults : new.write_faults ≡ old.write_faults
+
 -- a call that reads leaves the files and what is written, and no count falls
 pub record Reads (old new : StoreState) : Type 0 where
   pub files : new.files ≡ old.files

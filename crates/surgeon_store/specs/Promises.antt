@@ -8,19 +8,21 @@ use Rattle.surgeon_store.specs.declared.outside.CreateFault.TheVariants as creat
 use Rattle.surgeon_store.specs.declared.outside.WriteFault.{WriteFault}
 use Rattle.surgeon_store.specs.declared.outside.WriteFault.TheVariants as write_fault
 use Rattle.plain_model.specs.Counts.{Rose}
-use Rattle.surgeon_store.specs.Outside.{StoreState, SinkState, Reads, Writes, Opens, Misses, Takes, IsSpent, Begins, Appends, Puts}
+use Rattle.surgeon_store.specs.Outside.{StoreState, SinkState, CountsNoFault, Reads, Writes, Opens, Misses, Takes, IsSpent, Begins, Appends, Puts}
 
 pub record PromisesBeginRead (old : StoreState) (name : List ℕ) (result : Result (Unit {0}) OpenFault) (new : StoreState) : Type 0 where
   pub opens : OnOk result (Opens old name new)
   pub absent : IsErrOf result open_fault.Absent → Misses old name
   pub missed : IsErrOf result open_fault.Absent → Rose old.misses new.misses
   pub failed : IsErrOf result open_fault.Failed → Rose old.read_faults new.read_faults
+  pub quiet : ¬ (IsErrOf result open_fault.Failed) → CountsNoFault old new
   pub frame : Reads old new
 
 pub record PromisesRead (old : StoreState) (result : Result ℕ Failed) (piece : List ℕ) (new : StoreState) : Type 0 where
   pub bound : IfOk result (λ n. n ≤ length piece)
   pub takes : IfOk result (λ n. Takes old n piece new)
   pub failed : OnErr result (Rose old.read_faults new.read_faults)
+  pub quiet : OnOk result (CountsNoFault old new)
   pub spent : OnErr result (IsSpent new)
   pub frame : Reads old new
 
@@ -28,6 +30,7 @@ pub record PromisesBeginWrite (old : StoreState) (name : List ℕ) (result : Res
   pub begins : OnOk result (Begins old name new)
   pub refused : OnErr result ((new.files ≡ old.files) × (new.writing ≡ None))
   pub failed : IsErrOf result create_fault.Failed → Rose old.write_faults new.write_faults
+  pub quiet : OnOk result (CountsNoFault old new)
   pub frame : Writes old new
 
 pub record PromisesWrite (old : StoreState) (piece : List ℕ) (result : Result ℕ WriteFault) (new : StoreState) : Type 0 where
@@ -36,12 +39,14 @@ pub record PromisesWrite (old : StoreState) (piece : List ℕ) (result : Result 
   pub writing : new.writing ≡ old.writing
   pub refused : OnErr result (new.files ≡ old.files)
   pub failed : IsErrOf result write_fault.Failed → Rose old.write_faults new.write_faults
+  pub quiet : OnOk result (CountsNoFault old new)
   pub frame : Writes old new
 
 pub record PromisesFinishWrite (old : StoreState) (result : Result (Unit {0}) Failed) (new : StoreState) : Type 0 where
   pub ends : new.writing ≡ None
   pub files : new.files ≡ old.files
   pub failed : OnErr result (Rose old.write_faults new.write_faults)
+  pub quiet : OnOk result (CountsNoFault old new)
   pub frame : Writes old new
 
 -- of a sink's `write`
@@ -51,4 +56,5 @@ pub record PromisesPut (old : SinkState) (piece : List ℕ) (result : Result ℕ
   pub refused : OnErr result (new.written ≡ old.written)
   pub later : old.faults ≤ new.faults
   pub failed : IsErrOf result write_fault.Failed → Rose old.faults new.faults
+  pub quiet : OnOk result (new.faults ≡ old.faults)
   pub around : new.around ≡ old.around

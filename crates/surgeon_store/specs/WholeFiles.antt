@@ -7,7 +7,7 @@ use Rattle.plain_model.specs.declared.fault.Fault.{Fault}
 use Rattle.plain_model.specs.declared.fault.Fault.TheVariants as fault
 use Rattle.plain_model.specs.declared.fault.Halt.{Halt}
 use Rattle.plain_model.specs.declared.fault.Halt.TheVariants as halt
-use Rattle.surgeon_store.specs.Outside.{StoreState, written_of}
+use Rattle.surgeon_store.specs.Outside.{CountsNoFault, StoreState, written_of}
 use Rattle.surgeon_store.specs.declared.whole_files.ReadEnd.{ReadEnd}
 use Rattle.surgeon_store.specs.declared.whole_files.ReadEnd.TheVariants as ended
 
@@ -44,6 +44,12 @@ abbrev pub LeavesAfter : {X : Type 0} → ℕ → Bytes → Result X ReadEnd →
 LeavesAfter n bytes (Ok x) now = now.rest ≡ Some (drop n bytes)
 LeavesAfter n bytes (Err (ended.Refused fault)) now = now.rest ≡ Some (drop n bytes)
 LeavesAfter n bytes (Err other) now = Unit {0}
+
+-- a call that reads counts no fault but the one that it answers
+abbrev pub IsQuiet : {X : Type 0} → Result X ReadEnd → StoreState → StoreState → Type 0
+IsQuiet (Ok x) old new = CountsNoFault old new
+IsQuiet (Err ended.SourceFault) old new = Unit {0}
+IsQuiet (Err other) old new = CountsNoFault old new
 
 -- the end of a call that meets nothing outside, as one of a call that reads
 abbrev pub read_end_of : Halt → ReadEnd

@@ -19,6 +19,7 @@ pub trait Output {
         ensures later { (W.state sink.old).faults ≤ (W.state sink.new).faults }
         ensures failed { IsErrOf result WriteEnd.SinkFault
             → Rose (W.state sink.old).faults (W.state sink.new).faults }
+        ensures quiet { OnOk result ((W.state sink.new).faults ≡ (W.state sink.old).faults) }
         ensures around { (W.state sink.new).around ≡ (W.state sink.old).around };
 }
 

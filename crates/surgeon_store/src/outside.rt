@@ -13,7 +13,21 @@ ghost use Rattle.std.specs.Prelude.{
   IsErrOf,
 };
 ghost use Rattle.plain_model.specs.Counts.{Rose};
-ghost use Rattle.surgeon_store.specs.Outside.{StoreState, SinkState, TellsRest, Reads, Writes, Opens, Misses, Takes, IsSpent, Begins, Appends, Puts};
+ghost use Rattle.surgeon_store.specs.Outside.{
+  StoreState,
+  SinkState,
+  TellsRest,
+  CountsNoFault,
+  Reads,
+  Writes,
+  Opens,
+  Misses,
+  Takes,
+  IsSpent,
+  Begins,
+  Appends,
+  Puts,
+};
 
 /// A fault of the outside.
 #[derive(Clone, Copy, Debug, PartialEq, Eq)]
@@ -61,6 +75,8 @@ pub trait Store {
             → Rose (state self.old).misses (state self.new).misses }
         ensures failed { IsErrOf result OpenFault.Failed
             → Rose (state self.old).read_faults (state self.new).read_faults }
+        ensures quiet { ¬ (IsErrOf result OpenFault.Failed)
+            → CountsNoFault (state self.old) (state self.new) }
         ensures frame { Reads (state self.old) (state self.new) };
 
     /// Moves bytes from the front of what is left of the file to the front of the piece, and answers how
@@ -71,6 +87,7 @@ pub trait Store {
         ensures failed { OnErr result
             (Rose (state self.old).read_faults (state self.new).read_faults) }
         ensures spent { OnErr result (IsSpent (state self.new)) }
+        ensures quiet { OnOk result (CountsNoFault (state self.old) (state self.new)) }
         ensures frame { Reads (state self.old) (state self.new) };
 
     /// Makes a file empty and begins to write it. A file that was being written gets no more bytes.
@@ -81,6 +98,7 @@ pub trait Store {
             × ((state self.new).writing ≡ None)) }
         ensures failed { IsErrOf result CreateFault.Failed
             → Rose (state self.old).write_faults (state self.new).write_faults }
+        ensures quiet { OnOk result (CountsNoFault (state self.old) (state self.new)) }
         ensures frame { Writes (state self.old) (state self.new) };
 
     /// Puts the first bytes of the piece at the end of the file that is written, and answers how many.
@@ -93,6 +111,7 @@ pub trait Store {
         ensures refused { OnErr result ((state self.new).files ≡ (state self.old).files) }
         ensures failed { IsErrOf result WriteFault.Failed
             → Rose (state self.old).write_faults (state self.new).write_faults }
+        ensures quiet { OnOk result (CountsNoFault (state self.old) (state self.new)) }
         ensures frame { Writes (state self.old) (state self.new) };
 
     /// Ends the writing of a file. Where only a part of it was put, a store that can leaves what was there before. Refused
@@ -102,6 +121,7 @@ pub trait Store {
         ensures files { (state self.new).files ≡ (state self.old).files }
         ensures failed { OnErr result
             (Rose (state self.old).write_faults (state self.new).write_faults) }
+        ensures quiet { OnOk result (CountsNoFault (state self.old) (state self.new)) }
         ensures frame { Writes (state self.old) (state self.new) };
 
     // What is left of the file that is read is reported by every store that tells its files.
@@ -121,5 +141,6 @@ pub trait Sink {
         ensures later { (state self.old).faults ≤ (state self.new).faults }
         ensures failed { IsErrOf result WriteFault.Failed
             → Rose (state self.old).faults (state self.new).faults }
+        ensures quiet { OnOk result ((state self.new).faults ≡ (state self.old).faults) }
         ensures around { (state self.new).around ≡ (state self.old).around };
 }

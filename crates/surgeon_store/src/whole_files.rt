@@ -19,10 +19,11 @@ ghost use Rattle.std.specs.Prelude.{
 };
 ghost use Rattle.std.specs.FinMap.{get, insert};
 ghost use Rattle.plain_model.specs.Counts.{Rose};
-ghost use Rattle.surgeon_store.specs.Outside.{Misses, Opens, Reads, Writes, beside_of};
+ghost use Rattle.surgeon_store.specs.Outside.{CountsNoFault, Misses, Opens, Reads, Writes, beside_of};
 ghost use Rattle.surgeon_store.specs.WholeFiles.{
   Grows,
   GrowsSome,
+  IsQuiet,
   LeavesAfter,
   PartWritten,
   ReturnsOrBreaks,
@@ -77,6 +78,7 @@ pub fn open_file<S: Store>(alloc: Global, store: &mut S, name: &str) -> Result<(
         → Rose (S.state store.old).misses (S.state store.new).misses }
     ensures failed { IsErrOf result ReadEnd.SourceFault
         → Rose (S.state store.old).read_faults (S.state store.new).read_faults }
+    ensures quiet { IsQuiet result (S.state store.old) (S.state store.new) }
     ensures frame { Reads (S.state store.old) (S.state store.new) }
 {
     match store.begin_read(name) {
@@ -98,6 +100,7 @@ fn rest_up_to<S: Store>(alloc: Global, store: &mut S, most: u64) -> Result<Text,
         (λ rest. (S.state store.new).rest ≡ Some (drop most rest))) }
     ensures failed { IsErrOf result ReadEnd.SourceFault
         → Rose (S.state store.old).read_faults (S.state store.new).read_faults }
+    ensures quiet { IsQuiet result (S.state store.old) (S.state store.new) }
     ensures never_refused { (fault : Fault) → result ≡ Err (ReadEnd.Refused fault) → ⊥ }
     ensures frame { Reads (S.state store.old) (S.state store.new) }
 {
@@ -131,6 +134,7 @@ pub fn read_front<S: Store>(
         → Rose (S.state store.old).misses (S.state store.new).misses }
     ensures failed { IsErrOf result ReadEnd.SourceFault
         → Rose (S.state store.old).read_faults (S.state store.new).read_faults }
+    ensures quiet { IsQuiet result (S.state store.old) (S.state store.new) }
     ensures frame { Reads (S.state store.old) (S.state store.new) }
 {
     open_file(alloc, store, name)?;
@@ -154,6 +158,7 @@ pub fn read_file<S: Store>(
         → Rose (S.state store.old).misses (S.state store.new).misses }
     ensures failed { IsErrOf result ReadEnd.SourceFault
         → Rose (S.state store.old).read_faults (S.state store.new).read_faults }
+    ensures quiet { IsQuiet result (S.state store.old) (S.state store.new) }
     ensures frame { Reads (S.state store.old) (S.state store.new) }
 {
     let text = match read_front(alloc, store, name, limit + 1) {
@@ -181,9 +186,25 @@ fn write_begun<S: Store, B: Output>(store: &mut S, output: &B) -> Result<(), Wri
     ensures later { (S.state store.old).write_faults ≤ (S.state store.new).write_faults }
     ensures failed { IsErrOf result WriteEnd.SinkFault
         → Rose (S.state store.old).write_faults (S.state store.new).write_faults }
+    ensures quiet { OnOk result (CountsNoFault (S.state store.old) (S.state store.new)) }
 {
     let mut sink = StoreSink::new(store);
     output.send(&mut sink)
+}
+
+// Ends the writing of a file that has all of its bytes.
+fn end_whole<S: Store>(store: &mut S) -> Result<(), WriteEnd>
+    ensures ends { (S.state store.new).writing ≡ None }
+    ensures files { (S.state store.new).files ≡ (S.state store.old).files }
+    ensures failed { OnErr result
+        (Rose (S.state store.old).write_faults (S.state store.new).write_faults) }
+    ensures quiet { OnOk result (CountsNoFault (S.state store.old) (S.state store.new)) }
+    ensures frame { Writes (S.state store.old) (S.state store.new) }
+{
+    match store.finish_write(Made::Whole) {
+        Ok(()) => Ok(()),
+        Err(Failed) => Err(WriteEnd::SinkFault),
+    }
 }
 
 /// Makes a file that has the bytes. After a fault or out of memory it may have a first part of them, or be as it was.
@@ -201,6 +222,7 @@ pub fn write_file<S: Store, B: Output>(
         (λ files. PartWritten name.now (B.bytes output.now) files (S.state store.new).files)) }
     ensures failed { IsErrOf result WriteEnd.SinkFault
         → Rose (S.state store.old).write_faults (S.state store.new).write_faults }
+    ensures quiet { OnOk result (CountsNoFault (S.state store.old) (S.state store.new)) }
     ensures finished { (S.state store.new).writing ≡ None }
     ensures frame { Writes (S.state store.old) (S.state store.new) }
 {
@@ -210,10 +232,7 @@ pub fn write_file<S: Store, B: Output>(
         Err(CreateFault::Memory) => return Err(WriteEnd::Memory),
     }
     match write_begun(store, output) {
-        Ok(()) => match store.finish_write(Made::Whole) {
-            Ok(()) => Ok(()),
-            Err(Failed) => Err(WriteEnd::SinkFault),
-        },
+        Ok(()) => end_whole(store),
         Err(end) => {
             // Why a part is all there is has been said.
             let _ = store.finish_write(Made::Part);

@@ -10,5 +10,6 @@ loop-preserved g c =
       on = on_more _ c.loop.at c.loop.counter c.in-Ok.count _ long c.loop.invariant.on c.in-Ok.ensures.bound.1;
       put = put_more (g.W.Sink.state c.args.sink.now).written (g.W.Sink.state c.loop.sink).written (g.W.Sink.state c.write.new.self).written c.args.bytes.now c.loop.at c.in-Ok.count c.loop.invariant.put c.in-Ok.ensures.appends;
       later = omega (arith, c.in-Ok.ensures.later, c.loop.invariant.later);
+      quiet = c.in-Ok.ensures.quiet ∙ c.loop.invariant.quiet;
       around = c.in-Ok.ensures.around ∙ c.loop.invariant.around;
     }
