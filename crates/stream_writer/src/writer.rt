@@ -37,6 +37,7 @@ fn send_piece<W: Sink>(gathered: &mut Text, sink: &mut W) -> Result<(), WriteEnd
     ensures part { PutsSome (W.state sink.old) gathered.old (W.state sink.new) }
     ensures failed { IsErrOf result WriteEnd.SinkFault
         → Rose (W.state sink.old).faults (W.state sink.new).faults }
+    ensures quiet { OnOk result ((W.state sink.new).faults ≡ (W.state sink.old).faults) }
     ensures later { (W.state sink.old).faults ≤ (W.state sink.new).faults }
     ensures around { (W.state sink.new).around ≡ (W.state sink.old).around }
 {
@@ -73,6 +74,7 @@ fn send_blob<W: Sink>(
         (W.state sink.new) }
     ensures failed { IsErrOf result WriteEnd.SinkFault
         → Rose (W.state sink.old).faults (W.state sink.new).faults }
+    ensures quiet { OnOk result ((W.state sink.new).faults ≡ (W.state sink.old).faults) }
     ensures later { (W.state sink.old).faults ≤ (W.state sink.new).faults }
     ensures around { (W.state sink.new).around ≡ (W.state sink.old).around }
 {
@@ -100,6 +102,7 @@ fn gather_event<W: Sink>(
         (gathered.old ++ event_text history.now.list tips.old event.now) (W.state sink.new) }
     ensures failed { IsErrOf result WriteEnd.SinkFault
         → Rose (W.state sink.old).faults (W.state sink.new).faults }
+    ensures quiet { OnOk result ((W.state sink.new).faults ≡ (W.state sink.old).faults) }
     ensures later { (W.state sink.old).faults ≤ (W.state sink.new).faults }
     ensures around { (W.state sink.new).around ≡ (W.state sink.old).around }
 {
@@ -124,6 +127,7 @@ fn write_event<W: Sink>(
         (gathered.old ++ event_text history.now.list tips.old event.now) (W.state sink.new) }
     ensures failed { IsErrOf result WriteEnd.SinkFault
         → Rose (W.state sink.old).faults (W.state sink.new).faults }
+    ensures quiet { OnOk result ((W.state sink.new).faults ≡ (W.state sink.old).faults) }
     ensures later { (W.state sink.old).faults ≤ (W.state sink.new).faults }
     ensures around { (W.state sink.new).around ≡ (W.state sink.old).around }
 {
@@ -154,6 +158,7 @@ fn write_closing<W: Sink>(promised: bool, gathered: &mut Text, sink: &mut W) -> 
         (W.state sink.new) }
     ensures failed { IsErrOf result WriteEnd.SinkFault
         → Rose (W.state sink.old).faults (W.state sink.new).faults }
+    ensures quiet { OnOk result ((W.state sink.new).faults ≡ (W.state sink.old).faults) }
     ensures later { (W.state sink.old).faults ≤ (W.state sink.new).faults }
     ensures around { (W.state sink.new).around ≡ (W.state sink.old).around }
 {
@@ -167,6 +172,7 @@ pub fn write_stream<W: Sink>(alloc: Global, events: &Events, sink: &mut W) -> Re
     ensures part { PutsSome (W.state sink.old) (text events.now.list) (W.state sink.new) }
     ensures failed { IsErrOf result WriteEnd.SinkFault
         → Rose (W.state sink.old).faults (W.state sink.new).faults }
+    ensures quiet { OnOk result ((W.state sink.new).faults ≡ (W.state sink.old).faults) }
     ensures later { (W.state sink.old).faults ≤ (W.state sink.new).faults }
     ensures around { (W.state sink.new).around ≡ (W.state sink.old).around }
 

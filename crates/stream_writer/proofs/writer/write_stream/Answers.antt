@@ -33,6 +33,7 @@ loop-place-preserved g c =
     record {
       way = rw (add-one, wrote.tips, c.is_promise-promised.ensures) further;
       later = omega (arith, wrote.later, now.invariant.later);
+      quiet = wrote.quiet ∙ now.invariant.quiet;
       around = wrote.around ∙ now.invariant.around;
     }
 
