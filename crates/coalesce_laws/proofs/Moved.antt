@@ -4,6 +4,7 @@ use Rattle.std.proofs.Common.{◌≡◌, ℕ, ◌+◌, ◌≤◌, Bool, true, fa
 use Rattle.std.specs.Prelude.{◌||◌, ◌&&◌, ◌==◌}
 use Rattle.std.specs.List.{AllByRecursion, list_any}
 use Rattle.std.proofs.lemmas.Bool.{cases_Bool, or_from, or_left, cond-true, cond-false}
+use Rattle.std.proofs.Math.Bool.{and-false}
 use Rattle.plain_model.specs.declared.operation.FileOp.{FileOp}
 use Rattle.plain_model.specs.Histories.{IsLinkedPast, Node, Past, knows}
 use Rattle.history_laws.specs.FirstParents.{ops_along}
@@ -32,10 +33,6 @@ no_first (m ∷ a) p h =
       | inl it ↦ let one : one_if (is_first p m.parents) ≡ 1 = ap one_if it in absurd (omega arith)
       | inr other ↦ or_from (is_first p m.parents) (any_first a p) other (no_first a p (omega arith))
     ]
-
-and_no : (a : Bool) → a && false ≡ false
-and_no true = refl
-and_no false = refl
 
 -- a removed commit is the first parent of one commit at most
 abbrev pub AreOnlyFirst : (ℕ → Bool) → Past → Type 0
@@ -167,7 +164,7 @@ module _ (removed : ℕ → Bool) (count : FileOp → ℕ) where
       omega arith
     where
       none : (x y : Bool) → x && y && false ≡ false
-      none true y = and_no y
+      none true y = and-false y
       none false y = refl
 
   -- ---- one commit more

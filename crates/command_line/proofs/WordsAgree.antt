@@ -5,6 +5,7 @@ use Rattle.std.specs.Option.{option_to_list}
 use Rattle.std.specs.Cmp.Lexicographic.{same_text}
 use Rattle.std.proofs.lemmas.Bool.{cases_Bool}
 use Rattle.std.proofs.lemmas.Bool.Decides.{nat_tests}
+use Rattle.std.proofs.Math.Bool.{or-false}
 use Rattle.plain_model.specs.Paths.{Bytes}
 use Rattle.history_machine.specs.Words.{Asked, asked, asked_after, flag_count, front, is_fault, is_flag, is_option, scripts, with_script}
 use Rattle.command_line.proofs.Seen.{Seen, seen, seen_dashes, seen_fault, seen_flag, seen_name}
@@ -33,10 +34,6 @@ few : (k : Bool) → nat_lt 1 (with_one k 0) ≡ false
 few true = refl
 few false = refl
 
-or_false : (k : Bool) → (k || false) ≡ k
-or_false true = refl
-or_false false = refl
-
 abbrev rule_from : List Bytes → Bool → Option Bytes → Option Asked
 rule_from words k o =
     reports (list_any is_fault (front words)) (with_one k (flag_count (front words))) (k || list_any is_flag (front words)) (option_to_list o ++ scripts words)
@@ -54,7 +51,7 @@ no_flag w h =
 
 by_seen : (w : Bytes) (words : List Bytes) (k : Bool) (o : Option Bytes) (kind : Kind) → Seen w kind
     → ((k : Bool) (o : Option Bytes) → asked_from words false k o ≡ rule_from words k o) → by_kind kind k o w (asked_from words) ≡ rule_from (w ∷ words) k o
-by_seen w words k o Dashes (seen_dashes e) rec = rw (e, few k, or_false k) (after_dashes words k o)
+by_seen w words k o Dashes (seen_dashes e) rec = rw (e, few k, or-false k) (after_dashes words k o)
 by_seen w words false o Flag (seen_flag e) rec = rw e (rec true o)
 by_seen w words true o Flag (seen_flag e) rec = rw e (twice (list_any is_fault (front words)) (flag_count (front words)) true (option_to_list o ++ scripts words))
 by_seen w words k o Fault (seen_fault a b c) rec = rw (a, b, c) refl
@@ -63,7 +60,7 @@ by_seen w words k (Some s) Name (seen_name a b) rec = rw (a, no_flag w b, b) (ne
 
 agree : (words : List Bytes) (k : Bool) (o : Option Bytes) → asked_from words false k o ≡ rule_from words k o
 agree [] k None = rw (few k) refl
-agree [] k (Some s) = rw (few k, or_false k) refl
+agree [] k (Some s) = rw (few k, or-false k) refl
 agree (w ∷ words) k o = by_seen w words k o (kind_of w) (seen w) (agree words)
 
 word_by_word : (words : List Bytes) → asked_from words false false None ≡ asked_after words

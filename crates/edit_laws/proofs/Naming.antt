@@ -3,6 +3,7 @@ use Rattle.std.proofs.Common.{◌≡◌, ℕ, Bool, true, false, cond, not, List
 use Rattle.std.specs.Prelude.{◌||◌, ◌&&◌, ◌==◌}
 use Rattle.std.proofs.lemmas.Bool.{cases_Bool}
 use Rattle.std.proofs.lemmas.List.Folds.{list_any-append}
+use Rattle.std.proofs.Math.Bool.{and-false}
 use Rattle.plain_model.specs.declared.id.AnyId.TheVariants as any
 use Rattle.plain_model.specs.declared.event.PlainEvent.{PlainEvent}
 use Rattle.plain_model.specs.declared.event.PlainEvent.TheVariants.{Blob, Commit, Tag, Reset, Pass}
@@ -80,10 +81,6 @@ module _ (old new : List PlainEvent) where
   kept_blob (Reset id branch target) b h = absurd (true≢false (sym h))
   kept_blob (Pass id line) b h = absurd (true≢false (sym h))
 
-  none : (x : Bool) → x && false ≡ false
-  none true = refl
-  none false = refl
-
   blobs_left : (es : List PlainEvent) (b : ℕ) → has_id (filter kept es) (any.Blob b) ≡ has_id es (any.Blob b) && stays b
   blobs_left [] b = refl
   blobs_left (e ∷ es) b =
@@ -105,8 +102,8 @@ module _ (old new : List PlainEvent) where
       it own false is rest =
           ap (λ t. has_id (cond t (e ∷ filter kept es) (filter kept es)) (any.Blob b)) is
           ∙ rest
-          ∙ none (has_id es (any.Blob b))
-          ∙ sym (none (has_id (e ∷ es) (any.Blob b)))
+          ∙ and-false (has_id es (any.Blob b))
+          ∙ sym (and-false (has_id (e ∷ es) (any.Blob b)))
 
       other_one : has_id (e ∷ []) (any.Blob b) ≡ false → (k : Bool) → kept e ≡ k → has_id (cond (kept e) (e ∷ filter kept es) (filter kept es)) (any.Blob b) ≡ has_id (filter kept es) (any.Blob b)
       other_one other true is =

@@ -1,6 +1,6 @@
 -- Lists without repeats stay so.
 use Rattle.std.proofs.Common.{◌≡◌, ◌∙◌, ℕ, zero, suc, ◌+◌, ◌-◌, Bool, true, false, not, List, [], ◌∷◌, ◌++◌, Option, Some, None, inl, inr, refl, sym, ap, subst, map}
-use Rattle.std.proofs.lemmas.Bool.{cases_Bool, or_right, true≢false}
+use Rattle.std.proofs.lemmas.Bool.{cases_Bool, or_right, true≢false, not-true}
 use Rattle.std.specs.Prelude.{◌&&◌, ◌||◌, filter, option_to_list, if◌then◌else◌}
 use Rattle.plain_model.specs.Lookups.{event_at, find_event, id_of, is_listed, same_id}
 use Rattle.plain_model.specs.declared.id.AnyId.{AnyId}
@@ -17,10 +17,6 @@ use Rattle.event_sets.proofs.SetLemmas.{passing_all}
 pub both_parts : (a b : Bool) → a && b ≡ true → (a ≡ true) × (b ≡ true)
 both_parts true b h = (refl, h)
 both_parts false b h = absurd (true≢false (sym h))
-
-pub not_so : (a : Bool) → not a ≡ true → a ≡ false
-not_so true h = absurd (true≢false (sym h))
-not_so false h = refl
 
 pub either_off : (a b : Bool) → a || b ≡ false → (a ≡ false) × (b ≡ false)
 either_off true b h = absurd (true≢false h)
@@ -45,7 +41,7 @@ pub once_part : (p : AnyId → Bool) (ids : Ids) → IsOnce ids → IsOnce (filt
 once_part p [] h = refl
 once_part p (x ∷ ids) h =
     let apart = both_parts (not (is_listed x ids)) (are_once ids) h in
-    by (p x) (unlisted_part x p ids (not_so (is_listed x ids) apart.0)) (once_part p ids apart.1)
+    by (p x) (unlisted_part x p ids (not-true (is_listed x ids) apart.0)) (once_part p ids apart.1)
   where
     by : (b : Bool) → is_listed x (filter p ids) ≡ false → IsOnce (filter p ids) →
         IsOnce (if b then x ∷ filter p ids else filter p ids)
@@ -61,7 +57,7 @@ once_append (x ∷ a) b h k f =
     let apart = both_parts (not (is_listed x a)) (are_once a) h in
     let here : is_listed x (x ∷ a) ≡ true = rw (same_id_refl x) refl in
     let off : is_listed x (a ++ b) ≡ false =
-    is_listed_append a b x ∙ rw (not_so (is_listed x a) apart.0, f x here) refl in
+    is_listed_append a b x ∙ rw (not-true (is_listed x a) apart.0, f x here) refl in
     rw off (once_append a b apart.1 k (λ id listed. f id (or_right (same_id id x) (is_listed id a) listed)))
 
 -- the left list has nothing of what the right one has besides

@@ -1,7 +1,7 @@
 -- From flags that are closed down to a place to descent from the commit there.
 use Rattle.std.proofs.Common.{◌≡◌, ◌∙◌, ℕ, suc, ◌<◌, ◌≤◌, Bool, true, false, ◌||◌, inl, inr, List, [], ◌∷◌, Option, Some, None, refl, sym, ap, length, get_or, take, eq-eqb, arith}
 use Rattle.std.proofs.Math.Bool.{or-false, or-true}
-use Rattle.std.proofs.lemmas.Bool.{cases_Bool, false_from_ne_true, or_cases, true≢false}
+use Rattle.std.proofs.lemmas.Bool.{cases_Bool, false_from_ne_true, or_cases, true≢false, lt-ltb, ltb-true}
 use Rattle.std.proofs.lemmas.Option.{same_Some}
 use Rattle.std.specs.List.{AllByRecursion, list_any}
 use Rattle.std.specs.Prelude.{nat_lt, slice_get}
@@ -28,14 +28,8 @@ abbrev is_below : ℕ → Option ℕ → Bool
 is_below bound None = true
 is_below bound (Some k) = nat_lt k bound
 
-below : (k bound : ℕ) → k < bound → nat_lt k bound ≡ true
-below k bound h = grind (arith, nat_tests)
-
 not_below : (k : ℕ) → nat_lt k k ≡ false
 not_below k = grind (arith, nat_tests)
-
-below_from : (k bound : ℕ) → nat_lt k bound ≡ true → k < bound
-below_from k bound h = grind (arith, nat_tests)
 
 module _ (events : List PlainEvent) (sound : IsSound events) (once : AreDistinct events) (high top : ℕ) (at_top : place_of (any.Commit high) events ≡ Some top) where
   -- the flag of one commit alone
@@ -79,14 +73,14 @@ module _ (events : List PlainEvent) (sound : IsSound events) (once : AreDistinct
             let b = is_earlier events j p all.0 in
             let place : place_of (any.Commit p) events ≡ Some b.place = ap (λ i. place_of i events) b.own ∙ (place_found events b.place b.event b.at once).0 in
             let lower = b.low in
-            ap (λ t. is_flagged_commit flags events p || t) (ap (is_below bottom) place ∙ below b.place bottom (omega arith)) ∙ or-true (is_flagged_commit flags events p)
+            ap (λ t. is_flagged_commit flags events p || t) (ap (is_below bottom) place ∙ lt-ltb b.place bottom (omega arith)) ∙ or-true (is_flagged_commit flags events p)
 
     closure_at : (j : ℕ) (e : PlainEvent) (c : ℕ) → slice_get events j ≡ Some e → any.Commit c ≡ id_of e →
         covered c ≡ true → AllByRecursion (λ p. covered p ≡ true) (event_parents e)
     unfolding covered
     closure_at j e c at own h = elim (cases_Bool (nat_lt bottom j)) [
       | inl above ↦
-          let over = below_from bottom j above in
+          let over = ltb-true bottom j above in
           let place : place_of (any.Commit c) events ≡ Some j = ap (λ i. place_of i events) own ∙ (place_found events j e at once).0 in
           covered_all (event_parents e) (s.closed j e at (omega arith) (sym (flag_of flags events j c e once at own) ∙ flagged place over))
       | inr under ↦ before_all j (at_most j under) (event_parents e) (parents_before [] events j e sound.formed at)
@@ -98,7 +92,7 @@ module _ (events : List PlainEvent) (sound : IsSound events) (once : AreDistinct
         flagged : place_of (any.Commit c) events ≡ Some j → bottom < j → is_flagged_commit flags events c ≡ true
         flagged place over = elim (or_cases (is_flagged_commit flags events c) (is_below bottom (place_of (any.Commit c) events)) h) [
           | inl it ↦ it
-          | inr less ↦ absurd (let b = below_from j bottom (ap (is_below bottom) (sym place) ∙ less) in omega arith)
+          | inr less ↦ absurd (let b = ltb-true j bottom (ap (is_below bottom) (sym place) ∙ less) in omega arith)
         ]
 
     node_closure : (j : ℕ) (e : PlainEvent) → slice_get events j ≡ Some e →

@@ -1,7 +1,7 @@
 -- Rows of waiters, and places in ascending order.
 use Rattle.std.proofs.Common.{◌≡◌, ◌∙◌, ℕ, zero, suc, ◌<◌, Bool, true, false, cond, ◌||◌, inl, inr, List, [], ◌∷◌, Option, Some, None, Result, Ok, Err, refl, sym, ap, subst, length, get_or, eqb, eq-eqb, arith}
 use Rattle.plain_model.proofs.Numbers.{eqb_turned}
-use Rattle.std.proofs.lemmas.Bool.{cases_Bool, eqb-true, true≢false, or_cases}
+use Rattle.std.proofs.lemmas.Bool.{cases_Bool, eqb-true, true≢false, or_cases, ltb-true}
 use Rattle.std.proofs.lemmas.Bool.Decides.{nat_tests}
 use Rattle.std.proofs.lemmas.List.Elements.{recursion_from_All}
 use Rattle.std.proofs.Math.ListN.{set}
@@ -67,13 +67,10 @@ among_more place old new h k =
 
 less : (a b : ℕ) → nat_cmp a b ≡ Less → a < b
 less a b h = elim (cases_Bool (nat_lt a b)) [
-  | inl it ↦ below a b it
+  | inl it ↦ ltb-true a b it
   | inr no_it ↦ absurd (never (eqb a b) (rw no_it at h))
 ]
   where
-    below : (a b : ℕ) → nat_lt a b ≡ true → a < b
-    below a b h = grind (arith, nat_tests)
-
     never : (t : Bool) → cond t Equal Greater ≡ Less → ⊥
     never true h = cc
     never false h = cc

@@ -3,7 +3,7 @@ use Rattle.std.proofs.Common.{◌≡◌, ◌==◌, ◌<◌, ◌+◌, Bool, true,
 use Rattle.std.specs.Ordering.{eq_by_cmp}
 use Rattle.std.proofs.lemmas.Bool.Decides.{nat_tests}
 use Rattle.plain_model.specs.declared.operation.Entry.{Entry}
-use Rattle.std.specs.Prelude.{◌&&◌, Result, Ok, Err, IfOk, OnOk}
+use Rattle.std.specs.Prelude.{◌&&◌, Result, Ok, Err, IfOk}
 use Rattle.plain_model.specs.Paths.{Bytes, is_empty}
 use Rattle.plain_model.specs.Trees.{TreeOf, Tree, at}
 use Rattle.history_laws.proofs.TreeLaws.{by_bytes, same_path}
@@ -73,7 +73,3 @@ at_filled (e ∷ es) r = refl
 pub if_ok : {V E : Type 0} {P Q : V → Type 0} (r : Result V E) → IfOk r P → ((v : V) → P v → Q v) → IfOk r Q
 if_ok (Ok v) h f = f v h
 if_ok (Err e) h f = tt
-
-pub on_ok : {V E : Type 0} {P Q : Type 0} (r : Result V E) → OnOk r P → (P → Q) → OnOk r Q
-on_ok (Ok v) h f = f h
-on_ok (Err e) h f = tt

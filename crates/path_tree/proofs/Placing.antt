@@ -2,6 +2,7 @@
 use Rattle.std.proofs.Common.{◌≡◌, ℕ, ◌==◌, Bool, true, false, cond, not, [], ◌∷◌, ◌++◌, length, drop, refl, sym, ap, ◌∙◌, Option, Some, None, true≢false, bytes_eq, eq-eqb, append-nil, append_assoc}
 use Rattle.std.specs.Prelude.{◌&&◌, ◌||◌}
 use Rattle.std.proofs.lemmas.Slice.Eq.{bytes_eq-Decides}
+use Rattle.std.proofs.Math.Bool.{and-false}
 use Rattle.plain_model.specs.declared.operation.Entry.{Entry}
 use Rattle.plain_model.specs.Paths.{Bytes, is_empty, is_below, is_at_or_below}
 use Rattle.plain_model.specs.Trees.{TreeOf, Tree, at}
@@ -91,10 +92,6 @@ places_way p m clear old mid new some below cleared q =
     ∙ ap (λ o. cond (clear && bytes_eq (name_of p) (key_of q)) None o) (below q)
     ∙ by (bytes_eq (key_of p) (key_of q)) refl
   where
-    and_false : (t : Bool) → (t && false) ≡ false
-    and_false true = refl
-    and_false false = refl
-
     by : (t : Bool) → bytes_eq (key_of p) (key_of q) ≡ t
         → cond (clear && bytes_eq (name_of p) (key_of q)) None
         (cond t (expected (rest_of p) m clear (at old q) (rest_of q)) (at old q)) ≡ expected p m clear (at old q) q
@@ -102,7 +99,7 @@ places_way p m clear old mid new some below cleared q =
         let same : key_of p ≡ key_of q = (bytes_eq-Decides (key_of p) (key_of q)).0 e in
         ap (λ (k : Bytes). cond (clear && bytes_eq (name_of p) k) None (expected (rest_of p) m clear (at old q) (rest_of q))) (sym same)
         ∙ ap (λ t. cond (clear && t) None (expected (rest_of p) m clear (at old q) (rest_of q))) (name_apart p some)
-        ∙ ap (λ t. cond t None (expected (rest_of p) m clear (at old q) (rest_of q))) (and_false clear)
+        ∙ ap (λ t. cond t None (expected (rest_of p) m clear (at old q) (rest_of q))) (and-false clear)
         ∙ sym (expected_below p m clear (at old q) q same)
     by false e =
         ap (λ t. cond (clear && t) None (at old q)) (on_the_way p q e)

@@ -7,6 +7,7 @@ use Rattle.std.proofs.lemmas.List.Folds.{list_any-append}
 use Rattle.std.proofs.lemmas.Option.{none-some, same_Some}
 use Rattle.std.proofs.lemmas.List.Sums.{sum_by-cons}
 use Rattle.std.proofs.lemmas.Bool.Decides.{nat_tests}
+use Rattle.std.proofs.lemmas.Bool.{lt-ltb}
 use Rattle.plain_model.specs.declared.event.PlainEvent.{PlainEvent}
 use Rattle.plain_model.specs.declared.event.PlainEvent.TheVariants.{Blob, Commit, Tag, Reset, Pass}
 use Rattle.plain_model.specs.Histories.{nodes}
@@ -38,9 +39,6 @@ tally_less f es k =
     let parts : tally f (take k es ++ drop k es) ≡ tally f es = ap (tally f) (take-append-drop k es) in
     let both = tally_append f (take k es) (drop k es) in
     omega arith
-
-pub more_than : (most n : ℕ) → most < n → nat_lt most n ≡ true
-more_than most n h = grind (arith, nat_tests)
 
 -- events weigh no less than what they have
 pub ops_weight : (es : List PlainEvent) → length (ops_along (nodes es)) ≤ weight_of es
@@ -75,7 +73,7 @@ totals Aliases es = aliases_counted es
 -- above a limit it stays above
 pub sum_above : (most counted more : ℕ) (s : Sum) → IsSum most counted s → s.is_above ≡ true → IsSum most (counted + more) (record { left = 0; is_above = true })
 sum_above most counted more s h it = record {
-  above = sym (more_than most (counted + more) (let low = passed most counted (sym h.above ∙ it) in omega arith));
+  above = sym (lt-ltb most (counted + more) (let low = passed most counted (sym h.above ∙ it) in omega arith));
   left = λ is. absurd (true≢false is);
 }
   where
@@ -85,7 +83,7 @@ sum_above most counted more s h it = record {
 -- it comes above
 pub sum_passed : (most counted more : ℕ) (s : Sum) → IsSum most counted s → s.is_above ≡ false → s.left < more → IsSum most (counted + more) (record { left = 0; is_above = true })
 sum_passed most counted more s h no_it over = record {
-  above = sym (more_than most (counted + more) (let whole = h.left no_it in omega arith));
+  above = sym (lt-ltb most (counted + more) (let whole = h.left no_it in omega arith));
   left = λ is. absurd (true≢false is);
 }
 

@@ -3,6 +3,7 @@ use Rattle.std.proofs.Common.{◌≡◌, ◌∙◌, ℕ, suc, ◌≤◌, Bool, t
 use Rattle.std.proofs.lemmas.Bool.{cases_Bool, cond-false, cond-true}
 use Rattle.std.proofs.lemmas.List.{take-append-drop}
 use Rattle.std.specs.Prelude.{slice_get}
+use Rattle.std.proofs.lemmas.List.Elements.{filter-append}
 use Rattle.plain_model.specs.declared.id.AnyId.{AnyId}
 use Rattle.plain_model.specs.declared.event.PlainEvent.{PlainEvent}
 use Rattle.plain_model.specs.Lookups.{find_event, id_of, same_id}
@@ -34,13 +35,6 @@ absent_filtered test id (x ∷ es) h =
       | inr no_it ↦ rw no_it (absent_filtered test id es rest.1)
     ]
 
-pub filter_append : (test : PlainEvent → Bool) (xs ys : List PlainEvent) → filter test (xs ++ ys) ≡ filter test xs ++ filter test ys
-filter_append test [] ys = refl
-filter_append test (x ∷ xs) ys = elim (cases_Bool (test x)) [
-  | inl it ↦ rw it (ap (λ zs. x ∷ zs) (filter_append test xs ys))
-  | inr no_it ↦ rw no_it (filter_append test xs ys)
-]
-
 pub filter_kept : (keep : PlainEvent → Bool) (e : PlainEvent) (ys : List PlainEvent) → keep e ≡ true → filter keep (e ∷ ys) ≡ e ∷ filter keep ys
 filter_kept keep e ys stays = cond-true (keep e) (e ∷ filter keep ys) (filter keep ys) stays
 
@@ -70,7 +64,7 @@ module _ (keep : PlainEvent → Bool) (p g : PlainEvent → PlainEvent) where
     further : so_far keep p g (suc k) events ≡ map g (front ++ filter keep (e ∷ [])) ++ map p rest
     further =
         ap (λ (xs : List PlainEvent). map g (filter keep xs) ++ map p rest) (take_item events k e is)
-        ∙ ap (λ (xs : List PlainEvent). map g xs ++ map p rest) (filter_append keep (take k events) (e ∷ []))
+        ∙ ap (λ (xs : List PlainEvent). map g xs ++ map p rest) (filter-append keep (take k events) (e ∷ []))
 
     -- one that goes
     pub step_gone : keep e ≡ false → so_far keep p g k events ≡ so_far keep p g (suc k) events

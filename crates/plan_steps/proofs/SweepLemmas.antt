@@ -2,12 +2,13 @@
 use Rattle.std.proofs.Common.{◌≡◌, ◌∙◌, ℕ, suc, ◌<◌, Bool, true, false, cond, not, ◌||◌, inl, inr, ◌⊎◌, List, [], ◌∷◌, ◌++◌, Some, None, refl, sym, ap, subst, length, get_or, take, arith, append-nil, append_assoc, filter, flat_map, true≢false}
 use Rattle.std.proofs.Math.Bool.{or-false, or-true}
 use Rattle.std.proofs.Math.ListN.{set}
-use Rattle.std.proofs.lemmas.Bool.{and_from, and_parts, and_right, cases_Bool, cases_eq, false_from_ne_true, or_cases, or_left, or_right}
+use Rattle.std.proofs.lemmas.Bool.{and_from, and_parts, and_right, cases_Bool, cases_eq, false_from_ne_true, or_cases, or_left, or_right, not-true}
 use Rattle.std.proofs.lemmas.List.{length-replicate, get_or-set_other, get_or-set_same, length-set}
 use Rattle.std.proofs.lemmas.List.Folds.{list_any-append}
 use Rattle.std.proofs.lemmas.Option.{none-some, same_Some}
 use Rattle.std.specs.List.{list_any}
 use Rattle.std.specs.Prelude.{map, replicate, slice_get}
+use Rattle.std.proofs.lemmas.List.Elements.{filter-append}
 use Rattle.plain_model.specs.declared.id.AnyId.{AnyId}
 use Rattle.plain_model.specs.declared.id.AnyId.TheVariants as any
 use Rattle.plain_model.specs.declared.event.PlainEvent.{PlainEvent}
@@ -21,7 +22,6 @@ use Rattle.edit_laws.specs.Sweeping.{is_left_over, is_named, swept}
 use Rattle.graph_walk.proofs.FlagLemmas.{no_flag}
 use Rattle.graph_walk.proofs.PlaceLemmas.{place_found, place_within}
 use Rattle.plan_steps.specs.Flags.{AreCandidates, FlagsAdd, FlagsAll, FlagsIds, FlagsNamed, FlagsSome, KeepNames, event_blobs}
-use Rattle.plan_steps.proofs.Passes.{filter_append}
 
 -- ---- flags that are added
 
@@ -138,11 +138,7 @@ over_parts : (old new : List PlainEvent) (e : PlainEvent) → is_left_over old n
     (list_any (λ d. is_listed (id_of e) (event_blobs d)) old ≡ true) × (list_any (λ d. is_listed (id_of e) (event_blobs d)) new ≡ false)
 over_parts old new (Blob n mark bytes) t =
     let parts = and_parts (is_named old n) (not (is_named new n)) t in
-    (sym (named_by_ops n old) ∙ parts.0, sym (named_by_ops n new) ∙ not_so (is_named new n) parts.1)
-  where
-    not_so : (b : Bool) → not b ≡ true → b ≡ false
-    not_so true h = absurd (true≢false (sym h))
-    not_so false h = refl
+    (sym (named_by_ops n old) ∙ parts.0, sym (named_by_ops n new) ∙ not-true (is_named new n) parts.1)
 over_parts old new (Commit n mark branch author committer encoding comment parents ops aliases) t = absurd (true≢false (sym t))
 over_parts old new (Tag n name target tagger comment mark) t = absurd (true≢false (sym t))
 over_parts old new (Reset n branch target) t = absurd (true≢false (sym t))
@@ -239,12 +235,12 @@ ids_push events ids own flags once so is k e at listed = elim (or_cases (is_list
 pub filter_in : (p : PlainEvent → Bool) (es : List PlainEvent) (k : ℕ) (e : PlainEvent) → slice_get es k ≡ Some e → p e ≡ true →
     filter p (take (suc k) es) ≡ filter p (take k es) ++ e ∷ []
 filter_in p es k e at it =
-    ap (filter p) (take_item es k e at) ∙ filter_append p (take k es) (e ∷ []) ∙ ap (λ b. filter p (take k es) ++ cond b (e ∷ []) []) it
+    ap (filter p) (take_item es k e at) ∙ filter-append p (take k es) (e ∷ []) ∙ ap (λ b. filter p (take k es) ++ cond b (e ∷ []) []) it
 
 pub filter_out : (p : PlainEvent → Bool) (es : List PlainEvent) (k : ℕ) (e : PlainEvent) → slice_get es k ≡ Some e → p e ≡ false →
     filter p (take (suc k) es) ≡ filter p (take k es)
 filter_out p es k e at out =
-    ap (filter p) (take_item es k e at) ∙ filter_append p (take k es) (e ∷ []) ∙ ap (λ b. filter p (take k es) ++ cond b (e ∷ []) []) out
+    ap (filter p) (take_item es k e at) ∙ filter-append p (take k es) (e ∷ []) ∙ ap (λ b. filter p (take k es) ++ cond b (e ∷ []) []) out
     ∙ append-nil (filter p (take k es))
 
 pub flags_push : (events named : List PlainEvent) (d : PlainEvent) (flags : List Bool) → FlagsAll events named flags → FlagsIds events (event_blobs d) flags →

@@ -1,5 +1,5 @@
 -- The ways back and forward of commits, event by event.
-use Rattle.std.proofs.Common.{◌≡◌, ◌∙◌, ℕ, suc, ◌<◌, Bool, true, false, cond, not, ◌||◌, inl, inr, List, [], ◌∷◌, ◌++◌, Option, Some, None, refl, sym, ap, subst, length, get_or, take, drop, arith, true≢false}
+use Rattle.std.proofs.Common.{◌≡◌, ◌∙◌, ℕ, suc, ◌<◌, Bool, true, false, cond, ◌||◌, inl, inr, List, [], ◌∷◌, ◌++◌, Option, Some, None, refl, sym, ap, subst, length, get_or, take, drop, arith}
 use Rattle.std.proofs.Math.ListN.{set}
 use Rattle.std.proofs.Math.Bool.{or-false, or-true}
 use Rattle.std.proofs.lemmas.Bool.{cases_Bool, cases_eq, cond-true, cond-false, false_from_ne_true}
@@ -96,10 +96,6 @@ is_placed events c place there =
 -- a flag of a commit says whether it is removed
 pub removed_at : (set : List AnyId) (c : ℕ) (e : PlainEvent) (flag : Bool) → commit_id e ≡ Some c → flag ≡ is_listed (id_of e) set → flag ≡ is_removed set c
 removed_at set c e flag is h = h ∙ ap (λ id. is_listed id set) (sym (own_commit c e is))
-
-pub not_so : (b : Bool) → not b ≡ true → b ≡ false
-not_so true h = absurd (true≢false (sym h))
-not_so false h = refl
 
 -- ---- commits that are led one way
 

@@ -2,6 +2,7 @@
 use Rattle.std.proofs.Common.{◌≡◌, Bool, true, false, List, [], ◌∷◌, refl, sym, ◌∙◌, ap, subst, inl, inr}
 use Rattle.std.specs.Prelude.{◌||◌}
 use Rattle.std.specs.List.{list_any}
+use Rattle.std.proofs.Math.Bool.{or-false}
 use Rattle.stream_grammar.specs.declared.lines.Word.{Word}
 use Rattle.stream_grammar.specs.declared.lines.Word.TheVariants as word
 use Rattle.production_laws.specs.Productions.{Item, Form, lines_of, Fit, AreForms, is_promise, IsEnd}
@@ -60,10 +61,6 @@ or_assoc : (a b c : Bool) → (a || (b || c)) ≡ ((a || b) || c)
 or_assoc true b c = refl
 or_assoc false b c = refl
 
-or_false : (a : Bool) → (a || false) ≡ a
-or_false true = refl
-or_false false = refl
-
 pub begun : (promised : Bool) (w : Word) (ws : List Word) → Stream promised (w ∷ ws) → Begun promised w ws
 begun promised w ws ([], rest, is, inl e) = let x = head_is w word.Done ws [] (is ∙ e) in ByDone x.0 x.1
 begun promised w ws ([], rest, is, inr (unpromised, e)) = absurd (let no : ◌≡◌ {A = List Word} (w ∷ ws) [] = is ∙ e in cc)
@@ -102,8 +99,8 @@ no_first f more fit = go (subst (λ (items : List Item). Fit items [] more) (lin
 
 pub over : (promised : Bool) → Stream promised [] → promised ≡ false
 over promised ([], rest, is, inl e) = absurd (let no : ◌≡◌ {A = List Word} [] (word.Done ∷ []) = is ∙ e in cc)
-over promised ([], rest, is, inr (unpromised, e)) = sym (or_false promised) ∙ unpromised
+over promised ([], rest, is, inr (unpromised, e)) = sym (or-false promised) ∙ unpromised
 over promised (f ∷ fs, rest, (more, fit, are), end) = absurd (no_first f more fit)
 
 pub is_over : (promised : Bool) → promised ≡ false → Stream promised []
-is_over promised e = ([], [], refl, inr (or_false promised ∙ e, refl))
+is_over promised e = ([], [], refl, inr (or-false promised ∙ e, refl))

@@ -3,7 +3,7 @@ use Rattle.std.proofs.Common.{◌≡◌, ℕ, suc, ◌+◌, ◌≤◌, ◌<◌, 
 use Rattle.std.specs.Prelude.{◌||◌, ◌&&◌, ◌==◌, unwrap_or}
 use Rattle.std.specs.List.{AllByRecursion, list_any}
 use Rattle.std.specs.Map.{lookup}
-use Rattle.std.proofs.lemmas.Bool.{cases_Bool, and_parts, or_cases, or_left, or_right, or_parts, not-true, cond-true, cond-false}
+use Rattle.std.proofs.lemmas.Bool.{cases_Bool, and_parts, or_cases, or_left, or_right, or_parts, not-true, cond-true, cond-false, lt-ltb}
 use Rattle.std.proofs.lemmas.Bool.Decides.{nat_tests}
 use Rattle.std.proofs.lemmas.List.Folds.{list_any-append}
 use Rattle.plain_model.specs.declared.fault.Fault.{Fault}
@@ -146,9 +146,6 @@ numbered k (u ∷ us) d =
           (numbered (suc k) us parts.1),
     )
 
-lt_true : (a b : ℕ) → a < b → nat_lt a b ≡ true
-lt_true a b h = grind (arith, nat_tests)
-
 -- ---- the line of a history
 
 module _ (set : List AnyId) (events : List PlainEvent) (h : IsSound events) (sel : IsSelection events set) (v : ℕ) (vs : List ℕ) (w : ℕ) (ws : List ℕ) (is_vs : listed set events ≡ v ∷ vs) (is_ws : chosen set ≡ w ∷ ws) (line : line_fault events v vs ≡ None) where
@@ -271,7 +268,7 @@ module _ (set : List AnyId) (events : List PlainEvent) (h : IsSound events) (sel
   number_out x l = ap (λ (o : Option ℕ). elim o [ Some k ↦ low v + k | None ↦ low x + cond (nat_lt (low v) (low x)) (suc (length ws)) 0 ]) (none_number 0 (w ∷ ws) x (in_ws x ∙ l))
 
   number_high : (x : ℕ) → is_listed (any.Commit x) set ≡ false → low v < low x → number x ≡ low x + suc (length ws)
-  number_high x l up = number_out x l ∙ ap (λ b. low x + cond b (suc (length ws)) 0) (lt_true (low v) (low x) up)
+  number_high x l up = number_out x l ∙ ap (λ b. low x + cond b (suc (length ws)) 0) (lt-ltb (low v) (low x) up)
 
   number_low : (x : ℕ) → is_listed (any.Commit x) set ≡ false → low x ≤ low v → number x ≡ low x
   number_low x l down = let is = number_out x l ∙ ap (λ b. low x + cond b (suc (length ws)) 0) (not_many (low v) (low x) down) in omega arith

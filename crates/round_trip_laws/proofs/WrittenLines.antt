@@ -4,6 +4,7 @@ use Rattle.std.specs.Prelude.{◌==◌, ◌&&◌, ◌||◌, IsTrue}
 use Rattle.std.specs.List.{list_all, list_any}
 use Rattle.std.specs.Map.{lookup}
 use Rattle.std.proofs.lemmas.Bool.{cond-true, and_parts, or_from, cond-false}
+use Rattle.std.proofs.Math.Bool.{and-false}
 use Rattle.plain_model.specs.declared.fault.Why.{Why}
 use Rattle.plain_model.specs.declared.fault.Why.TheVariants.{BadName, RepeatedMark, UnknownMark, LeftOut}
 use Rattle.plain_model.specs.declared.event.PlainEvent.{PlainEvent}
@@ -188,17 +189,13 @@ none_of_digits test h (b ∷ bs) e =
     let parts = and_parts (is_digit b) (list_all is_digit bs) e in
     or_from (test b) (list_any test bs) (h b parts.0) (none_of_digits test h bs parts.1)
 
-and_false : (t : Bool) → (t && false) ≡ false
-and_false true = refl
-and_false false = refl
-
 -- a mark is none of the references that are left out
 mark_kept : (mark : ℕ) → IsMark mark → is_left_out_ref (marked mark) ≡ false
 mark_kept mark h =
     let digits = decimal mark in
     or_from (list_any (λ b. (b == 94) || (b == 126)) (marked mark)) (((length (marked mark) == 40) || (length (marked mark) == 64)) && list_all is_any_hex (marked mark))
     (none_of_digits (λ b. (b == 94) || (b == 126)) (λ b d. let low = digit_at_most b d in or_from (b == 94) (b == 126) (ne_eqb b 94 (λ e. absurd (omega arith))) (ne_eqb b 126 (λ e. absurd (omega arith)))) digits (mark_numeral mark h).all)
-    (and_false ((length (marked mark) == 40) || (length (marked mark) == 64)))
+    (and-false ((length (marked mark) == 40) || (length (marked mark) == 64)))
 
 -- the commit that its mark names
 pub ref_again : (done : List PlainEvent) (aliases : List (ℕ × ℕ)) (mark c : ℕ) → IsMark mark → commit_marked done mark ≡ Some c → ref_in done aliases (marked mark) ≡ Ok c

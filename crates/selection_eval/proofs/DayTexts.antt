@@ -1,8 +1,9 @@
 -- Texts of days and moments.
-use Rattle.std.proofs.Common.{◌≡◌, ℕ, zero, suc, ◌<◌, ◌≤◌, Bool, true, false, List, [], ◌∷◌, length, get_or, length-drop, Option, Some, None, Err, inl, inr, refl, ap, ◌-◌, arith}
-use Rattle.std.specs.Prelude.{◌&&◌, ◌/◌, take, drop, if◌then◌else◌}
+use Rattle.std.proofs.Common.{◌≡◌, ℕ, zero, suc, ◌<◌, ◌≤◌, false, List, [], ◌∷◌, length, get_or, length-drop, Option, Some, None, Err, inl, inr, refl, ap, ◌-◌, arith}
+use Rattle.std.specs.Prelude.{◌/◌, take, drop, if◌then◌else◌}
 use Rattle.plain_model.specs.Paths.{Bytes}
 use Rattle.std.proofs.lemmas.Bool.{cases_Bool}
+use Rattle.std.proofs.Math.Bool.{and-false}
 use Rattle.plain_model.specs.declared.event.PlainEvent.{PlainEvent}
 use Rattle.plain_model.specs.declared.fault.Fault.TheVariants as fault
 use Rattle.civil_dates.specs.Dates.{civil_day, date_text, day_text}
@@ -19,15 +20,11 @@ short_rest n [] h = go n
 short_rest zero (b ∷ text) h = absurd (omega arith)
 short_rest (suc n) (b ∷ text) h = short_rest n text (omega arith)
 
-and_false : (b : Bool) → (b && false) ≡ false
-and_false true = refl
-and_false false = refl
-
 -- a stamp has 21 bytes or more
 pub shorter : (text : Bytes) → length text < 21 → is_stamp text ≡ false
 shorter text h =
     let rest : part 20 1 text ≡ [] = short_rest 20 text (omega arith) in
-    rw rest (and_false (is_moment (take 20 text)))
+    rw rest (and-false (is_moment (take 20 text)))
 
 -- ---- the last `#`
 

@@ -1,12 +1,13 @@
 -- Parts and unions of lists without repeats are without repeats.
 use Rattle.std.proofs.Common.{◌≡◌, Bool, true, false, not, List, [], ◌∷◌, map, refl}
 use Rattle.std.specs.Prelude.{◌||◌, filter, if◌then◌else◌}
+use Rattle.std.proofs.lemmas.Bool.{not-true}
 use Rattle.plain_model.specs.Lookups.{id_of, is_listed, same_id}
 use Rattle.plain_model.specs.declared.id.AnyId.{AnyId}
 use Rattle.plain_model.specs.declared.event.PlainEvent.{PlainEvent}
 use Rattle.event_sets.specs.Once.{IsOnce, are_once}
 use Rattle.event_sets.specs.Sets.{Ids, common, passing}
-use Rattle.event_sets.proofs.OnceLemmas.{both_parts, either_off, not_so, once_part}
+use Rattle.event_sets.proofs.OnceLemmas.{both_parts, either_off, once_part}
 use Rattle.selection_eval.specs.Given.{HaveOwnIds}
 
 -- ---- tests
@@ -34,7 +35,7 @@ pub once_passing : (test : PlainEvent → Bool) (events : List PlainEvent) → H
 once_passing test [] h = refl
 once_passing test (e ∷ events) h =
     let apart = both_parts (not (is_listed (id_of e) (map id_of events))) (are_once (map id_of events)) h in
-    let off = not_so (is_listed (id_of e) (map id_of events)) apart.0 in
+    let off = not-true (is_listed (id_of e) (map id_of events)) apart.0 in
     go (test e) (unlisted_passing (id_of e) test events off) (once_passing test events apart.1)
   where
     go : (b : Bool) → is_listed (id_of e) (passing test events) ≡ false → IsOnce (passing test events)

@@ -3,6 +3,7 @@ use Rattle.std.proofs.Common.{◌≡◌, ℕ, zero, suc, ◌+◌, ◌-◌, ◌�
 use Rattle.std.proofs.Common.{Err, refl, sym, ◌∙◌, ap, subst, inl, inr, append_assoc, append-nil, arith, zero-add}
 use Rattle.std.specs.Prelude.{◌⊎◌}
 use Rattle.std.proofs.lemmas.Bool.{eqb-true}
+use Rattle.std.proofs.Math.Seq.{take-length, drop-length}
 use Rattle.plain_model.specs.Paths.{Bytes}
 use Rattle.selection_parser.specs.Plain.{PlainSelection, near}
 use Rattle.selection_parser.specs.Spelling.{Spells, is_blank, ends_here, IsSelection, IsFront, Finds, Refuses}
@@ -369,19 +370,11 @@ refused column = Err column
 pub refused_so : (text : Bytes) (column : ℕ) → refused column ≡ selection_at text → Refuses text column
 refused_so text column h = refuses text column (sym h)
 
-take_whole : (xs : Bytes) → take (length xs) xs ≡ xs
-take_whole [] = refl
-take_whole (x ∷ xs) = ap (λ t. x ∷ t) (take_whole xs)
-
-drop_whole : (xs : Bytes) → drop (length xs) xs ≡ []
-drop_whole [] = refl
-drop_whole (x ∷ xs) = drop_whole xs
-
 whole_there : (text : Bytes) (x : PlainSelection) → Spells text x → IsSelection text (length text) x
 whole_there text x h = record {
   within = omega arith;
-  spelled = subst (λ t. Spells t x) (sym (take_whole text)) h;
-  ends = ap ends_here (drop_whole text);
+  spelled = subst (λ t. Spells t x) (sym (take-length text)) h;
+  ends = ap ends_here (drop-length text);
 }
 
 -- a text spells one selection at most

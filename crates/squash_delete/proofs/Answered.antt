@@ -2,7 +2,7 @@
 use Rattle.std.proofs.Common.{◌≡◌, ◌∙◌, ℕ, zero, Bool, true, false, cond, not, inl, inr, List, [], ◌∷◌, ◌++◌, flat_map, Option, Some, None, Result, Ok, Err, refl, sym, ap, subst, suc, ◌≤◌, ◌<◌, filter, arith, length-append, map, true≢false}
 use Rattle.std.specs.List.{list_any}
 use Rattle.std.specs.Prelude.{is_some, nat_lt, option_and_then, length, slice_get}
-use Rattle.std.proofs.lemmas.Bool.{cases_Bool, or_left, or_right}
+use Rattle.std.proofs.lemmas.Bool.{cases_Bool, or_left, or_right, lt-ltb}
 use Rattle.std.proofs.lemmas.Grind.{flat_map-append}
 use Rattle.std.proofs.lemmas.List.Folds.{list_any-append}
 use Rattle.std.proofs.lemmas.Option.{none-some, same_Some}
@@ -47,7 +47,7 @@ use Rattle.squash_delete.specs.Sources.{count_ops}
 use Rattle.plan_steps.specs.Targets.{AreMoves, lost_target, moving, target_for}
 use Rattle.squash_delete.specs.declared.counting.Left.{Left}
 use Rattle.squash_delete.specs.declared.counting.Left.TheVariants.{All, ManyOperations}
-use Rattle.plan_steps.proofs.Counting.{any_item, more_than}
+use Rattle.plan_steps.proofs.Counting.{any_item}
 use Rattle.edit_laws.proofs.Limits.{not_many}
 use Rattle.squash_delete.proofs.JudgedLemmas.{judged_alike}
 use Rattle.plan_steps.proofs.LeavingLemmas.{left_staying}
@@ -273,4 +273,4 @@ judged_fault how set events h none old new ManyOperations why l some =
   where
     passed : (left : List PlainEvent) → length left ≤ MAX_EVENTS → MAX_OPERATIONS < length (ops_along (nodes left)) →
         limit_passed l.0 left ≡ Some (fault.Limit limit.Operations MAX_OPERATIONS)
-    passed left short many = rw (not_many MAX_EVENTS (length left) short, more_than MAX_OPERATIONS (length (ops_along (nodes left))) many) refl
+    passed left short many = rw (not_many MAX_EVENTS (length left) short, lt-ltb MAX_OPERATIONS (length (ops_along (nodes left))) many) refl

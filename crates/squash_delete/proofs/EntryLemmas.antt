@@ -1,7 +1,6 @@
 -- What is noted of some commits, by the places of entries, and of one commit after another.
 use Rattle.std.proofs.Common.{◌≡◌, ◌∙◌, ℕ, zero, suc, ◌<◌, ◌≤◌, true, false, cond, inl, inr, ◌⊎◌, List, [], ◌∷◌, ◌++◌, Some, refl, sym, ap, subst, length, get_or, arith, eqb-true, ltb, ltb-true, ltb-false}
-use Rattle.std.proofs.lemmas.Bool.{cases_Bool, cases_eq, eqb-false}
-use Rattle.std.proofs.lemmas.Bool.Decides.{nat_tests}
+use Rattle.std.proofs.lemmas.Bool.{cases_Bool, cases_eq, eqb-false, ltb-true}
 use Rattle.std.specs.List.Sorted.{IsNonDecreasingBy, IsPartitionPoint}
 use Rattle.std.specs.Prelude.{◌==◌, nat_lt, slice_get}
 use Rattle.plain_model.specs.declared.id.AnyId.{AnyId}
@@ -73,9 +72,6 @@ module _ (count : ℕ) (xs : List Entry) (are : AreEntries count xs) where
 
 -- ---- halving
 
-nat_lt_true : (a b : ℕ) → nat_lt a b ≡ true → a < b
-nat_lt_true a b h = grind (arith, nat_tests)
-
 module _ (xs : List Entry) (i place : ℕ) (point : IsPartitionPoint (λ (x : Entry). ltb x.place place ≡ true) (λ (x : Entry). ltb x.place place ≡ false) xs i) where
   earlier : (j : ℕ) → j < length xs → j < i → (get_or xs j no_entry).place < place
   earlier j low under = ltb-true (get_or xs j no_entry).place place (point.0 j no_entry (omega arith) under)
@@ -86,7 +82,7 @@ module _ (xs : List Entry) (i place : ℕ) (point : IsPartitionPoint (λ (x : En
   -- the first entry that isn't earlier, if it has the place
   pub noted_found : (entry : Entry) → true ≡ nat_lt i (length xs) → entry ≡ get_or xs i entry → entry.place ≡ place → entry.link ≡ noted_at xs place
   noted_found entry within is own =
-      let low = nat_lt_true i (length xs) (sym within) in
+      let low = ltb-true i (length xs) (sym within) in
       let here : get_or xs i no_entry ≡ entry = any_default xs i no_entry entry low ∙ sym is in
       ap (λ (x : Entry). x.link) (sym here)
       ∙ sym (noted_first xs i place low (λ j under same. let below = earlier j (omega arith) under in absurd (omega arith))
@@ -101,7 +97,7 @@ module _ (xs : List Entry) (i place : ℕ) (point : IsPartitionPoint (λ (x : En
   pub noted_other : IsNonDecreasingBy (λ (x : Entry). x.place) xs → (entry : Entry) → true ≡ nat_lt i (length xs) → entry ≡ get_or xs i entry → (entry.place ≡ place → ⊥) →
       no_link ≡ noted_at xs place
   noted_other rising entry within is other =
-      let low = nat_lt_true i (length xs) (sym within) in
+      let low = ltb-true i (length xs) (sym within) in
       let here = ap (λ (x : Entry). x.place) (any_default xs i no_entry entry low ∙ sym is) in
       let from = later i (omega arith) low in
       sym (noted_none xs place (λ j under same. elim (either j i) [

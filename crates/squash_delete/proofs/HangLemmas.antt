@@ -1,7 +1,7 @@
 -- The removed commits that hang on others, and how many children commits have, event by event.
 use Rattle.std.proofs.Common.{◌≡◌, ◌∙◌, ℕ, zero, suc, ◌+◌, ◌<◌, ◌≤◌, Bool, true, false, cond, ◌&&◌, inl, inr, List, [], ◌∷◌, ◌++◌, Option, Some, None, refl, sym, ap, length, get_or, take, drop, arith, append-nil, map, filter, true≢false, length-append}
 use Rattle.std.proofs.Math.ListN.{set as set_at}
-use Rattle.std.proofs.lemmas.Bool.{cases_eq, cond-true, cond-false, false_from_ne_true}
+use Rattle.std.proofs.lemmas.Bool.{cases_eq, cond-true, cond-false, false_from_ne_true, lt-ltb}
 use Rattle.std.proofs.lemmas.List.{get_or-set_other, get_or-set_same, length-set, map-append}
 use Rattle.std.proofs.lemmas.List.Elements.{filter-append}
 use Rattle.std.proofs.lemmas.Option.{none-some, same_Some}
@@ -29,7 +29,6 @@ use Rattle.plain_model.specs.declared.policy.Lean.TheVariants as lean
 use Rattle.plain_model.specs.declared.policy.Push.TheVariants as push
 use Rattle.squash_delete.specs.Backing.{AreCountedTo, own_fault}
 use Rattle.squash_delete.specs.Hangings.{AreHungTo, hung}
-use Rattle.plan_steps.proofs.Counting.{more_than}
 use Rattle.edit_laws.proofs.Limits.{not_many}
 use Rattle.plan_steps.proofs.NodeLemmas.{node_of}
 use Rattle.plan_steps.proofs.WayLemmas.{is_placed, own_commit}
@@ -248,7 +247,7 @@ module _ (set : List AnyId) (events : List PlainEvent) where
   is_fork mark p [] first many = absurd (none-some p first)
   is_fork mark p (q ∷ ps) first many =
       cond-true (nat_lt 1 (first_children events q)) (Some (PushbackFork mark)) None
-      (ap (λ c. nat_lt 1 (first_children events c)) (same_Some q p first) ∙ more_than 1 (first_children events p) many)
+      (ap (λ c. nat_lt 1 (first_children events c)) (same_Some q p first) ∙ lt-ltb 1 (first_children events p) many)
 
   pub no_fork : (mark p : ℕ) (ps : List ℕ) → slice_get ps 0 ≡ Some p → first_children events p ≤ 1 → back_fault set events mark ps ≡ None
   no_fork mark p [] first few = absurd (none-some p first)

@@ -4,6 +4,7 @@ use Rattle.std.specs.Prelude.{◌||◌, ◌&&◌, nat_lt, slice_get, Ok, if◌th
 use Rattle.std.specs.List.{AllByRecursion, list_any}
 use Rattle.std.proofs.lemmas.List.Folds.{list_any-append}
 use Rattle.std.proofs.lemmas.Option.{none-some, same_Some}
+use Rattle.std.proofs.lemmas.Bool.{lt-ltb}
 use Rattle.plain_model.specs.declared.id.AnyId.{AnyId}
 use Rattle.plain_model.specs.declared.limit.TheConstants.{MAX_ALIASES, MAX_EVENTS, MAX_OPERATIONS, MAX_PARENTS}
 use Rattle.plain_model.specs.declared.fault.Fault.{Fault}
@@ -21,7 +22,6 @@ use Rattle.edit_laws.specs.Passing.{limit_fault}
 use Rattle.edit_laws.specs.Settling.{settle}
 use Rattle.edit_laws.specs.Sweeping.{is_left_over, is_named, swept}
 use Rattle.edit_laws.proofs.Lists.{none_passing, some_passing}
-use Rattle.plan_steps.proofs.Counting.{more_than}
 use Rattle.edit_laws.proofs.Limits.{not_many}
 use Rattle.edit_laws.proofs.Settles.{settled_sums}
 use Rattle.edit_laws.proofs.Sound.{in_parts}
@@ -227,7 +227,7 @@ module _ (set : List AnyId) (events : List PlainEvent) (takes : Takings) where
   some_long : (changes : List (ℕ × List ℕ)) (k : ℕ) (c : ℕ × List ℕ) → slice_get changes k ≡ Some c → MAX_PARENTS < length c.1 → list_any is_long changes ≡ true
   some_long [] k c is more = absurd (none-some c is)
   some_long (x ∷ cs) zero c is more =
-      ap (λ b. b || list_any is_long cs) (subst (λ y. is_long y ≡ true) (sym (same_Some x c is)) (more_than MAX_PARENTS (length c.1) more))
+      ap (λ b. b || list_any is_long cs) (subst (λ y. is_long y ≡ true) (sym (same_Some x c is)) (lt-ltb MAX_PARENTS (length c.1) more))
   some_long (x ∷ cs) (suc k) c is more = ap (λ b. is_long x || b) (some_long cs k c is more) ∙ or_true (is_long x)
     where
       or_true : (b : Bool) → b || true ≡ true

@@ -4,6 +4,7 @@ use Rattle.std.proofs.lemmas.Bool.{and_from, and_parts, cases_Bool, false_from_n
 use Rattle.std.proofs.lemmas.Grind.{flat_map-append}
 use Rattle.std.specs.List.{list_all, list_any}
 use Rattle.std.specs.Prelude.{IsTrue, is_some, option_map, slice_get, unwrap_or}
+use Rattle.std.proofs.lemmas.List.Elements.{filter-append}
 use Rattle.plain_model.specs.declared.id.AnyId.{AnyId}
 use Rattle.plain_model.specs.declared.id.AnyId.TheVariants as any
 use Rattle.plain_model.specs.declared.event.PlainEvent.{PlainEvent}
@@ -32,7 +33,6 @@ use Rattle.plan_steps.specs.Near.{AreReadyNear, is_near}
 use Rattle.squash_delete.proofs.ChainLemmas.{no_links}
 use Rattle.plan_steps.proofs.LeavingLemmas.{after_id, left_one, unremoved_parents}
 use Rattle.plan_steps.proofs.NearLemmas.{IsApart, is_apart, kept_on}
-use Rattle.plan_steps.proofs.Passes.{filter_append}
 
 -- ---- an event after others
 
@@ -174,7 +174,7 @@ module _ (left : PlainEvent → List PlainEvent) (own : LeavesOwn left) where
 
 filter_flat : (test : PlainEvent → Bool) (f : PlainEvent → List PlainEvent) (es : List PlainEvent) → filter test (flat_map f es) ≡ flat_map (λ e. filter test (f e)) es
 filter_flat test f [] = refl
-filter_flat test f (e ∷ es) = filter_append test (f e) (flat_map f es) ∙ ap (λ (xs : List PlainEvent). filter test (f e) ++ xs) (filter_flat test f es)
+filter_flat test f (e ∷ es) = filter-append test (f e) (flat_map f es) ∙ ap (λ (xs : List PlainEvent). filter test (f e) ++ xs) (filter_flat test f es)
 
 module _ (set : List AnyId) (events : List PlainEvent) (h : IsSound events) (taking : Takings) where
   abbrev still : PlainEvent → Bool

@@ -5,6 +5,7 @@ use Rattle.std.specs.List.{AllByRecursion, list_any}
 use Rattle.std.proofs.lemmas.Bool.{or_cases, or_left, or_right, and_from, and_parts, cond-true}
 use Rattle.std.proofs.lemmas.Bool.Decides.{nat_tests}
 use Rattle.std.proofs.lemmas.List.{reverse-append, reverse-reverse}
+use Rattle.std.proofs.lemmas.List.Elements.{filter-append}
 use Rattle.plain_model.specs.declared.fault.Fault.{Fault}
 use Rattle.plain_model.specs.declared.id.AnyId.{AnyId}
 use Rattle.plain_model.specs.declared.id.AnyId.TheVariants as any
@@ -40,12 +41,6 @@ use Rattle.squash_laws.proofs.Hung.{Holds, IsOnlyChild, back_first, back_gone, b
 use Rattle.squash_laws.proofs.Left.{one_left, one_moved}
 
 -- ---- lists
-
-filter-append : (f : Node → Bool) (xs ys : List Node) → filter f (xs ++ ys) ≡ filter f xs ++ filter f ys
-filter-append f [] ys = refl
-filter-append f (x ∷ xs) ys =
-    ap (λ (l : List Node). cond (f x) (x ∷ l) l) (filter-append f xs ys)
-    ∙ elim (f x) as (λ b. cond b (x ∷ (filter f xs ++ filter f ys)) (filter f xs ++ filter f ys) ≡ cond b (x ∷ filter f xs) (filter f xs) ++ filter f ys) [ true ↦ refl | false ↦ refl ]
 
 -- so many pass a test, whichever way they are counted
 kids_counted : (p : ℕ) (ns : List Node) → kids p ns ≡ length (filter (λ n. is_first p n.parents) ns)

@@ -1,4 +1,5 @@
 use Rattle.std.proofs.Common.{◌≡◌, ◌∙◌, ◌++◌, List, ℕ, Some, None, false, refl, ap, sym}
+use Rattle.std.proofs.lemmas.Result.{on_ok_weaker}
 use Rattle.plain_model.specs.declared.event.PlainEvent.{PlainEvent}
 use Rattle.plain_model.specs.declared.event.PlainEvent.TheVariants.{Blob, Commit, Tag, Reset, Pass}
 use Rattle.plain_model.specs.declared.id.AnyId.TheVariants as any
@@ -6,7 +7,6 @@ use Rattle.plain_model.specs.declared.operation.FileOp.{FileOp}
 use Rattle.plain_model.specs.Lookups.{id_of, is_listed}
 use Rattle.history_laws.specs.FirstParents.{ops_along}
 use Rattle.event_arena.specs.Changes.{changed, with_ops, with_parents, with_target}
-use Rattle.graph_walk.proofs.TurnLemmas.{on_ok}
 use Rattle.squash_laws.specs.Takings.{links}
 use Rattle.coalesce_laws.specs.Remaining.{parents_of_oldest}
 use Rattle.coalesce_simplify.specs.Joining.{end_of, joined_event}
@@ -32,7 +32,7 @@ returns-in-Commit c =
     let e = Commit v.id v.mark v.branch v.author v.committer v.encoding v.comment v.parents v.ops v.aliases in
     let stays : is_listed (any.Commit v.id) set ≡ false = ap (λ (y : PlainEvent). is_listed (id_of y) set) (sym v.is) ∙ sym (c.has_at.ensures x c.requires.event) ∙ c.if-has_at.false in
     let get : List ℕ → List FileOp → PlainEvent → PlainEvent = λ ps os y. with_parents (parents_of_oldest (links set events ps) ps) (with_ops (ops_along (links set events ps) ++ os) y) in
-    on_ok c.join_commit.result _ _ (λ is.
+    on_ok_weaker c.join_commit.result (λ is.
     is ∙ ap (λ (es : List PlainEvent). record plan { after = es })
     ((λ i. changed (any.Commit v.id) (get (c.as_slice.ensures i) (c.as_slice-in-Commit.ensures i)) plan.after)
     ∙ alike_of plan.after x e (get v.parents v.ops) (joined_event set events) v.is c.requires.found
@@ -48,7 +48,7 @@ returns-in-Tag c =
     let v = c.in-Tag in
     let e = Tag v.id v.name v.target v.tagger v.comment v.mark in
     let stays : is_listed (any.Tag v.id) set ≡ false = ap (λ (y : PlainEvent). is_listed (id_of y) set) (sym v.is) ∙ sym (c.has_at.ensures x c.requires.event) ∙ c.if-has_at.false in
-    on_ok c.move_target.result _ _ (λ is.
+    on_ok_weaker c.move_target.result (λ is.
     is ∙ ap (λ (es : List PlainEvent). record plan { after = es })
     (alike_of plan.after x e (with_target (end_of set events v.target)) (joined_event set events) v.is c.requires.found
     (tag_moved set events v.id v.name v.target v.tagger v.comment v.mark stays))) c.move_target.ensures
@@ -63,7 +63,7 @@ returns-in-Some c =
     let e = Reset v.id v.branch (Some c.in-Some.target) in
     let is_e : x ≡ e = v.is ∙ ap (λ t. Reset v.id v.branch t) c.in-Some.is in
     let stays : is_listed (any.Reset v.id) set ≡ false = ap (λ (y : PlainEvent). is_listed (id_of y) set) (sym v.is) ∙ sym (c.has_at.ensures x c.requires.event) ∙ c.if-has_at.false in
-    on_ok c.move_target-in-Some.result _ _ (λ is.
+    on_ok_weaker c.move_target-in-Some.result (λ is.
     is ∙ ap (λ (es : List PlainEvent). record plan { after = es })
     (alike_of plan.after x e (with_target (end_of set events c.in-Some.target)) (joined_event set events) is_e c.requires.found
     (reset_moved set events v.id v.branch c.in-Some.target stays))) c.move_target-in-Some.ensures

@@ -1,5 +1,6 @@
 use Rattle.std.proofs.Common.{◌≡◌, ◌∙◌, ◌++◌, [], List, ℕ, None, Some, flat_map, ap, sym, subst}
 use Rattle.std.specs.Prelude.{IfSome, slice_get}
+use Rattle.std.proofs.lemmas.Result.{on_ok_weaker}
 use Rattle.plain_model.specs.declared.event.PlainEvent.{PlainEvent}
 use Rattle.plain_model.specs.declared.id.AnyId.TheVariants as any
 use Rattle.plain_model.specs.declared.operation.FileOp.{FileOp}
@@ -7,7 +8,6 @@ use Rattle.plain_model.specs.Histories.{Node}
 use Rattle.plain_model.specs.Lookups.{find_event}
 use Rattle.history_laws.specs.FirstParents.{ops_along}
 use Rattle.event_arena.specs.Changes.{changed, with_ops, with_parents}
-use Rattle.graph_walk.proofs.TurnLemmas.{on_ok}
 use Rattle.manifest_cache.specs.Walks.{ops_at}
 use Rattle.squash_laws.specs.Takings.{links}
 use Rattle.plan_steps.specs.Depths.{parents_at}
@@ -47,5 +47,5 @@ returns c =
     let ops : c.in_ok-ops.ops ≡ ops_along before ++ os =
     c.in_ok-ops.ensures ∙ (λ i. flat_map (ops_at (c.events.ensures i)) (c.deref-2.ensures.value i) ++ os)
     ∙ ap (λ (l : List FileOp). l ++ os) (ops_walked set events before ws c.in_ok-commits.ensures) in
-    on_ok c.set_both.result _ _ (λ is.
+    on_ok_weaker c.set_both.result (λ is.
     is ∙ (λ i. record plan { after = changed (any.Commit c.args.commit) (λ event. with_parents (parents i) (with_ops (ops i) event)) plan.after })) c.set_both.ensures

@@ -1,11 +1,11 @@
 use Rattle.std.proofs.Common.{◌∙◌, List, ap, subst, sym}
 use Rattle.std.specs.Prelude.{IsSome}
+use Rattle.std.proofs.lemmas.Result.{on_ok_weaker}
 use Rattle.plain_model.specs.declared.event.PlainEvent.{PlainEvent}
 use Rattle.plain_model.specs.declared.id.AnyId.TheVariants as any
 use Rattle.plain_model.specs.Lookups.{find_event}
 use Rattle.event_arena.specs.Changes.{changed, with_ops, with_parents}
 use Rattle.event_arena.specs.Graphs.{Change}
-use Rattle.graph_walk.proofs.TurnLemmas.{on_ok}
 use Rattle.plan_steps.proofs.Steps.{changed_there, changed_twice, ops_id}
 use Rattle.coalesce_simplify.proofs.coalescing.set_both.Goals as goal
 
@@ -16,7 +16,7 @@ set_parents-requires c =
 
 pub returns : goal.returns
 returns c =
-    on_ok c.set_parents.result _ _ (λ is.
+    on_ok_weaker c.set_parents.result (λ is.
     is ∙ ap (λ (p : Change). record p { after = changed (any.Commit c.args.commit) (with_parents c.args.parents) p.after }) c.in_ok-set_ops.ensures.ok
     ∙ ap (λ (es : List PlainEvent). record c.args.plan.now { after = es })
     (changed_twice (any.Commit c.args.commit) (with_parents c.args.parents) (with_ops c.args.ops) (ops_id c.args.ops) c.args.plan.now.after)) c.set_parents.ensures.ok

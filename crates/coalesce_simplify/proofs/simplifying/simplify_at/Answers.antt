@@ -1,8 +1,8 @@
 use Rattle.std.proofs.Common.{◌≡◌, ◌∙◌, List, refl, sym, ap}
+use Rattle.std.proofs.lemmas.Result.{on_ok_weaker}
 use Rattle.plain_model.specs.declared.event.PlainEvent.{PlainEvent}
 use Rattle.plain_model.specs.Lookups.{find_event, id_of}
 use Rattle.event_arena.proofs.StepLemmas.{found_holds}
-use Rattle.graph_walk.proofs.TurnLemmas.{on_ok}
 use Rattle.simplify_laws.specs.Simplify.{simplified_event}
 use Rattle.coalesce_simplify.specs.Voiding.{simple_event}
 use Rattle.plan_steps.proofs.Steps.{changed_alike, kept_of}
@@ -15,7 +15,7 @@ returns-then-has_at c =
     let e = c.args.event.now in
     let set = c.args.chosen.now.set in
     let same = chosen_simple set e (sym (c.has_at.ensures e c.requires.event) ∙ c.if-has_at.true) in
-    on_ok c.simplify_one.result _ _ (λ is.
+    on_ok_weaker c.simplify_one.result (λ is.
     is ∙ ap (λ (es : List PlainEvent). record plan { after = es })
     (changed_alike (id_of e) simple_event (simplified_event set) plan.after (found_holds (find_event (id_of e) plan.after) e (λ x. simple_event x ≡ simplified_event set x) c.requires.found same))) c.simplify_one.ensures
 

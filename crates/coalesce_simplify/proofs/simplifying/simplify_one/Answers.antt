@@ -1,11 +1,11 @@
 use Rattle.std.proofs.Common.{◌≡◌, ◌∙◌, List, Option, refl, sym, ap, subst}
 use Rattle.std.specs.Prelude.{MatchOption}
+use Rattle.std.proofs.lemmas.Result.{on_ok_weaker}
 use Rattle.plain_model.specs.declared.operation.FileOp.{FileOp}
 use Rattle.plain_model.specs.declared.event.PlainEvent.{PlainEvent}
 use Rattle.plain_model.specs.declared.event.PlainEvent.TheVariants.{Commit}
 use Rattle.plain_model.specs.declared.id.AnyId.TheVariants as any
 use Rattle.event_arena.specs.Changes.{changed, with_ops}
-use Rattle.graph_walk.proofs.TurnLemmas.{on_ok}
 use Rattle.simplify_laws.specs.Simplify.{simpler}
 use Rattle.plan_steps.proofs.WayLemmas.{no_id}
 use Rattle.coalesce_simplify.specs.Voiding.{simple_event}
@@ -26,7 +26,7 @@ returns-in-Some c =
     let ops = c.as_slice.result.now in
     let Found : Option (List FileOp) → Type 0 = λ o. MatchOption o (simpler ops ≡ ops) (λ l. l ≡ simpler ops) in
     let left : c.in-Some.left ≡ simpler v.ops = subst Found c.in-Some.is c.in_ok-found.ensures ∙ ap simpler c.as_slice.ensures in
-    on_ok c.set_ops.result _ _ (λ is.
+    on_ok_weaker c.set_ops.result (λ is.
     is ∙ ap (λ (es : List PlainEvent). record plan { after = es })
     (ap (λ (ops : List FileOp). changed (any.Commit v.id) (with_ops ops) plan.after) left
     ∙ alike_of plan.after c.args.event.now e (with_ops (simpler v.ops)) simple_event v.is c.requires refl)) c.set_ops.ensures.ok

@@ -1,6 +1,7 @@
 use Rattle.std.proofs.Common.{◌≡◌, ◌∙◌, ℕ, List, [], Some, refl, sym, ap, subst}
 use Rattle.std.specs.List.{AllByRecursion, list_any}
 use Rattle.std.specs.Prelude.{IsSome, unwrap_or}
+use Rattle.std.proofs.lemmas.Result.{on_ok_weaker}
 use Rattle.plain_model.specs.declared.operation.FileOp.{FileOp}
 use Rattle.plain_model.specs.declared.event.PlainEvent.{PlainEvent}
 use Rattle.plain_model.specs.declared.event.PlainEvent.TheVariants.{Commit}
@@ -8,7 +9,6 @@ use Rattle.plain_model.specs.Histories.{begun, folded, tree}
 use Rattle.plain_model.specs.Soundness.{IsCommitOf}
 use Rattle.plain_model.specs.Trees.{Tree}
 use Rattle.event_arena.specs.Changes.{with_ops}
-use Rattle.graph_walk.proofs.TurnLemmas.{on_ok}
 use Rattle.expunge_laws.specs.Expunged.{replaced_event}
 use Rattle.expunge_laws.specs.Replaced.{replaced_all}
 use Rattle.expunge_laws.specs.Untouched.{may_touch}
@@ -61,7 +61,7 @@ returns-clause-changed c =
     ∙ ap (λ (ms : List Matches). replaced_all (matched_by ms) c.as_slice-3.result.now c.in_ok-begun.begun) c.may_any_touch.ensures.same
     ∙ ap (λ (l : List FileOp). replaced_all m l c.in_ok-begun.begun) c.as_slice-3.ensures
     ∙ ap (λ (t : Tree). replaced_all m x.ops t) (sym with_tree) in
-    on_ok c.set_ops.result _ _ (λ is.
+    on_ok_weaker c.set_ops.result (λ is.
     is ∙ ap (λ (es : List PlainEvent). record plan { after = es })
     (alike_of plan.after c.args.event.now e (with_ops c.in_ok-made.made) (replaced_event m c.args.events.now.list) x.is c.requires.found
     (ap (λ (l : List FileOp). Commit x.id x.mark x.branch x.author x.committer x.encoding x.comment x.parents l x.aliases) ops))) c.set_ops.ensures.ok

@@ -1,6 +1,7 @@
 use Rattle.std.proofs.Common.{◌≡◌, ◌∙◌, ℕ, List, ap, refl, sym, subst}
 use Rattle.std.proofs.lemmas.Option.{same_Some}
 use Rattle.std.specs.Prelude.{◌∷◌, IsSome, OnOk, is_some}
+use Rattle.std.proofs.lemmas.Result.{on_ok_weaker}
 use Rattle.plain_model.specs.declared.id.AnyId.TheVariants as any
 use Rattle.plain_model.specs.declared.operation.FileOp.{FileOp}
 use Rattle.plain_model.specs.declared.operation.FileOp.TheVariants.{DeleteAll}
@@ -9,7 +10,6 @@ use Rattle.plain_model.specs.declared.event.PlainEvent.TheVariants.{Commit}
 use Rattle.plain_model.specs.Lookups.{find_event, id_of}
 use Rattle.event_arena.specs.Changes.{changed, with_ops, with_parents}
 use Rattle.event_arena.specs.Graphs.{Change}
-use Rattle.graph_walk.proofs.TurnLemmas.{on_ok}
 use Rattle.plan_steps.proofs.Steps.{changed_there, changed_twice}
 use Rattle.path_expunge.specs.Fates.{begun_anew}
 use Rattle.path_expunge.proofs.FateLemmas.{not_anew, parents_id}
@@ -42,7 +42,7 @@ returns c event at =
     let G : PlainEvent → PlainEvent = λ y. begun_anew (with_parents ps y) in
     let ops : c.in_ok-made.made ≡ DeleteAll ∷ x.ops = c.in_ok-made.ensures ∙ ap (λ (l : List FileOp). DeleteAll ∷ l) c.as_slice.ensures in
     subst (λ (y : PlainEvent). OnOk c.set_ops.result (c.set_ops.new.self ≡ record plan { after = changed (id_of y) G plan.after })) (same_Some n event (sym c.nth.ensures.event ∙ at))
-    (on_ok c.set_ops.result _ _ (λ is.
+    (on_ok_weaker c.set_ops.result (λ is.
     is ∙ ap (λ (p : Change). record p { after = changed (any.Commit x.id) (with_ops c.in_ok-made.made) p.after }) c.in_ok-set_parents.ensures.ok
     ∙ ap (λ (es : List PlainEvent). record plan { after = es })
     (changed_twice (any.Commit x.id) (with_ops c.in_ok-made.made) (with_parents c.in_ok-copy.field-0) (parents_id c.in_ok-copy.field-0) plan.after

@@ -1,9 +1,9 @@
 use Rattle.std.proofs.Common.{◌∙◌, List, ap, map}
+use Rattle.std.proofs.lemmas.Result.{on_ok_weaker}
 use Rattle.plain_model.specs.declared.id.AnyId.{AnyId}
 use Rattle.plain_model.specs.declared.event.PlainEvent.{PlainEvent}
 use Rattle.event_arena.specs.Changes.{without_all}
 use Rattle.event_arena.specs.Graphs.{Change}
-use Rattle.graph_walk.proofs.TurnLemmas.{on_ok}
 use Rattle.path_expunge.specs.declared.fates.Fate.{Fate}
 use Rattle.path_expunge.specs.Fates.{all_given_way, fated}
 use Rattle.path_expunge.proofs.FateLemmas.{given_all, left_all}
@@ -16,7 +16,7 @@ returns c =
     let set = c.args.set.now in
     let ids = c.in_ok-prepared.prepared.ids in
     let table = c.in_ok-prepared.ensures.fates in
-    on_ok c.remove_all.result _ _ (λ is.
+    on_ok_weaker c.remove_all.result (λ is.
     is ∙ ap (λ (p : Change). record p { after = without_all ids p.after }) c.in_ok-give_all.ensures
     ∙ ap (λ (l : List PlainEvent). record plan { after = l })
     (ap (λ (fs : List Fate). without_all ids (all_given_way fs es)) c.deref.ensures.value

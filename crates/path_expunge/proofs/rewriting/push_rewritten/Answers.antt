@@ -1,7 +1,7 @@
 use Rattle.std.proofs.Common.{◌∙◌, ◌++◌, List, filter, not, ap, append_assoc}
+use Rattle.std.proofs.lemmas.Result.{on_ok_weaker}
 use Rattle.plain_model.specs.declared.operation.FileOp.{FileOp}
 use Rattle.plain_model.specs.Trees.{Tree, at, subtree}
-use Rattle.graph_walk.proofs.TurnLemmas.{on_ok}
 use Rattle.expunge_laws.specs.Replaced.{deletes_of, has_entry, puts_of, restricted}
 use Rattle.expunge_laws.specs.Matching.{Matches, matched_by}
 use Rattle.path_expunge.specs.Written.{gone_of}
@@ -15,7 +15,7 @@ returns-clause-made c =
     let new = c.args.new.now in
     let target = c.args.target.now in
     let come : List Matches → Tree → List FileOp = λ ms es. puts_of (filter (λ e. not (has_entry (at old e.0) e.1)) (restricted (matched_by ms) es)) in
-    on_ok c.push_new_entries.result _ _ (λ is.
+    on_ok_weaker c.push_new_entries.result (λ is.
     is
     ∙ ap (λ (es : Tree). c.push_deletes.new.made ++ come c.push_deletes.new.matching es) (c.as_slice-2.ensures ∙ c.in_ok-is.ensures)
     ∙ ap (λ (ms : List Matches). c.push_deletes.new.made ++ come ms (subtree target new)) c.push_deletes.ensures.same

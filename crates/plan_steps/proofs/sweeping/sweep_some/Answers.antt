@@ -1,9 +1,9 @@
 use Rattle.std.proofs.Common.{◌≡◌, ◌∙◌, [], List, length, ap, eqb-true, sym}
+use Rattle.std.proofs.lemmas.Result.{on_ok_weaker}
 use Rattle.plain_model.specs.declared.id.AnyId.{AnyId}
 use Rattle.plain_model.specs.declared.event.PlainEvent.{PlainEvent}
 use Rattle.event_arena.specs.Changes.{without_all}
 use Rattle.edit_laws.specs.Sweeping.{is_left_over, swept}
-use Rattle.graph_walk.proofs.TurnLemmas.{on_ok}
 use Rattle.plan_steps.proofs.SweepLemmas.{nil_of, without_none, without_passing}
 use Rattle.plan_steps.proofs.sweeping.sweep_some.Goals as goal
 
@@ -20,4 +20,4 @@ pub returns-clause-swept : goal.returns-clause-swept
 returns-clause-swept c =
     let p = c.args.plan.now in
     let after = ap (λ (ids : List AnyId). without_all ids p.after) c.in_ok-ids.ensures ∙ without_passing (is_left_over p.before p.after) p.after c.count-count.ensures.once in
-    on_ok c.remove_all.result _ _ (λ is. is ∙ ap (λ (es : List PlainEvent). record p { after = es }) after) c.remove_all.ensures.ok
+    on_ok_weaker c.remove_all.result (λ is. is ∙ ap (λ (es : List PlainEvent). record p { after = es }) after) c.remove_all.ensures.ok

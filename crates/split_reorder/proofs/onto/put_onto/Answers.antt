@@ -1,9 +1,9 @@
 use Rattle.std.proofs.Common.{◌∙◌, List, map, refl, ap, Some, None}
+use Rattle.std.proofs.lemmas.Result.{on_ok_weaker}
 use Rattle.plain_model.specs.declared.event.PlainEvent.{PlainEvent}
 use Rattle.plain_model.specs.declared.event.PlainEvent.TheVariants.{Blob, Commit, Tag, Reset, Pass}
 use Rattle.plain_model.specs.declared.id.AnyId.TheVariants as any
 use Rattle.event_arena.specs.Changes.{changed, with_parents, with_target}
-use Rattle.graph_walk.proofs.TurnLemmas.{on_ok}
 use Rattle.split_laws.specs.Split.{onto}
 use Rattle.split_reorder.specs.Copies.{put_onto}
 use Rattle.plan_steps.proofs.Steps.{alike_of, kept_of}
@@ -14,7 +14,7 @@ returns-in-Commit c =
     let plan = c.args.plan.now in
     let to = onto c.args.commit c.args.copy in
     let e = Commit c.in-Commit.id c.in-Commit.mark c.in-Commit.branch c.in-Commit.author c.in-Commit.committer c.in-Commit.encoding c.in-Commit.comment c.in-Commit.parents c.in-Commit.ops c.in-Commit.aliases in
-    on_ok c.move_child.result _ _ (λ is.
+    on_ok_weaker c.move_child.result (λ is.
     is ∙ ap (λ (es : List PlainEvent). record plan { after = es })
     (ap (λ ps. changed (any.Commit c.in-Commit.id) (with_parents (map to ps)) plan.after) c.as_slice.ensures
     ∙ alike_of plan.after c.args.event.now e (with_parents (map to c.in-Commit.parents)) (put_onto c.args.commit c.args.copy) c.in-Commit.is c.requires refl)) c.move_child.ensures
@@ -23,7 +23,7 @@ pub returns-in-Tag : goal.returns-in-Tag
 returns-in-Tag c =
     let plan = c.args.plan.now in
     let e = Tag c.in-Tag.id c.in-Tag.name c.in-Tag.target c.in-Tag.tagger c.in-Tag.comment c.in-Tag.mark in
-    on_ok c.move_target.result _ _ (λ is.
+    on_ok_weaker c.move_target.result (λ is.
     is ∙ ap (λ (es : List PlainEvent). record plan { after = es })
     (alike_of plan.after c.args.event.now e (with_target (onto c.args.commit c.args.copy c.in-Tag.target)) (put_onto c.args.commit c.args.copy) c.in-Tag.is c.requires refl)) c.move_target.ensures
 
@@ -32,7 +32,7 @@ returns-in-Some c =
     let plan = c.args.plan.now in
     let e = Reset c.in-Reset.id c.in-Reset.branch (Some c.in-Some.target) in
     let is_e = c.in-Reset.is ∙ ap (λ t. Reset c.in-Reset.id c.in-Reset.branch t) c.in-Some.is in
-    on_ok c.move_target-in-Some.result _ _ (λ is.
+    on_ok_weaker c.move_target-in-Some.result (λ is.
     is ∙ ap (λ (es : List PlainEvent). record plan { after = es })
     (alike_of plan.after c.args.event.now e (with_target (onto c.args.commit c.args.copy c.in-Some.target)) (put_onto c.args.commit c.args.copy) is_e c.requires refl)) c.move_target-in-Some.ensures
 

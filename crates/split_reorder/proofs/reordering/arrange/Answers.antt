@@ -1,11 +1,11 @@
 use Rattle.std.proofs.Common.{◌≡◌, ◌∙◌, ◌∷◌, List, map, sym, ap, subst}
 use Rattle.std.specs.List.Sorted.{IsPermutation}
+use Rattle.std.proofs.lemmas.Result.{on_ok_weaker}
 use Rattle.plain_model.specs.declared.event.PlainEvent.{PlainEvent}
 use Rattle.plain_model.specs.Lookups.{id_of}
 use Rattle.plain_model.specs.Soundness.{IsSound, are_distinct}
 use Rattle.event_arena.specs.Changes.{in_order}
 use Rattle.event_arena.specs.Graphs.{Change}
-use Rattle.graph_walk.proofs.TurnLemmas.{on_ok}
 use Rattle.commit_laws.proofs.Selections.{chosen_distinct}
 use Rattle.reorder_laws.specs.Reorder.{relinked_all}
 use Rattle.split_reorder.specs.Ordered.{ordered}
@@ -44,7 +44,7 @@ returns c =
     let sound = subst IsSound c.events-events.ensures c.count-count.ensures.sound in
     let is_events : c.events-events.result.now.list ≡ events = c.events-events.ensures in
     let ids : c.in_ok-ids.ids ≡ ordered set (head ∷ tail) events = c.in_ok-ids.ensures ∙ ap (λ us. ordered set us events) c.requires.from_head in
-    on_ok c.set_order.result _ _ (λ is.
+    on_ok_weaker c.set_order.result (λ is.
     is ∙ ap (λ (p : Change). record p { after = in_order c.in_ok-ids.ids p.after }) c.in_ok-relink.ensures
     ∙ ap (λ (es : List PlainEvent). record plan { after = es })
     ((λ i. in_order (ids i) (relinked_all (is_events i) first rest head tail))

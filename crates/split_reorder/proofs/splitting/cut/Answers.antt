@@ -1,5 +1,6 @@
 use Rattle.std.proofs.Common.{◌≡◌, ◌∙◌, ◌≤◌, ◌∷◌, [], List, Some, length, map, take, drop, sym, ap, subst}
 use Rattle.std.specs.Prelude.{is_some}
+use Rattle.std.proofs.lemmas.Result.{on_ok_weaker}
 use Rattle.plain_model.specs.declared.id.AnyId.TheVariants as any
 use Rattle.plain_model.specs.declared.operation.FileOp.{FileOp}
 use Rattle.plain_model.specs.declared.event.PlainEvent.{PlainEvent}
@@ -12,7 +13,6 @@ use Rattle.event_arena.specs.Changes.{changed, put_after, with_ops}
 use Rattle.event_arena.specs.Graphs.{Change}
 use Rattle.event_arena.proofs.ChangeLemmas.{id_with_field}
 use Rattle.event_arena.proofs.SpentLemmas.{adds_changed}
-use Rattle.graph_walk.proofs.TurnLemmas.{on_ok}
 use Rattle.split_reorder.specs.Copies.{put_onto}
 use Rattle.split_reorder.proofs.Halving.{cut_found, onto_id}
 use Rattle.plan_steps.proofs.Nodes.{found_node, only_commits}
@@ -74,7 +74,7 @@ returns c =
     let first : c.in_ok-of-4.field-0 ≡ take kept w.ops = c.in_ok-of-4.ensures ∙ c.split_at.ensures.front ∙ ap (take kept) c.as_slice.ensures in
     let made = Commit c.args.copy c.args.mark c.in_ok-copied.field-0 c.in_ok-copied-2.field-0 c.in_ok-copied-3.field-0 c.in_ok-copied-4.field-0 c.in_ok-copied-5.field-0 c.in_ok-of.field-0 c.in_ok-new.field-0 c.in_ok-of-3.field-0 in
     let moved : plan.after ≡ map (put_onto c.args.commit c.args.copy) events = c.requires.moved in
-    on_ok c.insert_after.result _ _ (λ is.
+    on_ok_weaker c.insert_after.result (λ is.
     is ∙ ap (λ (p : Change). record p { after = put_after own made p.after }) c.in_ok-set_ops.ensures.ok
     ∙ ap (λ (es : List PlainEvent). record plan { after = es })
     ((λ i. put_after own (Commit c.args.copy c.args.mark (branch i) (author i) (committer i) (encoding i) (comment i) (parents i) (second i) (none i)) (changed own (with_ops (first i)) (moved i)))

@@ -1,10 +1,10 @@
 use Rattle.std.proofs.Common.{◌∙◌, List, ap, sym}
+use Rattle.std.proofs.lemmas.Result.{on_ok_weaker}
 use Rattle.plain_model.specs.declared.event.PlainEvent.{PlainEvent}
 use Rattle.plain_model.specs.Lookups.{id_of}
 use Rattle.history_laws.proofs.Lists.{item_at}
 use Rattle.event_arena.specs.Changes.{changed, with_target}
 use Rattle.event_arena.specs.Graphs.{Change}
-use Rattle.graph_walk.proofs.TurnLemmas.{on_ok}
 use Rattle.squash_delete.proofs.MovingLemmas.{apart_moved, gone_moved, lost_moved, nowhere_lost, target_id}
 use Rattle.plan_steps.proofs.NearLemmas.{lost_is}
 use Rattle.squash_delete.proofs.moving.move_at.Goals as goal
@@ -40,7 +40,7 @@ retarget-requires c =
 
 pub returns : goal.returns
 returns c =
-    on_ok c.retarget.result _ _ (λ is par takes start t was.
+    on_ok_weaker c.retarget.result (λ is par takes start t was.
     let events = c.args.removal.now.events in
     let set = c.args.removal.now.set in
     let e = c.nth.result.now in

@@ -1,10 +1,10 @@
 use Rattle.std.proofs.Common.{◌∙◌, List, ap, subst, sym}
 use Rattle.std.specs.Prelude.{IsTrue, is_some}
+use Rattle.std.proofs.lemmas.Result.{on_ok_weaker}
 use Rattle.plain_model.specs.declared.id.AnyId.{AnyId}
 use Rattle.plain_model.specs.declared.event.PlainEvent.{PlainEvent}
 use Rattle.plain_model.specs.Lookups.{find_event, id_of, place_of}
 use Rattle.event_arena.specs.Changes.{changed, has_target, with_target}
-use Rattle.graph_walk.proofs.TurnLemmas.{on_ok}
 use Rattle.plan_steps.proofs.LeavingLemmas.{changed_nowhere, found_is}
 use Rattle.squash_delete.proofs.moving.retarget.Goals as goal
 
@@ -19,7 +19,7 @@ set_target-requires-clause-field c = subst (λ (id : AnyId). IsTrue (has_target 
 
 pub returns-in-Some : goal.returns-in-Some
 returns-in-Some c =
-    on_ok c.set_target.result _ _ (λ is. is ∙ ap (λ (id : AnyId). record c.args.plan.now { after = changed id (with_target c.args.target) c.args.plan.now.after }) c.id-in-Some.ensures) c.set_target.ensures.ok
+    on_ok_weaker c.set_target.result (λ is. is ∙ ap (λ (id : AnyId). record c.args.plan.now { after = changed id (with_target c.args.target) c.args.plan.now.after }) c.id-in-Some.ensures) c.set_target.ensures.ok
 
 pub returns-in-None : goal.returns-in-None
 returns-in-None c =

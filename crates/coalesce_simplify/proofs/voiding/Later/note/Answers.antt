@@ -1,6 +1,6 @@
 use Rattle.std.proofs.Common.{◌∷◌, true, sym, subst}
+use Rattle.std.proofs.lemmas.Result.{on_ok_weaker}
 use Rattle.plain_model.specs.declared.operation.FileOp.{FileOp}
-use Rattle.graph_walk.proofs.TurnLemmas.{on_ok}
 use Rattle.coalesce_simplify.specs.Voiding.{Known, Knows}
 use Rattle.coalesce_simplify.proofs.Noting.{noted_anew, noted_deletion, noted_put}
 use Rattle.coalesce_simplify.proofs.voiding.Later.note.Goals as goal
@@ -9,7 +9,7 @@ pub returns-in-Modify : goal.returns-in-Modify
 returns-in-Modify c =
     let old : Known = record { anew = c.self.inside.anew; put = c.self.inside.put; deleted = c.self.inside.deleted } in
     let new : Known = record { anew = c.self.inside.anew; put = c.add.new.self; deleted = c.self.inside.deleted } in
-    on_ok c.add.result _ _ (λ adds later k.
+    on_ok_weaker c.add.result (λ adds later k.
     subst (λ (op : FileOp). Knows (op ∷ later) new) (sym c.in-Modify.is)
     (noted_put later old c.in-Modify.mode c.in-Modify.content c.in-Modify.path c.add.new.self (subst (Knows later) (sym c.self.view_is) k) adds)) c.add.ensures
 
@@ -18,7 +18,7 @@ returns-in-Delete c =
     let inside = c.self-in-Delete.inside in
     let old : Known = record { anew = inside.anew; put = inside.put; deleted = inside.deleted } in
     let new : Known = record { anew = inside.anew; put = inside.put; deleted = c.add-in-Delete.new.self } in
-    on_ok c.add-in-Delete.result _ _ (λ adds later k.
+    on_ok_weaker c.add-in-Delete.result (λ adds later k.
     subst (λ (op : FileOp). Knows (op ∷ later) new) (sym c.in-Delete.is)
     (noted_deletion later old c.in-Delete.path c.add-in-Delete.new.self (subst (Knows later) (sym c.self-in-Delete.view_is) k) adds)) c.add-in-Delete.ensures
 

@@ -1,9 +1,10 @@
 use Rattle.std.proofs.Common.{◌≡◌, ◌∙◌, ◌+◌, List, Bool, get_or, drop, arith, ap, inl, refl, subst, sym, true}
+use Rattle.std.proofs.lemmas.Result.{on_ok_weaker}
 use Rattle.graph_walk.specs.Slots.{IsOpenAt, are_flagged, is_flagged_until}
 use Rattle.plain_model.specs.Lookups.{referents_of}
 use Rattle.graph_walk.specs.declared.waiting.Waiter.{Waiter}
 use Rattle.graph_walk.proofs.StepLemmas.{put_free, put_held}
-use Rattle.graph_walk.proofs.TurnLemmas.{all_at, in_hand, nobody, on_ok, step_as}
+use Rattle.graph_walk.proofs.TurnLemmas.{all_at, in_hand, nobody, step_as}
 use Rattle.graph_walk.proofs.settling.Progress.put.Goals as goal
 
 pub nth-event-requires : goal.nth-event-requires
@@ -34,7 +35,7 @@ returns-in-Some-clause-under_way c =
     let step = in_hand s.plan.now.after c.args.woken.now c.args.index s.order s.taken.items s.ready s.waiting s.next c.requires.index c.requires.under_way in
     let held = subst (λ (flags : List Bool). IsOpenAt flags s.plan.now.after c.nth-event.result.now c.in-Some.slot c.in-Some.at) c.as_slice.ensures.value c.in-Some.ensures in
     let made = put_held s.plan.now.after w new rest s.order s.taken.items s.ready s.waiting s.next c.in-Some.at c.nth-event.result.now step c.nth-event.ensures.event held refl in
-    on_ok c.add.result _ _ (λ is. step_as s.plan.now.after rest rest s.order s.order s.taken.items s.taken.items s.ready s.ready _ c.add.new.self s.next s.next refl refl refl refl (sym is) refl made) c.add.ensures.ok
+    on_ok_weaker c.add.result (λ is. step_as s.plan.now.after rest rest s.order s.order s.taken.items s.taken.items s.ready s.ready _ c.add.new.self s.next s.next refl refl refl refl (sym is) refl made) c.add.ensures.ok
 
 pub returns-in-None-clause-under_way : goal.returns-in-None-clause-under_way
 returns-in-None-clause-under_way c =
@@ -43,4 +44,4 @@ returns-in-None-clause-under_way c =
     let rest = drop (c.args.index + 1) c.args.woken.now in
     let step = in_hand s.plan.now.after c.args.woken.now c.args.index s.order s.taken.items s.ready s.waiting s.next c.requires.index c.requires.under_way in
     let all = subst (λ (flags : List Bool). are_flagged flags s.plan.now.after (referents_of c.nth-event.result.now) ≡ true) c.as_slice.ensures.value c.in-None.ensures in
-    on_ok c.add-in-None.result _ _ (λ grows. put_free s.plan.now.after w rest s.order s.taken.items s.ready c.add-in-None.new.self s.waiting s.next c.nth-event.result.now step c.nth-event.ensures.event all grows) c.add-in-None.ensures.ok
+    on_ok_weaker c.add-in-None.result (λ grows. put_free s.plan.now.after w rest s.order s.taken.items s.ready c.add-in-None.new.self s.waiting s.next c.nth-event.result.now step c.nth-event.ensures.event all grows) c.add-in-None.ensures.ok
