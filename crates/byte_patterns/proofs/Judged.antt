@@ -2,12 +2,12 @@
 use Rattle.std.proofs.Common.{◌≡◌, ℕ, zero, suc, ◌+◌, ◌≤◌, Bool, true, false, List, [], ◌∷◌, ◌++◌, length, Option, Some, None, Result, Ok, Err, refl, sym, ◌∙◌, subst, ap, arith, append_assoc}
 use Rattle.std.specs.Prelude.{slice_get}
 use Rattle.std.specs.Result.{IsErrAnd}
-use Rattle.plain_model.specs.Counts.{Rose}
 use Rattle.plain_model.specs.Paths.{Bytes}
 use Rattle.plain_model.specs.declared.fault.Fault.{Fault}
 use Rattle.plain_model.specs.declared.fault.Fault.TheVariants as fault
 use Rattle.plain_model.specs.declared.fault.Halt.{Halt}
 use Rattle.plain_model.specs.declared.fault.Halt.TheVariants as halt
+use Rattle.plain_model.proofs.Counts.{rose_before}
 use Rattle.byte_patterns.specs.Judging.{Denial, Judged, Judges, Reason, ◌>>>◌, is_sized, its_nesting, its_size, next_of, under, unless_deep, with_built, without}
 use Rattle.byte_patterns.specs.Searching.{is_too_deep}
 
@@ -82,9 +82,6 @@ moved_under : {B : Type 0} (denial : Option Denial) (built : List Bytes) (j : Ju
     → under denial j ≡ Err out → under (moved (length built) denial) (with_built built j) ≡ Err out
 moved_under None built j out h = h
 moved_under (Some d) built j out h = rw (after_get built j.built d.place) h
-
-rose_before : (a b c : ℕ) → a ≤ b → Rose b c → Rose a c
-rose_before a b c h k = omega arith
 
 later : {Y B : Type 0} (other : Y → B) (a b c : ℕ) (r : Result Y Halt) (built : List Bytes) (j : Judged B) → a ≤ b
     → Judges other b c r j → Judges other a c r (with_built built j)

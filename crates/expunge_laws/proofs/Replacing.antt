@@ -17,10 +17,10 @@ use Rattle.plain_model.specs.declared.limit.TheConstants.{MAX_PATHS}
 use Rattle.plain_model.specs.Paths.{Bytes, is_below, is_at_or_below, do_conflict, is_in_the_way}
 use Rattle.plain_model.specs.Trees.{Tree, Refusal, at, has, IsTree, where_path, put, put_all, subtree, without, cleared_for, moved, within_paths, has_long_path, placed, apply, apply_all, ◌>>=◌}
 use Rattle.plain_model.specs.Trees.Refusal.{PathBytes}
+use Rattle.plain_model.proofs.Words.{bytes_eq_same}
 use Rattle.squash_laws.specs.Takings.{is_none}
 use Rattle.expunge_laws.specs.Replaced.{mode_number, same_content, same_entry, has_entry, deletes_of, puts_of, restricted, has_matched, rewritten, is_clear, replaced}
 use Rattle.history_laws.proofs.LineLaws.{apply_more}
-use Rattle.history_laws.proofs.PathLaws.{same_bytes}
 use Rattle.history_laws.proofs.TreeLaws.{by_bytes, at_where, at_put, same_path, where_tree, has_where, apply_tree}
 use Rattle.history_laws.proofs.TreeMaps.{IsOrdered, ordered_where, ordered_put, ordered_put_all, same_tree, at_put_all, absent, where_comm, where_alike, where_all, any_there, there_any, length_where, within_ok, within_small, puts, ordered_puts, length_puts, clear_put, puts_agree, entries_found, found_has, placed_small}
 
@@ -74,7 +74,7 @@ deleted f tree t =
         go true true x y = x ∙ sym y
         go false false x y = x ∙ sym y
         go true false x y = absurd (true≢false (sym (down q h x) ∙ y))
-        go false true x y = absurd (true≢false (sym (any_there (λ (p : Bytes). is_at_or_below p q) (where_path f tree) q (up q h y) (or_left (bytes_eq q q) (is_below q q) (same_bytes q))) ∙ x))
+        go false true x y = absurd (true≢false (sym (any_there (λ (p : Bytes). is_at_or_below p q) (where_path f tree) q (up q h y) (or_left (bytes_eq q q) (is_below q q) (bytes_eq_same q))) ∙ x))
 
 -- ---- a run of modifications
 

@@ -2,7 +2,6 @@
 use Rattle.std.proofs.Common.{◌≡◌, ℕ, true, false, [], ◌∷◌, ◌++◌, length, drop, refl, sym, ap, ◌∙◌, inl, inr, eqb-true, eq-eqb, true≢false, bytes_eq}
 use Rattle.std.specs.Prelude.{◌&&◌, ◌||◌, ◌==◌}
 use Rattle.std.proofs.lemmas.Bool.{and_parts, or_cases, or_left, or_right, or_from, false_from_ne_true}
-use Rattle.std.specs.Cmp.Lexicographic.{bytes_decides}
 use Rattle.plain_model.specs.Paths.{Bytes, is_below, is_at_or_below, do_conflict, is_in_the_way}
 
 -- what may be after a path that is moved: nothing, or a slash and more
@@ -84,6 +83,3 @@ after (b ∷ s) (c ∷ p) h =
 -- neither is below the other
 pub apart_from : (p q : Bytes) → (is_below p q ≡ true → ⊥) → (is_below q p ≡ true → ⊥) → do_conflict p q ≡ false
 apart_from p q f g = or_from (is_below p q) (is_below q p) (false_from_ne_true (is_below p q) f) (false_from_ne_true (is_below q p) g)
-
-pub same_bytes : (p : Bytes) → bytes_eq p p ≡ true
-same_bytes p = (bytes_decides p p).1 refl

@@ -2,22 +2,17 @@
 use Rattle.std.proofs.Common.{◌≡◌, ◌∙◌, suc, ◌≤◌, ◌<◌, Bool, true, false, inl, inr, List, [], ◌∷◌, ◌++◌, length, Option, Some, None, refl, sym, ap, subst, arith}
 use Rattle.std.specs.Prelude.{◌||◌, not, if◌then◌else◌, bytes_eq, is_some}
 use Rattle.std.specs.List.{AllByRecursion}
-use Rattle.std.proofs.lemmas.Bool.{and_from, and_parts, cases_Bool, false_from_ne_true, not_from_false, or_from, or_parts, true≢false}
+use Rattle.std.proofs.lemmas.Bool.{and_from, and_parts, cases_Bool, false_from_ne_true, not_from_false, or_from, or_parts, true≢false, not-true}
 use Rattle.std.proofs.lemmas.List.{length-append, length-map, map-append}
 use Rattle.std.proofs.lemmas.List.Folds.{list_any-append}
 use Rattle.std.proofs.lemmas.Slice.Eq.{bytes_eq-Decides}
 use Rattle.plain_model.specs.declared.limit.TheConstants.{MAX_REPOSITORIES}
 use Rattle.plain_model.specs.Paths.{Bytes}
-use Rattle.history_laws.proofs.PathLaws.{same_bytes}
+use Rattle.plain_model.proofs.Words.{bytes_eq_same}
 use Rattle.history_machine.specs.Lawful.{AreLawfulNames, IsChoiceOf, IsLawful, IsLawfulRepo, are_names_apart, is_named, repo_names}
 use Rattle.history_machine.specs.Sessions.{Repo, Session, find_repo, unless, with_repo, without_repo}
 
 -- ---- names
-
--- what is no name is not among them
-not_not : (b : Bool) → not b ≡ true → b ≡ false
-not_not true h = absurd cc
-not_not false h = refl
 
 line_end : (a b : Bytes) → bytes_eq a b ≡ false → bytes_eq b a ≡ false
 line_end a b no_it =
@@ -62,7 +57,7 @@ fewer_apart : (name : Bytes) (names : List Bytes) → are_names_apart names ≡ 
 fewer_apart name [] h = refl
 fewer_apart name (n ∷ names) h =
     let parts = and_parts (not (is_named names n)) (are_names_apart names) h in
-    go (bytes_eq name n) parts.1 (not_named name n names (not_not (is_named names n) parts.0)) (fewer_apart name names parts.1)
+    go (bytes_eq name n) parts.1 (not_named name n names (not-true (is_named names n) parts.0)) (fewer_apart name names parts.1)
   where
     go : (b : Bool) → are_names_apart names ≡ true → is_named (without_name name names) n ≡ false → are_names_apart (without_name name names) ≡ true
         → are_names_apart (if b then names else n ∷ without_name name names) ≡ true
@@ -90,11 +85,11 @@ more_apart new (n ∷ names) h none =
     let nones = or_parts (bytes_eq new n) (is_named names new) none in
     let apart : is_named (names ++ new ∷ []) n ≡ false =
     list_any-append (bytes_eq n) names (new ∷ [])
-    ∙ or_from (is_named names n) (is_named (new ∷ []) n) (not_not (is_named names n) parts.0) (or_from (bytes_eq n new) false (line_end new n nones.0) refl) in
+    ∙ or_from (is_named names n) (is_named (new ∷ []) n) (not-true (is_named names n) parts.0) (or_from (bytes_eq n new) false (line_end new n nones.0) refl) in
     and_from (not (is_named (names ++ new ∷ []) n)) (are_names_apart (names ++ new ∷ [])) (not_from_false (is_named (names ++ new ∷ []) n) apart) (more_apart new names parts.1 nones.1)
 
 last_named : (new : Bytes) (names : List Bytes) → is_named (names ++ new ∷ []) new ≡ true
-last_named new [] = ap (λ b. b || false) (same_bytes new)
+last_named new [] = ap (λ b. b || false) (bytes_eq_same new)
 last_named new (n ∷ names) = go (bytes_eq new n) (last_named new names)
   where
     go : (b : Bool) → is_named (names ++ new ∷ []) new ≡ true → (b || is_named (names ++ new ∷ []) new) ≡ true

@@ -2,9 +2,9 @@
 use Rattle.std.proofs.Common.{◌≡◌, ℕ, zero, suc, ◌+◌, ◌≤◌, Bool, true, false, cond, not, [], ◌∷◌, ◌++◌, drop, Result, Ok, Err, IsTrue, refl, sym, ◌∙◌, ap, subst, inl, inr, arith, append_assoc, append-nil}
 use Rattle.std.specs.Prelude.{bytes_eq}
 use Rattle.std.proofs.lemmas.Bool.{and_parts, and_from, not-true}
-use Rattle.std.proofs.lemmas.Slice.Eq.{bytes_eq-Decides}
 use Rattle.plain_model.specs.Paths.{Bytes}
 use Rattle.plain_model.specs.Parts.{is_lf, has_no_lf}
+use Rattle.plain_model.proofs.Words.{bytes_eq_same}
 use Rattle.line_automaton.specs.Machine.{Next, Automaton, Machine, number_past, answered, compared, moved, feed, run, closed, verdict, begun, outcome_from, all, none, up_to, through, HaveSameLines, IsCleanThrough, Completes}
 use Rattle.line_automaton.specs.Machine.Next.{More, Block, Until, Over}
 use Rattle.line_automaton.specs.Machine.Mode.{InLine, InBlock, After, InDelimited, Ended}
@@ -36,9 +36,6 @@ has_no_lf_drop : (k : ℕ) (text : Bytes) → has_no_lf text ≡ true → has_no
 has_no_lf_drop zero text h = h
 has_no_lf_drop (suc k) [] h = refl
 has_no_lf_drop (suc k) (x ∷ xs) h = has_no_lf_drop k xs (and_parts (not (is_lf x)) (has_no_lf xs) h).1
-
-pub bytes_eq_same : (xs : Bytes) → bytes_eq xs xs ≡ true
-bytes_eq_same xs = (bytes_eq-Decides xs xs).1 refl
 
 -- a block of so many bytes and one
 abbrev filling : ℕ → Bytes

@@ -1,5 +1,5 @@
 -- Events of a sound history, found by their ids.
-use Rattle.std.proofs.Common.{◌≡◌, ℕ, zero, suc, inl, inr, List, [], ◌∷◌, ◌++◌, Option, Some, None, refl, eqb}
+use Rattle.std.proofs.Common.{◌≡◌, ℕ, zero, suc, inl, inr, List, [], ◌∷◌, ◌++◌, Option, Some, None, refl}
 use Rattle.std.proofs.lemmas.Bool.{cases_Bool}
 use Rattle.std.specs.Prelude.{IfSome, map, option_map, slice_get, unwrap_or}
 use Rattle.plain_model.specs.declared.id.AnyId.{AnyId}
@@ -10,7 +10,7 @@ use Rattle.plain_model.specs.Lookups.{find_event, id_of, same_id}
 use Rattle.plain_model.specs.Snapshots.{commit_mark}
 use Rattle.plain_model.specs.Text.{blob_mark_in}
 use Rattle.plain_model.specs.Soundness.{AreSoundAfter}
-use Rattle.plain_model.proofs.Numbers.{eqb_turned}
+use Rattle.plain_model.proofs.NamedMarks.{blob_mark_found, commit_mark_found}
 use Rattle.history_laws.specs.Finding.{IsDated}
 use Rattle.history_laws.proofs.SoundDates.{dated_event}
 use Rattle.listing.specs.Finding.{own_blob_mark, own_commit_mark}
@@ -25,31 +25,12 @@ dated earlier (e ∷ es) id h = elim (cases_Bool (same_id id (id_of e))) [
   | inr no_it ↦ rw no_it (dated (earlier ++ e ∷ []) es id h.1)
 ]
 
--- the mark of a commit is that of the event with its id
-pub mark_found : (events : List PlainEvent) (c : ℕ)
-    → commit_mark events c ≡ unwrap_or (option_map own_commit_mark (find_event (any.Commit c) events)) 0
-mark_found [] c = refl
-mark_found (plain.Commit id mark branch author committer encoding comment parents ops aliases ∷ es) c = elim (cases_Bool (eqb c id)) [
-  | inl it ↦ rw (eqb_turned id c, it) refl
-  | inr no_it ↦ rw (eqb_turned id c, no_it) (mark_found es c)
-]
-mark_found (plain.Blob id mark bytes ∷ es) c = mark_found es c
-mark_found (plain.Tag id name target tagger comment mark ∷ es) c = mark_found es c
-mark_found (plain.Reset id branch target ∷ es) c = mark_found es c
-mark_found (plain.Pass id line ∷ es) c = mark_found es c
+-- the mark of a commit, and of a blob, is that of the event with its id
+pub commit_found : (events : List PlainEvent) (c : ℕ) → commit_mark events c ≡ unwrap_or (option_map own_commit_mark (find_event (any.Commit c) events)) 0
+commit_found = commit_mark_found own_commit_mark (λ id mark branch author committer encoding comment parents ops aliases. refl)
 
--- the mark of a blob is that of the event with its id
-pub blob_mark_found : (whole events : List PlainEvent) (b : ℕ)
-    → blob_mark_in whole events b ≡ unwrap_or (option_map own_blob_mark (find_event (any.Blob b) events)) 0
-blob_mark_found whole [] b = refl
-blob_mark_found whole (plain.Blob id mark bytes ∷ es) b = elim (cases_Bool (eqb b id)) [
-  | inl it ↦ rw (eqb_turned id b, it) refl
-  | inr no_it ↦ rw (eqb_turned id b, no_it) (blob_mark_found whole es b)
-]
-blob_mark_found whole (plain.Commit id mark branch author committer encoding comment parents ops aliases ∷ es) b = blob_mark_found whole es b
-blob_mark_found whole (plain.Tag id name target tagger comment mark ∷ es) b = blob_mark_found whole es b
-blob_mark_found whole (plain.Reset id branch target ∷ es) b = blob_mark_found whole es b
-blob_mark_found whole (plain.Pass id line ∷ es) b = blob_mark_found whole es b
+pub blob_found : (whole events : List PlainEvent) (b : ℕ) → blob_mark_in whole events b ≡ unwrap_or (option_map own_blob_mark (find_event (any.Blob b) events)) 0
+blob_found = blob_mark_found own_blob_mark (λ id mark bytes. refl)
 
 -- ---- options seen through a function
 

@@ -69,7 +69,7 @@ fn own_blob_mark(event: &PlainEvent) -> u64
 }
 
 /// The number of the blob's mark, or 0 where no blob has the id.
-#[tactic(auto, using(crate::proofs::Found::blob_mark_found))]
+#[tactic(auto, using(crate::proofs::Found::blob_found))]
 pub fn blob_mark_of(events: &Events, id: BlobId) -> u64
     ensures { result ≡ blob_mark_in events.now.list events.now.list id }
 {

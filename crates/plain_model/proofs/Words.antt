@@ -1,10 +1,14 @@
--- Texts that begin with a word.
+-- Texts: one is equal to itself, and one may begin with a word.
 use Rattle.std.proofs.Common.{◌≡◌, true, [], ◌∷◌, ◌++◌, length, take, refl, sym, ap, nat_eq, eqb-true}
-use Rattle.std.specs.Prelude.{◌==◌, ◌&&◌}
+use Rattle.std.specs.Prelude.{◌==◌, ◌&&◌, bytes_eq}
 use Rattle.std.specs.Cmp.Lexicographic.{pointwise}
 use Rattle.std.proofs.lemmas.Bool.{and_parts}
+use Rattle.std.proofs.lemmas.Slice.Eq.{bytes_eq-Decides}
 use Rattle.plain_model.specs.Parts.{begins}
 use Rattle.plain_model.specs.Paths.{Bytes}
+
+pub bytes_eq_same : (text : Bytes) → bytes_eq text text ≡ true
+bytes_eq_same text = (bytes_eq-Decides text text).1 refl
 
 -- as `starts_with` of a slice has it
 pub pointwise_begins : (word text : Bytes) → pointwise nat_eq word (take (length word) text) ≡ begins word text

@@ -1,3 +1,4 @@
+pub mod Blanks
 pub mod Counts
 pub mod Faults
 pub mod Fields

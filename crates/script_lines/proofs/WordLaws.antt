@@ -4,9 +4,10 @@ use Rattle.std.specs.Prelude.{not}
 use Rattle.std.specs.List.{list_all}
 use Rattle.std.proofs.lemmas.Bool.{and_parts, both_ways, eq-eqb, not-true}
 use Rattle.plain_model.specs.Paths.{Bytes}
+use Rattle.plain_model.specs.Blanks.{is_blank}
 use Rattle.script_lines.specs.declared.word.Word.{Word}
 use Rattle.script_lines.specs.declared.word.Word.TheVariants.{Plain, Quoted, Broken}
-use Rattle.script_lines.specs.Words.{is_blank, head_of, after_head, words_of, begins_plain}
+use Rattle.script_lines.specs.Words.{head_of, after_head, words_of, begins_plain}
 use Rattle.script_lines.specs.Written.{written, is_whole, line_of}
 use Rattle.script_lines.proofs.WordSteps.{NoQuote, plain_first, quoted_first}
 

@@ -4,8 +4,9 @@ use Rattle.std.specs.Prelude.{not}
 use Rattle.std.proofs.lemmas.Bool.{and_parts, cases_Bool, eqb-true, not-true, false_from_ne_true}
 use Rattle.script_lines.specs.declared.word.Word.{Word}
 use Rattle.script_lines.specs.declared.word.Word.TheVariants.{Plain, Quoted, Broken}
-use Rattle.script_lines.specs.Words.{is_blank, head_of, after_head, words_from, words_of, ends_word, begins_word, begins_plain}
+use Rattle.script_lines.specs.Words.{head_of, after_head, words_from, words_of, ends_word, begins_word, begins_plain}
 use Rattle.script_lines.specs.Words.Spot.{Between, InWord, InQuotes, Closed}
+use Rattle.plain_model.specs.Blanks.{is_blank}
 
 -- a word that is put after others, and what is left
 pub taken : (before words rest whole : List Word) (word : Word) → words ≡ before ++ word ∷ [] → whole ≡ word ∷ rest

@@ -1,12 +1,9 @@
 -- How a line falls into words. (own)
-use Rattle.std.specs.Prelude.{ℕ, ◌==◌, ◌&&◌, ◌||◌, not, Bool, true, false, List, [], ◌∷◌, ◌++◌, if◌then◌else◌}
+use Rattle.std.specs.Prelude.{◌==◌, ◌&&◌, not, Bool, true, false, List, [], ◌∷◌, ◌++◌, if◌then◌else◌}
 use Rattle.plain_model.specs.Paths.{Bytes}
+use Rattle.plain_model.specs.Blanks.{is_blank}
 use Rattle.script_lines.specs.declared.word.Word.{Word}
 use Rattle.script_lines.specs.declared.word.Word.TheVariants.{Plain, Quoted, Broken}
-
--- a space or a tab
-abbrev pub is_blank : ℕ → Bool
-is_blank b = b == 32 || b == 9
 
 -- ---- the command word
 

@@ -2,9 +2,10 @@
 use Rattle.std.specs.Prelude.{Bool, false, not, ◌&&◌, ◌==◌, List, [], ◌∷◌, ◌++◌}
 use Rattle.std.specs.List.{list_all}
 use Rattle.plain_model.specs.Paths.{Bytes}
+use Rattle.plain_model.specs.Blanks.{is_blank}
 use Rattle.script_lines.specs.declared.word.Word.{Word}
 use Rattle.script_lines.specs.declared.word.Word.TheVariants.{Plain, Quoted, Broken}
-use Rattle.script_lines.specs.Words.{is_blank, begins_plain}
+use Rattle.script_lines.specs.Words.{begins_plain}
 
 -- how a word is written
 abbrev pub written : Word → Bytes

@@ -13,8 +13,8 @@ ghost use Rattle.std.specs.Prelude.{
   true,
   IfOk,
 };
+ghost use Rattle.plain_model.specs.Blanks.{is_blank};
 ghost use Rattle.script_lines.specs.Words.{
-  is_blank,
   head_of,
   after_head,
   begins_plain,

@@ -5,8 +5,9 @@ use Rattle.std.specs.Prelude.{◌⊎◌}
 use Rattle.std.proofs.lemmas.Bool.{eqb-true}
 use Rattle.std.proofs.Math.Seq.{take-length, drop-length}
 use Rattle.plain_model.specs.Paths.{Bytes}
+use Rattle.plain_model.specs.Blanks.{is_blank}
 use Rattle.selection_parser.specs.Plain.{PlainSelection, near}
-use Rattle.selection_parser.specs.Spelling.{Spells, is_blank, ends_here, IsSelection, IsFront, Finds, Refuses}
+use Rattle.selection_parser.specs.Spelling.{Spells, ends_here, IsSelection, IsFront, Finds, Refuses}
 use Rattle.selection_parser.specs.Reading.{after_term, negated, ended, no_parts, before_term, step, Reader, Next, onward, read_from, selection_at}
 use Rattle.selection_parser.specs.Reading.{IsRightAnswer}
 use Rattle.selection_parser.specs.Reading.Next.{Goes, Ends, Stops}

@@ -4,10 +4,11 @@ use Rattle.std.proofs.Common.{inr, append_assoc, append-nil, arith}
 use Rattle.std.specs.Prelude.{codes}
 use Rattle.std.proofs.lemmas.Bool.{eqb-true}
 use Rattle.plain_model.specs.Paths.{Bytes}
+use Rattle.plain_model.specs.Blanks.{is_blank}
 use Rattle.selection_parser.specs.declared.function.Function.{Function}
 use Rattle.selection_parser.specs.declared.place.Place.{Place}
 use Rattle.selection_parser.specs.Plain.{PlainSelection, near}
-use Rattle.selection_parser.specs.Spelling.{SpellsPrimary, SpellsTerm, SpellsWithin, Spells, is_blank}
+use Rattle.selection_parser.specs.Spelling.{SpellsPrimary, SpellsTerm, SpellsWithin, Spells}
 use Rattle.selection_parser.specs.Spelling.SpellsPrimary.{group, call}
 use Rattle.selection_parser.specs.Reading.{placed, primary_at, near_at, within, nesting, or_else, or_after, after_near, after_term, negated, around, closed}
 use Rattle.selection_parser.specs.Reading.{ended, whole, called, with_term, with_part, before_term, step, State, Parts, Frame, Reader, Next}

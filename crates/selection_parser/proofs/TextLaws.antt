@@ -10,13 +10,14 @@ use Rattle.std.proofs.lemmas.Str.{IsUtf8-append, IsUtf8-take, IsUtf8-drop, IsUtf
 use Rattle.std.proofs.lemmas.Str.{is_utf8-from_IsUtf8}
 use Rattle.plain_model.specs.Paths.{Bytes}
 use Rattle.plain_model.specs.declared.limit.TheConstants.{MAX_NESTING}
+use Rattle.plain_model.specs.Blanks.{is_blank}
 use Rattle.selection_parser.specs.declared.item.Item.{Item}
 use Rattle.selection_parser.specs.declared.item.Item.TheVariants.{One, Span}
 use Rattle.selection_parser.specs.declared.item.Spot.{Spot}
 use Rattle.selection_parser.specs.declared.item.Spot.TheVariants.{Number, Marked, Last, Named}
 use Rattle.selection_parser.specs.Plain.{PlainSelection, in_order, union_of, both_of, near}
 use Rattle.selection_parser.specs.Spelling.{SpellsFrom, SpellsEach, SpellsSpot, SpellsItem, SpellsPrimary, SpellsNear, SpellsBoth, SpellsUnion, SpellsTerm}
-use Rattle.selection_parser.specs.Spelling.{Nothing, escaped, whole_mark, name_of, is_blank, ends_here, IsSelection}
+use Rattle.selection_parser.specs.Spelling.{Nothing, escaped, whole_mark, name_of, ends_here, IsSelection}
 use Rattle.selection_parser.specs.Spelling.SpellsPrimary.{group, call, kinds, search, at_path, at_pattern, items}
 use Rattle.selection_parser.proofs.RightAnswers.{take_drop}
 use Rattle.selection_parser.specs.Texts.{is_text_spot, is_text_item, has_utf8_texts, have_utf8_texts}

@@ -4,13 +4,13 @@ use Rattle.selection_parser.specs.declared.function.Function.{Function}
 use Rattle.selection_parser.specs.declared.place.Place.{Place}
 use Rattle.selection_parser.specs.declared.place.Place.TheVariants as place
 use Rattle.selection_parser.specs.Plain.{PlainSelection, near}
-use Rattle.selection_parser.specs.Spelling.{is_blank}
 use Rattle.selection_parser.specs.Reading.{placed, primary_at, near_at, within, nesting, or_else, or_after, after_near, after_term, negated, around, closed}
 use Rattle.selection_parser.specs.Reading.{ended, called_by, function_of, no_parts, with_term, with_part, before_term, has_room, if_room, step, times_of}
 use Rattle.selection_parser.specs.Reading.{State, Parts, Frame, Reader, Next}
 use Rattle.selection_parser.specs.Reading.State.{Inside, After}
 use Rattle.selection_parser.specs.Reading.Frame.{Opened, Negation}
 use Rattle.selection_parser.specs.Reading.Next.{Goes, Ends, Stops}
+use Rattle.plain_model.specs.Blanks.{is_blank}
 
 -- so many at most, where the byte is taken
 abbrev AtMost : ℕ → Next → Type 0

@@ -8,6 +8,7 @@ use Rattle.plain_model.specs.Paths.{Bytes, is_empty}
 use Rattle.plain_model.specs.declared.fault.Fault.{Fault}
 use Rattle.plain_model.specs.declared.fault.Fault.TheVariants as fault
 use Rattle.plain_model.specs.declared.limit.TheConstants.{MAX_NESTING}
+use Rattle.plain_model.specs.Blanks.{is_blank}
 use Rattle.selection_parser.specs.declared.function.Function.{Function}
 use Rattle.selection_parser.specs.declared.function.Function.TheVariants as function
 use Rattle.selection_parser.specs.declared.item.Item.{Item}
@@ -20,7 +21,7 @@ use Rattle.selection_parser.specs.declared.place.SpotPlace.{SpotPlace}
 use Rattle.selection_parser.specs.declared.place.SpotPlace.TheVariants as spot
 use Rattle.selection_parser.specs.Plain.{PlainSelection, union_of, both_of, near}
 use Rattle.selection_parser.specs.Plain.PlainSelection.{Not, Call, Kinds, Search, AtPath, AtPattern, Listed}
-use Rattle.selection_parser.specs.Spelling.{name_of, with_kind, with_field, no_kinds, no_fields, ends_in_backslash, is_blank, Finds, Refuses}
+use Rattle.selection_parser.specs.Spelling.{name_of, with_kind, with_field, no_kinds, no_fields, ends_in_backslash, Finds, Refuses}
 
 -- ---- inside a primary
 

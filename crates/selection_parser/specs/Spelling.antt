@@ -1,10 +1,11 @@
 -- How selections are spelled. (reposurgeon manual, "Selection syntax"; how many digits and how deep: own)
-use Rattle.std.specs.Prelude.{◌≡◌, ℕ, zero, suc, ◌+◌, ◌-◌, ◌≤◌, ◌==◌, ◌||◌, not, ◌⊎◌, Bool, true, false, List, [], ◌∷◌, ◌++◌, length, take, drop, replicate}
+use Rattle.std.specs.Prelude.{◌≡◌, ℕ, zero, suc, ◌+◌, ◌-◌, ◌≤◌, ◌==◌, not, ◌⊎◌, Bool, true, false, List, [], ◌∷◌, ◌++◌, length, take, drop, replicate}
 use Rattle.std.specs.Prelude.{Option, Some, None, IsTrue, codes, if◌then◌else◌}
 use Rattle.std.specs.List.{list_all}
 use Rattle.plain_model.specs.declared.limit.TheConstants.{MAX_NESTING}
 use Rattle.plain_model.specs.Numbers.{IsNumeral}
 use Rattle.plain_model.specs.Paths.{Bytes}
+use Rattle.plain_model.specs.Blanks.{is_blank}
 use Rattle.selection_parser.specs.declared.kind.KindSet.{KindSet}
 use Rattle.selection_parser.specs.declared.field.FieldSet.{FieldSet}
 use Rattle.selection_parser.specs.declared.function.Function.{Function}
@@ -229,10 +230,6 @@ abbrev pub Spells : Bytes → PlainSelection → Type 0
 Spells = SpellsWithin MAX_NESTING
 
 -- ---- a selection at the front of a line
-
--- a space or a tab
-abbrev pub is_blank : ℕ → Bool
-is_blank b = b == 32 || b == 9
 
 -- nothing, or a blank, is next
 abbrev pub ends_here : Bytes → Bool

@@ -12,7 +12,7 @@ use Rattle.plain_model.specs.declared.operation.FileOp.{FileOp}
 use Rattle.plain_model.specs.declared.operation.FileOp.TheVariants.{Modify, Delete, Copy, Rename, DeleteAll}
 use Rattle.plain_model.specs.Paths.{Bytes, do_conflict, is_at_or_below, is_below, is_in_the_way}
 use Rattle.plain_model.specs.Trees.{Refusal, Tree, apply, apply_all, at, cleared_for, has_long_path, moved, placed, put, put_all, subtree, where_path, within_paths, without, ◌>>=◌}
-use Rattle.history_laws.proofs.PathLaws.{same_bytes}
+use Rattle.plain_model.proofs.Words.{bytes_eq_same}
 use Rattle.history_laws.proofs.TreeLaws.{at_put, at_where, by_bytes, same_path}
 use Rattle.history_laws.proofs.TreeMaps.{IsOrdered, ordered_put, ordered_put_all, ordered_where, same_tree, where_comm}
 use Rattle.edit_laws.specs.Checking.{first_refused, unless_refused}
@@ -181,7 +181,7 @@ put_leaves : (p : Bytes) (e : Entry) (t : Tree) → IsOrdered t → cleared_for 
 put_leaves p e t h =
     let clear = λ (r : Bytes). not (is_in_the_way p r) in
     where_put clear p e (cleared_for p t) (ordered_where clear t h)
-    ∙ cond-false (clear p) (put p e (where_path clear (cleared_for p t))) (where_path clear (cleared_for p t)) (ap not (or_left (bytes_eq p p) (do_conflict p p) (same_bytes p)))
+    ∙ cond-false (clear p) (put p e (where_path clear (cleared_for p t))) (where_path clear (cleared_for p t)) (ap not (or_left (bytes_eq p p) (do_conflict p p) (bytes_eq_same p)))
     ∙ where_more clear clear (λ q. twice (clear q)) t
   where
     twice : (b : Bool) → b && b ≡ b

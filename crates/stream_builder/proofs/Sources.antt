@@ -3,8 +3,8 @@ use Rattle.std.proofs.Common.{◌≡◌, true, cond, not, [], ◌∷◌, Some, N
 use Rattle.std.specs.Prelude.{◌||◌, is_some}
 use Rattle.plain_model.specs.Paths.{Bytes, is_at_or_below, is_below}
 use Rattle.plain_model.specs.Trees.{Tree, at, subtree}
+use Rattle.plain_model.proofs.Words.{bytes_eq_same}
 use Rattle.history_laws.proofs.TreeLaws.{at_where}
-use Rattle.line_automaton.proofs.Completion.{bytes_eq_same}
 use Rattle.stream_grammar.specs.Known.{has_source, is_empty_list}
 
 -- a file is at its own path

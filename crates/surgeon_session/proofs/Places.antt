@@ -221,10 +221,6 @@ module _ {A : Type 0} (es : List (Vec ℕ A × Loaded)) (choice : Option Bytes) 
     all_live_at (Ok ids) live = subst (λ (one : Result Repo Fault). AreLiveIn one ids) (sym at.1) (subst (λ (q : Repo). AreLive q.history ids) its live)
     all_live_at (Err why) live = tt
 
-pub on_err : {X E : Type 0} (r : Result X E) (P Q : Type 0) → (P → Q) → OnErr r P → OnErr r Q
-on_err (Ok x) P Q f h = tt
-on_err (Err e) P Q f h = f h
-
 pub whatever_err : {X E : Type 0} (r : Result X E) (P : Type 0) → P → OnErr r P
 whatever_err (Ok x) P h = tt
 whatever_err (Err e) P h = h

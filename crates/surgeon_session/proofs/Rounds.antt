@@ -1,10 +1,10 @@
 -- One command of a run, and what stands after it.
-use Rattle.std.proofs.Common.{◌≡◌, inl, inr, ℕ, zero, suc, List, [], ◌∷◌, Option, Some, None, drop, length, get_or, ◌≤◌, ◌<◌, ◌+◌, ◌≢◌, drop-cons, append-nil, refl, sym, ap, ◌∙◌, arith}
+use Rattle.std.proofs.Common.{inl, inr, ℕ, zero, List, Option, Some, None, ◌≢◌, append-nil, refl, sym, arith}
 use Rattle.std.specs.Prelude.{IfSome, IsSome}
 use Rattle.history_machine.specs.Machine.{World, Run, PartSent, EndsAs, Completes}
 use Rattle.plain_model.specs.declared.status.Status.{Status}
 use Rattle.plain_model.specs.declared.status.Status.TheVariants as status
-use Rattle.plain_model.specs.Counts.{Rose}
+use Rattle.plain_model.proofs.Counts.{rose_before}
 use Rattle.surgeon_store.specs.Outside.{StoreState, SinkState, Reads}
 use Rattle.surgeon_session.specs.Calls.{world, Later, Caused, NoFaults}
 
@@ -25,17 +25,13 @@ mapped None v' f h = tt
 mapped (Some a) None f h = tt
 mapped (Some a) (Some b) f h = f a b h
 
--- a count that rose later rose
-rose_later : (a b c : ℕ) → a ≤ b → Rose b c → Rose a c
-rose_later a b c le h = omega (arith, le, h)
-
 pub caused_later : (s m n : StoreState) (k l o : SinkState) (r : Status) → Later s k m l → Caused m l r n o → Caused s k r n o
-caused_later s m n k l o status.SourceFault later h = rose_later s.read_faults m.read_faults n.read_faults later.read_faults h
+caused_later s m n k l o status.SourceFault later h = rose_before s.read_faults m.read_faults n.read_faults later.read_faults h
 caused_later s m n k l o status.SinkFault later h = elim h [
-  | inl x ↦ inl (rose_later s.write_faults m.write_faults n.write_faults later.write_faults x)
-  | inr x ↦ inr (rose_later k.faults l.faults o.faults later.faults x)
+  | inl x ↦ inl (rose_before s.write_faults m.write_faults n.write_faults later.write_faults x)
+  | inr x ↦ inr (rose_before k.faults l.faults o.faults later.faults x)
 ]
-caused_later s m n k l o status.NoScript later h = rose_later s.misses m.misses n.misses later.misses h
+caused_later s m n k l o status.NoScript later h = rose_before s.misses m.misses n.misses later.misses h
 caused_later s m n k l o status.Done later h = tt
 caused_later s m n k l o status.Refused later h = tt
 caused_later s m n k l o status.Usage later h = tt
@@ -56,18 +52,6 @@ later_later s m n k l o a b = record {
   reports = reports_later (world s k) (world m l) (world n o) a.reports b.reports;
   finished = λ h. b.finished (a.finished h);
 }
-
--- the item at a place, and those after it
-pub item_next : {A : Type 0} (xs : List A) (i : ℕ) (x : A) → i < length xs → x ≡ get_or xs i x → drop i xs ≡ x ∷ drop (i + 1) xs
-item_next xs i x lt is =
-    let k : suc i ≡ i + 1 = omega arith in
-    drop-cons xs i x lt ∙ ap (λ y. y ∷ drop (suc i) xs) (sym is) ∙ ap (λ j. x ∷ drop j xs) k
-
-pub drop_past : {A : Type 0} (xs : List A) (i : ℕ) → length xs ≤ i → drop i xs ≡ []
-drop_past [] zero le = refl
-drop_past [] (suc i) le = refl
-drop_past (x ∷ xs) zero le = absurd (omega (arith, le))
-drop_past (x ∷ xs) (suc i) le = drop_past xs i (omega (arith, le))
 
 completes : {X : Type 0} (run : Run X) (s s' : StoreState) (k k' : SinkState) (r : Status) (w now : World) → Caused s k r s' k' → NoFaults s k s' k' → r ≢ status.Memory
     → EndsAs run r w now → Completes run r w now

@@ -1,5 +1,6 @@
-use Rattle.surgeon_session.proofs.Places.{assigned_at, kept_at, on_err}
+use Rattle.surgeon_session.proofs.Places.{assigned_at, kept_at}
 use Rattle.surgeon_session.proofs.load_list.LoadList.assign.Goals as goal
+use Rattle.std.proofs.lemmas.Result.{on_err_weaker}
 
 pub returns-clause-changes : goal.returns-clause-changes
 returns-clause-changes c = λ macros.
@@ -10,5 +11,5 @@ returns-clause-changes c = λ macros.
 pub returns-clause-kept : goal.returns-clause-kept
 returns-clause-kept c =
     rw (← c.self.view_is)
-    (on_err c.assign.result _ _ (kept_at c.self.inside.by_name.entries c.self.inside.choice c.in_ok-place.place (rw (← c.self.view_is) at c.in_ok-place.ensures) c.index_mut.result.now c.index_mut.ensures.value
+    (on_err_weaker c.assign.result (kept_at c.self.inside.by_name.entries c.self.inside.choice c.in_ok-place.place (rw (← c.self.view_is) at c.in_ok-place.ensures) c.index_mut.result.now c.index_mut.ensures.value
     c.assign.new.self) c.assign.ensures.err)

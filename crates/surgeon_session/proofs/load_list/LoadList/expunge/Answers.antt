@@ -1,6 +1,7 @@
 use Rattle.history_machine.specs.Sessions.{after_edit, edited, without_paths}
-use Rattle.surgeon_session.proofs.Places.{changed_at, kept_at, on_err}
+use Rattle.surgeon_session.proofs.Places.{changed_at, kept_at}
 use Rattle.surgeon_session.proofs.load_list.LoadList.expunge.Goals as goal
+use Rattle.std.proofs.lemmas.Result.{on_err_weaker}
 
 pub returns-clause-changes : goal.returns-clause-changes
 unfolding after_edit
@@ -12,5 +13,5 @@ returns-clause-changes c = λ macros.
 pub returns-clause-kept : goal.returns-clause-kept
 returns-clause-kept c =
     rw (← c.self.view_is)
-    (on_err c.expunge.result _ _ (kept_at c.self.inside.by_name.entries c.self.inside.choice c.in_ok-place.place (rw (← c.self.view_is) at c.in_ok-place.ensures) c.index_mut.result.now c.index_mut.ensures.value
+    (on_err_weaker c.expunge.result (kept_at c.self.inside.by_name.entries c.self.inside.choice c.in_ok-place.place (rw (← c.self.view_is) at c.in_ok-place.ensures) c.index_mut.result.now c.index_mut.ensures.value
     c.expunge.new.self) c.expunge.ensures.err)
