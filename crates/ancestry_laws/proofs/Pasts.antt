@@ -9,7 +9,6 @@ use Rattle.plain_model.specs.declared.event.PlainEvent.TheVariants.{Blob, Commit
 use Rattle.plain_model.specs.Histories.{IsLinkedPast, knows, nodes, past}
 use Rattle.plain_model.specs.Soundness.{AreSoundAfter, IsCommitOf, IsSound, IsSoundEvent, has_id}
 use Rattle.history_laws.proofs.Commits.{nodes_append}
-use Rattle.history_laws.proofs.Lists.{all_join}
 
 -- ---- a list turned
 
@@ -24,11 +23,6 @@ any_reverse f (x ∷ xs) =
     swap true false = refl
     swap false true = refl
     swap false false = refl
-
-pub all_reverse : {X : Type 0} (P : X → Type 0) (xs : List X) → AllByRecursion P xs → AllByRecursion P (reverse xs)
-all_reverse P [] h = tt
-all_reverse P (x ∷ xs) h =
-    subst (AllByRecursion P) (sym (reverse-append (x ∷ []) xs)) (all_join P (reverse xs) (x ∷ []) (all_reverse P xs h.1) (h.0, tt))
 
 -- ---- the past of a list
 

@@ -14,8 +14,8 @@ use Rattle.plain_model.specs.Lookups.{find_event, id_of, is_listed}
 use Rattle.plain_model.specs.Soundness.{IsCommitOf, IsSound, are_distinct, has_id}
 use Rattle.history_laws.specs.FirstParents.{ops_along}
 use Rattle.history_laws.proofs.Ids.{each_found}
-use Rattle.history_laws.proofs.Lists.{all_imply}
-use Rattle.ancestry_laws.proofs.Pasts.{all_reverse, linked_past}
+use Rattle.history_laws.proofs.Lists.{all_imply, all_reverse}
+use Rattle.ancestry_laws.proofs.Pasts.{linked_past}
 use Rattle.history_laws.proofs.SoundOnce.{sound_once}
 use Rattle.edit_laws.specs.Blobs.{HasBytesOf}
 use Rattle.edit_laws.specs.Equations.{Fits}

@@ -14,8 +14,7 @@ use Rattle.plain_model.specs.Lookups.{commit_id, id_of, is_listed, same_id}
 use Rattle.plain_model.specs.Paths.{Bytes}
 use Rattle.plain_model.specs.Soundness.{IsSound, are_distinct}
 use Rattle.history_laws.specs.FirstParents.{ops_along}
-use Rattle.history_laws.proofs.Lists.{all_imply}
-use Rattle.ancestry_laws.proofs.Pasts.{all_reverse}
+use Rattle.history_laws.proofs.Lists.{all_imply, all_reverse}
 use Rattle.event_arena.specs.Changes.{without_all}
 use Rattle.edit_laws.specs.Parts.{IsLawful}
 use Rattle.edit_laws.proofs.Lists.{OfNodes, events_of_nodes, nodes_of_events}

@@ -14,8 +14,8 @@ use Rattle.plain_model.specs.Histories.{IsLinkedPast, Node, Past, begun, folded,
 use Rattle.plain_model.specs.Soundness.{IsCommitOf}
 use Rattle.plain_model.specs.Trees.{Refusal, Tree, apply}
 use Rattle.history_laws.proofs.LineLaws.{FirstKnown, first_known, known_before}
-use Rattle.history_laws.proofs.Lists.{all_imply}
-use Rattle.ancestry_laws.proofs.Pasts.{all_reverse, known_past}
+use Rattle.history_laws.proofs.Lists.{all_imply, all_reverse}
+use Rattle.ancestry_laws.proofs.Pasts.{known_past}
 use Rattle.edit_laws.specs.Checking.{event_fault, fault_of, first_fault, first_refused, tree_check, unless, unless_refused}
 use Rattle.edit_laws.specs.Equations.{Fits}
 use Rattle.edit_laws.specs.Parts.{AreInOrder, AreOnce}

@@ -11,11 +11,11 @@ use Rattle.plain_model.specs.Histories.{nodes, past}
 use Rattle.edit_laws.specs.Settling.{settle}
 use Rattle.edit_laws.specs.Parts.{AreOnce, CanBeNumbered, IsAbove, one_if, tally}
 use Rattle.edit_laws.proofs.Lists.{OfNodes, all_true, events_of_nodes, nodes_of_events}
-use Rattle.ancestry_laws.proofs.Pasts.{all_reverse}
 use Rattle.edit_laws.proofs.Numbered.{above, height}
 use Rattle.edit_laws.proofs.Settled.{settled}
 use Rattle.edit_laws.proofs.Settles.{any_event, settled_in_order, settled_once, settled_sums}
 use Rattle.edit_laws.proofs.Trees.{linked_in_order}
+use Rattle.history_laws.proofs.Lists.{all_reverse}
 
 module _ (number : ℕ → ℕ) where
   -- a commit isn't above one of its parents

@@ -8,9 +8,9 @@ use Rattle.plain_model.specs.declared.event.PlainEvent.{PlainEvent}
 use Rattle.plain_model.specs.Histories.{Node, Past, past, nodes, knows, IsLinkedPast}
 use Rattle.plain_model.specs.Soundness.{IsSound}
 use Rattle.edit_laws.specs.Parts.{CanBeNumbered, IsAbove}
-use Rattle.ancestry_laws.proofs.Pasts.{all_reverse}
 use Rattle.ancestry_laws.proofs.Pasts.{linked_past}
 use Rattle.edit_laws.proofs.Trees.{known_later, not_fresh}
+use Rattle.history_laws.proofs.Lists.{all_reverse}
 
 -- how many commits there are up to one
 abbrev pub height : Past → ℕ → ℕ

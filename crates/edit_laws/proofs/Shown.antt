@@ -28,9 +28,9 @@ use Rattle.edit_laws.specs.Blobs.{HasBytesOf}
 use Rattle.edit_laws.specs.Parts.{AreComplete, AreOnce, of_id, tally}
 use Rattle.edit_laws.specs.Settling.{is_ready}
 use Rattle.edit_laws.proofs.Lists.{all_front, all_rear, all_true, has_own_id}
-use Rattle.ancestry_laws.proofs.Pasts.{all_reverse}
 use Rattle.std.proofs.Common.{eq-eqb}
 use Rattle.edit_laws.proofs.Sound.{new_there}
+use Rattle.history_laws.proofs.Lists.{all_reverse}
 
 -- ---- what is true of all entries
 

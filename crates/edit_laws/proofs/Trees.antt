@@ -12,11 +12,12 @@ use Rattle.plain_model.specs.Lookups.{id_of, op_blobs}
 use Rattle.plain_model.specs.Trees.{Tree}
 use Rattle.plain_model.specs.Soundness.{IsCommitOf, has_id}
 use Rattle.history_laws.proofs.LineLaws.{FirstKnown, first_known, known_before}
+use Rattle.history_laws.proofs.Lists.{all_reverse}
 use Rattle.edit_laws.specs.Equations.{Fits}
 use Rattle.edit_laws.specs.Parts.{AreInOrder, AreOnce}
 use Rattle.edit_laws.specs.Settling.{is_ready}
 use Rattle.edit_laws.proofs.Lists.{all_front, all_true, has_own_id}
-use Rattle.ancestry_laws.proofs.Pasts.{all_reverse, known_past, past_append}
+use Rattle.ancestry_laws.proofs.Pasts.{known_past, past_append}
 use Rattle.edit_laws.proofs.Sound.{new_there}
 
 -- ---- what is known

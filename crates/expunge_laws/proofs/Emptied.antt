@@ -17,7 +17,7 @@ use Rattle.edit_laws.specs.Parts.{AreOnce, HasFewParents, of_id, tally}
 use Rattle.edit_laws.specs.Removal.{expand, expand_all}
 use Rattle.edit_laws.proofs.Chains.{expand_gone, expand_other, expand_stays}
 use Rattle.history_laws.proofs.Ids.{has_id_append, has_id_cons, same_id_refl}
-use Rattle.ancestry_laws.proofs.Pasts.{all_reverse}
+use Rattle.history_laws.proofs.Lists.{all_reverse}
 use Rattle.edit_laws.proofs.Lists.{OfNodes, all_flat, events_of_nodes, has_own_id, not_before}
 use Rattle.edit_laws.proofs.Repeats.{shorter_once}
 use Rattle.edit_laws.proofs.Sound.{in_parts, new_there}

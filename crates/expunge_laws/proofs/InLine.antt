@@ -15,10 +15,11 @@ use Rattle.plain_model.specs.Paths.{Bytes}
 use Rattle.plain_model.specs.Soundness.{IsSound}
 use Rattle.history_laws.specs.FirstParents.{ops_along}
 use Rattle.history_laws.proofs.LineLaws.{known_before}
+use Rattle.history_laws.proofs.Lists.{all_reverse}
 use Rattle.edit_laws.specs.Removal.{back, chain, expand, expand_all, once_each}
 use Rattle.edit_laws.specs.Settling.{is_ready}
 use Rattle.edit_laws.proofs.Chains.{chain_gone, chain_other, chain_stays, expand_gone, expand_other, expand_stays}
-use Rattle.ancestry_laws.proofs.Pasts.{all_reverse, linked_past}
+use Rattle.ancestry_laws.proofs.Pasts.{linked_past}
 use Rattle.edit_laws.proofs.Fine.{ready_parents}
 use Rattle.edit_laws.proofs.Lists.{OfNodes, events_of_nodes}
 use Rattle.edit_laws.proofs.Settles.{sound_settles}

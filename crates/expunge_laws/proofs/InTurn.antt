@@ -11,7 +11,7 @@ use Rattle.plain_model.specs.Trees.{Refusal, Tree, apply, apply_all, at, cleared
 use Rattle.plain_model.specs.Trees.Refusal.{PathBytes}
 use Rattle.history_laws.proofs.TreeLaws.{at_where}
 use Rattle.expunge_laws.specs.Replaced.{replaced, replaced_all}
-use Rattle.history_laws.proofs.TreeMaps.{absent, at_put_all, within_ok}
+use Rattle.history_laws.proofs.TreeMaps.{absent, at_put_all, within_ok, some_second}
 use Rattle.expunge_laws.proofs.TreesLeft.{both_apply}
 
 -- ---- one after another
@@ -49,15 +49,11 @@ after_placed source target taken base old new q gone h k =
     ∙ at_put_all (moved source target taken) (cleared_for target base) q
     ∙ ap (option_or (at (moved source target taken) q)) (at_where (λ z. not (is_in_the_way target z)) q base ∙ ap (λ (o : Option Entry). cond (not (is_in_the_way target q)) o None) k)
 
-some_or : (a b : Option Entry) → is_some b ≡ true → is_some (option_or a b) ≡ true
-some_or None b h = h
-some_or (Some x) b h = refl
-
 -- a path that goes was in the way, or is taken
 what_goes : (put_in old new : Tree) (q : Bytes) (way gone : Bool) → IsAfter put_in old new q way gone → has old q ≡ true → has new q ≡ false → way || gone ≡ true
 what_goes put_in old new q true gone s h k = refl
 what_goes put_in old new q false true s h k = refl
-what_goes put_in old new q false false s h k = absurd (true≢false (sym (ap is_some s ∙ some_or (at put_in q) (at old q) h) ∙ k))
+what_goes put_in old new q false false s h k = absurd (true≢false (sym (ap is_some s ∙ some_second (at put_in q) (at old q) h) ∙ k))
 
 -- where nothing is put, what is there is as it was
 what_comes : (put_in old new : Tree) (q : Bytes) (way gone : Bool) → IsAfter put_in old new q way gone → has put_in q ≡ false → has new q ≡ true → at new q ≡ at old q

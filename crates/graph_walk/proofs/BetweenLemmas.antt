@@ -13,8 +13,8 @@ use Rattle.plain_model.specs.Lookups.{event_parents, id_of, place_of, same_id}
 use Rattle.plain_model.specs.Soundness.{IsCommitOf, IsSound}
 use Rattle.history_laws.proofs.Ids.{same_id_true}
 use Rattle.history_laws.specs.Once.{AreDistinct}
+use Rattle.history_laws.proofs.Lists.{all_reverse}
 use Rattle.ancestry_laws.specs.Ancestry.{descends, is_one_of}
-use Rattle.ancestry_laws.proofs.Pasts.{all_reverse}
 use Rattle.graph_walk.specs.Flags.{FlagsMore, flag_at, is_commit_of, is_flagged_commit}
 use Rattle.ancestry_laws.proofs.Descent.{closed_reaches}
 use Rattle.std.proofs.lemmas.Bool.Decides.{nat_tests}

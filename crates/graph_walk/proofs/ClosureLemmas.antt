@@ -13,8 +13,9 @@ use Rattle.plain_model.specs.Lookups.{event_parents, id_of, is_listed, place_of,
 use Rattle.plain_model.specs.Soundness.{IsCommitOf, IsSound, has_id}
 use Rattle.history_laws.proofs.Ids.{same_id_true}
 use Rattle.history_laws.specs.Once.{AreDistinct}
+use Rattle.history_laws.proofs.Lists.{all_reverse}
 use Rattle.ancestry_laws.specs.Ancestry.{commits, descends, is_one_of, is_parent_in}
-use Rattle.ancestry_laws.proofs.Pasts.{all_reverse, any_reverse, known_past, linked_past}
+use Rattle.ancestry_laws.proofs.Pasts.{any_reverse, known_past, linked_past}
 use Rattle.graph_walk.specs.Flags.{FlagsMore, flag_at, flagged_ids, is_commit_of, is_flagged_commit}
 use Rattle.ancestry_laws.proofs.Descent.{any_here, any_some, closed_reaches, from_itself, high_known, parent_reaches}
 use Rattle.graph_walk.proofs.EarlierLemmas.{parents_before, is_earlier}

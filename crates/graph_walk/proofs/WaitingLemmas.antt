@@ -1,5 +1,5 @@
 -- Rows of waiters, and places in ascending order.
-use Rattle.std.proofs.Common.{◌≡◌, ◌∙◌, ℕ, zero, suc, ◌<◌, Bool, true, false, cond, ◌||◌, inl, inr, List, [], ◌∷◌, Option, Some, None, Result, Ok, Err, refl, sym, ap, subst, length, get_or, eqb, eq-eqb, arith}
+use Rattle.std.proofs.Common.{◌≡◌, ◌∙◌, ℕ, zero, suc, ◌<◌, Bool, true, false, cond, ◌||◌, inl, inr, List, [], ◌∷◌, Option, Some, None, refl, sym, ap, subst, length, get_or, eqb, eq-eqb, arith}
 use Rattle.plain_model.proofs.Numbers.{eqb_turned}
 use Rattle.std.proofs.lemmas.Bool.{cases_Bool, eqb-true, true≢false, or_cases, ltb-true}
 use Rattle.std.proofs.lemmas.Bool.Decides.{nat_tests}
@@ -9,7 +9,7 @@ use Rattle.std.specs.BTreeMap.{is_at}
 use Rattle.std.specs.BTreeMap.Range.{IsLtBy}
 use Rattle.std.specs.List.{All, AllByRecursion, list_any}
 use Rattle.std.specs.Ordering.{is_eq, nat_cmp}
-use Rattle.std.specs.Prelude.{IfNone, IfSome, IsSome, MatchOption, OnErr, Vec, nat_lt}
+use Rattle.std.specs.Prelude.{IfNone, IfSome, IsSome, MatchOption, Vec, nat_lt}
 use Rattle.std.specs.declared.cmp.Ordering.TheVariants.{Less, Equal, Greater}
 use Rattle.graph_walk.specs.Rows.{rows_of}
 use Rattle.graph_walk.specs.Waiters.{TakesLeast, is_among}
@@ -98,8 +98,3 @@ least_taken (Some k) old new removal above same some = record {
   fewer = ap length removal;
   above = above_all k new (recursion_from_All (IsLtBy nat_cmp k) new above);
 }
-
--- a fact of a refused call
-pub on_err : {T E : Type 0} (r : Result T E) (P : Type 0) → P → OnErr r P
-on_err (Ok x) P h = tt
-on_err (Err e) P h = h

@@ -3,7 +3,7 @@ use Rattle.std.proofs.Common.{◌≡◌, ℕ, ◌<◌, subst, true, false, List,
 use Rattle.std.specs.Prelude.{◌==◌, ◌||◌, option_to_list, IsSome, option_map, slice_get}
 use Rattle.std.specs.List.{AllByRecursion, fold}
 use Rattle.std.proofs.Math.Bool.{or_assoc}
-use Rattle.std.proofs.lemmas.Bool.{cases_Bool, cond-false, cond-true, or_left, or_right, true≢false}
+use Rattle.std.proofs.lemmas.Bool.{cases_Bool, cond-false, cond-true, or_left, or_right, true≢false, or_parts}
 use Rattle.std.proofs.lemmas.Option.{none-some, same_Some}
 use Rattle.plain_model.specs.declared.id.AnyId.{AnyId}
 use Rattle.plain_model.specs.declared.id.AnyId.TheVariants as any
@@ -203,6 +203,14 @@ pub place_within : (es : List PlainEvent) (k : ℕ) (e : PlainEvent) → slice_g
 place_within [] k e h = absurd (none-some e h)
 place_within (x ∷ es) zero e h = omega arith
 place_within (x ∷ es) (suc k) e h = let rest = place_within es k e h in omega arith
+
+-- an event whose id is none of those before it comes right after them
+pub place_after : (xs ys : List PlainEvent) (e : PlainEvent) → has_id xs (id_of e) ≡ false → place_of (id_of e) (xs ++ e ∷ ys) ≡ Some (length xs)
+place_after [] ys e none = cond-true (same_id (id_of e) (id_of e)) (Some 0) (option_map suc (place_of (id_of e) ys)) (same_id_refl (id_of e))
+place_after (x ∷ xs) ys e none =
+    let parts = or_parts (same_id (id_of e) (id_of x)) (has_id xs (id_of e)) (sym (has_id_cons x xs (id_of e)) ∙ none) in
+    cond-false (same_id (id_of e) (id_of x)) (Some 0) (option_map suc (place_of (id_of e) (xs ++ e ∷ ys))) parts.0
+    ∙ ap (option_map suc) (place_after xs ys e parts.1)
 
 -- an event that is there has a place
 pub found_place : (id : AnyId) (es : List PlainEvent) → IsSome (find_event id es) → IsSome (place_of id es)

@@ -14,7 +14,7 @@ use Rattle.std.specs.declared.cmp.Ordering.TheVariants.{Equal, Greater, Less}
 use Rattle.plain_model.specs.declared.operation.Entry.{Entry}
 use Rattle.plain_model.specs.declared.limit.TheConstants.{MAX_PATHS}
 use Rattle.plain_model.specs.Paths.{Bytes, do_conflict, is_in_the_way}
-use Rattle.plain_model.specs.Trees.{Tree, at, has, where_path, put, put_all, within_paths, placed, has_long_path, moved, cleared_for}
+use Rattle.plain_model.specs.Trees.{Tree, TreeOf, at, has, where_path, put, put_all, within_paths, placed, has_long_path, moved, cleared_for}
 use Rattle.plain_model.specs.Trees.Refusal.{PathBytes, Paths}
 use Rattle.history_laws.proofs.TreeLaws.{by_bytes, at_where, at_put, same_path}
 
@@ -48,6 +48,11 @@ at_put_all (e ∷ es) base q =
 
 pub itself : (q : Bytes) → eq_by_cmp by_bytes q q ≡ true
 itself q = ap is_eq (tied_itself nat_list_cmp_total q)
+
+-- one that is there as the second of two is one of them
+pub some_second : {X : Type 0} (o p : Option X) → is_some p ≡ true → is_some (option_or o p) ≡ true
+some_second None p h = h
+some_second (Some x) p h = refl
 
 -- an option that isn't there
 pub absent : (o : Option Entry) → is_some o ≡ false → o ≡ None
@@ -118,11 +123,20 @@ there_any g (e ∷ es) h = go (g e.0) refl h (λ x. there_any g es x)
 
 -- ---- lengths
 
-pub length_where : (f : Bytes → Bool) (tree : Tree) → length (where_path f tree) ≤ length tree
+pub length_where : {X : Type 0} (f : Bytes → Bool) (tree : TreeOf X) → length (where_path f tree) ≤ length tree
 length_where f [] = omega arith
 length_where f (e ∷ es) =
     let rest = length_where f es in
     elim (f e.0) as (λ b. length (cond b (e ∷ where_path f es) (where_path f es)) ≤ suc (length es)) [ true ↦ omega arith | false ↦ omega arith ]
+
+pub length_put : {X : Type 0} (p : Bytes) (x : X) (tree : TreeOf X) → length (put p x tree) ≤ length tree + 1
+length_put p x [] = omega arith
+length_put p x (e ∷ es) = by (by_bytes p e.0) (length_put p x es)
+  where
+    by : (o : Ordering) → length (put p x es) ≤ length es + 1 → length (entries.by_order o ((p, x) ∷ e ∷ es) ((e.0, x) ∷ es) (e ∷ put p x es)) ≤ suc (length es) + 1
+    by Less few = omega arith
+    by Equal few = omega arith
+    by Greater few = omega (arith, few)
 
 pub length_put_grows : (p : Bytes) (e : Entry) (tree : Tree) → IsOrdered tree → length tree ≤ length (put p e tree)
 length_put_grows p e tree s =

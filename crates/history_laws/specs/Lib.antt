@@ -3,4 +3,5 @@ pub mod Examples
 pub mod Finding
 pub mod FirstParents
 pub mod Once
+pub mod Placed
 pub mod SoundTrees

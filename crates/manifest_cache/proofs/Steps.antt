@@ -10,7 +10,8 @@ use Rattle.plain_model.specs.declared.event.PlainEvent.{PlainEvent}
 use Rattle.plain_model.specs.Lookups.{event_ops, event_parents, find_event, id_of, place_of, same_id}
 use Rattle.history_laws.specs.Once.{AreDistinct}
 use Rattle.event_arena.proofs.OnceLemmas.{distinct_absent}
-use Rattle.history_laws.proofs.Ids.{absent_cons, find_id, same_id_refl}
+use Rattle.history_laws.proofs.Ids.{absent_cons, find_id, place_after}
+use Rattle.history_laws.proofs.SoundOnce.{has_id_find}
 use Rattle.manifest_cache.specs.Following.{is_before, is_earlier}
 use Rattle.manifest_cache.specs.Lines.{line, line_before}
 use Rattle.manifest_cache.specs.Walks.{first_parent}
@@ -62,12 +63,6 @@ place_back (x ∷ xs) zs id j h at =
         let same = same_Some (suc k) j e in
         omega (arith, more, same)
 
-place_own : (xs ys : List PlainEvent) (e : PlainEvent) → find_event (id_of e) xs ≡ None → place_of (id_of e) (xs ++ e ∷ ys) ≡ Some (length xs)
-place_own [] ys e h = rw (same_id_refl (id_of e)) refl
-place_own (x ∷ xs) ys e h =
-    let rest = absent_cons (id_of e) x xs h in
-    rw (rest.0, place_own xs ys e rest.1) refl
-
 -- ---- a commit in a list in which no event is twice
 
 module _ (events : List PlainEvent) (once : AreDistinct events) (c : ℕ) (e : PlainEvent) (found : find_event (any.Commit c) events ≡ Some e) where
@@ -118,7 +113,7 @@ module _ (events : List PlainEvent) (once : AreDistinct events) (c : ℕ) (e : P
     earlier_is : (o : Option PlainEvent) → find_event (any.Commit p) front ≡ o → is_earlier events p c ≡ is_some o
     earlier_is o at =
         ap (λ (es : List PlainEvent). is_earlier es p c) is
-        ∙ ap (is_before (place_of (any.Commit p) (front ++ e ∷ rest))) (ap (λ i. place_of i (front ++ e ∷ rest)) own ∙ place_own front rest e (distinct_absent front rest e distinct))
+        ∙ ap (is_before (place_of (any.Commit p) (front ++ e ∷ rest))) (ap (λ i. place_of i (front ++ e ∷ rest)) own ∙ place_after front rest e (has_id_find front (id_of e) ∙ ap is_some (distinct_absent front rest e distinct)))
         ∙ go o at
       where
         later : (k : Option ℕ) → ((j : ℕ) → k ≡ Some j → length front ≤ j) → is_before k (Some (length front)) ≡ false

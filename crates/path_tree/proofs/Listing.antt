@@ -9,6 +9,7 @@ use Rattle.path_tree.specs.Folders.{Member, prefixed, member_tree, flat, total, 
 use Rattle.path_tree.specs.Folders.Member.{file, folder}
 use Rattle.path_tree.specs.Inside.{rows_of, row_tree, member_of}
 use Rattle.history_laws.specs.SoundTrees.{AllPaths}
+use Rattle.history_laws.proofs.TreeMaps.{some_second}
 use Rattle.path_tree.proofs.Keys.{at_append, tied}
 use Rattle.path_tree.specs.Falls.{total_append, total_prefixed, key_long}
 use Rattle.path_tree.proofs.Measures.{flat_push}
@@ -26,10 +27,6 @@ prefixed_prefixed k l (e ∷ t) =
 some_first : (o p : Option Entry) → is_some o ≡ true → is_some (option_or o p) ≡ true
 some_first None p h = absurd (true≢false (sym h))
 some_first (Some x) p h = refl
-
-some_second : (o p : Option Entry) → is_some p ≡ true → is_some (option_or o p) ≡ true
-some_second None p h = h
-some_second (Some x) p h = refl
 
 pub first_paths : (a b : Tree) → AllPaths (a ++ b) → AllPaths a
 first_paths a b all q h = all q (ap is_some (at_append a b q) ∙ some_first (at a q) (at b q) h)

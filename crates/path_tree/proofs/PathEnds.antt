@@ -1,17 +1,13 @@
 -- A path doesn't end with a slash.
-use Rattle.std.proofs.Common.{◌≡◌, ℕ, ◌+◌, ◌==◌, ◌≤◌, ◌<◌, Bool, true, false, cond, not, List, [], ◌∷◌, length, refl, sym, ap, subst, ◌∙◌, true≢false, nat_lt, arith}
+use Rattle.std.proofs.Common.{◌≡◌, ℕ, ◌==◌, ◌≤◌, ◌<◌, Bool, true, false, cond, not, List, [], ◌∷◌, length, refl, sym, ap, subst, ◌∙◌, true≢false, nat_lt, arith}
 use Rattle.std.specs.Prelude.{Result, Ok, Err, IfOk, OnOk}
 use Rattle.std.specs.List.{list_any, onto_first}
 use Rattle.std.proofs.lemmas.Bool.{or_right}
 use Rattle.std.proofs.lemmas.Bool.Decides.{nat_tests}
-use Rattle.std.specs.declared.cmp.Ordering.{Ordering}
-use Rattle.std.specs.declared.cmp.Ordering.TheVariants.{Less, Equal, Greater}
-use Rattle.std.specs.FinMap.Entries.{by_order}
-use Rattle.history_laws.proofs.TreeLaws.{by_bytes}
 use Rattle.plain_model.specs.declared.limit.TheConstants.{MAX_PATHS}
 use Rattle.plain_model.specs.declared.operation.Entry.{Entry}
 use Rattle.plain_model.specs.Paths.{Bytes, IsPath, is_empty, components, is_at_or_below, is_in_the_way}
-use Rattle.plain_model.specs.Trees.{Tree, TreeOf, Refusal, IsTree, apply, meaning, within_paths, Change, change, cleared_for, put, without, subtree}
+use Rattle.plain_model.specs.Trees.{Tree, Refusal, IsTree, apply, meaning, within_paths, Change, change, cleared_for, put, without, subtree}
 use Rattle.plain_model.specs.Trees.Change.{Put, Remove, CopyTo, MoveTo, Clear}
 use Rattle.plain_model.specs.Trees.Refusal.{Paths}
 use Rattle.plain_model.specs.declared.operation.FileOp.{FileOp}
@@ -20,7 +16,7 @@ use Rattle.history_laws.specs.SoundTrees.{AllPaths, IsSound}
 use Rattle.path_tree.specs.Folders.{prefixed}
 use Rattle.path_tree.specs.Setting.{ends_with_slash}
 use Rattle.history_laws.proofs.JoinedPaths.{rules_of}
-use Rattle.history_laws.proofs.TreeMaps.{few_within, length_where, placed_small}
+use Rattle.history_laws.proofs.TreeMaps.{few_within, length_where, placed_small, length_put}
 
 -- the members after the first
 abbrev later : List Bytes → List Bytes
@@ -72,22 +68,12 @@ change_few Clear old new h few =
     let is : new ≡ [] = cc in
     rw is (omega arith)
 
--- one more path at most
-more_put : {X : Type 0} (p : Bytes) (x : X) (tree : TreeOf X) → length (put p x tree) ≤ length tree + 1
-more_put p x [] = omega arith
-more_put p x (e ∷ es) = by (by_bytes p e.0) (more_put p x es)
-  where
-    by : (o : Ordering) → length (put p x es) ≤ length es + 1 → length (by_order o ((p, x) ∷ e ∷ es) ((e.0, x) ∷ es) (e ∷ put p x es)) ≤ length (e ∷ es) + 1
-    by Less h = omega arith
-    by Equal h = omega arith
-    by Greater h = omega (arith, h)
-
 pub put_within : (p : Bytes) (x : Entry) (old : Tree) → length old < MAX_PATHS → within_paths (put p x (cleared_for p old)) ≡ Ok (put p x (cleared_for p old))
 put_within p x old room = by (nat_lt MAX_PATHS (length (put p x (cleared_for p old)))) refl
   where
     by : (t : Bool) → nat_lt MAX_PATHS (length (put p x (cleared_for p old))) ≡ t
         → cond t (Err Paths) (Ok (put p x (cleared_for p old))) ≡ Ok (put p x (cleared_for p old))
-    by true e = absurd (grind (arith, nat_tests, e, room, more_put p x (cleared_for p old), length_where (λ q. not (is_in_the_way p q)) old))
+    by true e = absurd (grind (arith, nat_tests, e, room, length_put p x (cleared_for p old), length_where (λ q. not (is_in_the_way p q)) old))
     by false e = refl
 
 -- ---- what always holds of a tree holds after an operation

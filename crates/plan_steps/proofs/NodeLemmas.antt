@@ -10,9 +10,10 @@ use Rattle.plain_model.specs.declared.event.PlainEvent.TheVariants.{Blob, Commit
 use Rattle.plain_model.specs.Histories.{Node, node_at, nodes, past}
 use Rattle.plain_model.specs.Lookups.{event_ops, event_parents, find_event, id_of, place_of}
 use Rattle.plain_model.specs.Soundness.{IsCommitOf, IsSound, has_id}
-use Rattle.ancestry_laws.proofs.Pasts.{all_reverse, linked_past}
+use Rattle.ancestry_laws.proofs.Pasts.{linked_past}
 use Rattle.history_laws.specs.Once.{AreDistinct}
 use Rattle.history_laws.proofs.SoundOnce.{has_id_find, sound_once}
+use Rattle.history_laws.proofs.Lists.{all_reverse}
 use Rattle.edit_laws.specs.Settling.{is_ready}
 use Rattle.edit_laws.proofs.Lists.{OfNodes, all_true, nodes_of_events}
 use Rattle.edit_laws.proofs.Settles.{sound_settles}

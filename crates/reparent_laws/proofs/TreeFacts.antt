@@ -15,9 +15,8 @@ use Rattle.plain_model.specs.Histories.{Node, Past, begun, folded, if_ok, nodes,
 use Rattle.plain_model.specs.Paths.{Bytes, IsPath, is_at_or_below}
 use Rattle.plain_model.specs.Soundness.{IsFormedOp, IsSound}
 use Rattle.plain_model.specs.Trees.{IsTree, Refusal, Tree, apply, apply_all, cleared_for, has, meaning, put, subtree, without, ◌>>=◌}
-use Rattle.history_laws.proofs.Lists.{all_imply}
+use Rattle.history_laws.proofs.Lists.{all_imply, all_reverse}
 use Rattle.history_laws.proofs.TreeLaws.{apply_tree}
-use Rattle.ancestry_laws.proofs.Pasts.{all_reverse}
 use Rattle.edit_laws.proofs.Shown.{IfTree, Puts, all_in}
 use Rattle.history_laws.specs.SoundTrees.{IsSound as IsSoundTree}
 use Rattle.history_laws.proofs.KeptPaths.{PutsAtPath, change_paths}

@@ -15,7 +15,8 @@ use Rattle.plain_model.specs.Snapshots.{ShownCommit, ShownTag, blob_bytes, shown
 use Rattle.plain_model.specs.Snapshots.ShownContent.{ShownBytes}
 use Rattle.stream_grammar.specs.Known.{alias_marks, aliases_for, with_aliases, with_marks}
 use Rattle.replay_laws.specs.Replay.{Numbered, commit_numbered, marks_for, mark_among, mark_of_number, shown_of}
-use Rattle.replay_laws.proofs.Placed.{ArePlaced, commits_seen, tags_seen, unmarked_in, seen_with}
+use Rattle.replay_laws.proofs.Placed.{commits_seen, tags_seen, unmarked_in, seen_with}
+use Rattle.history_laws.specs.Placed.{ArePlaced}
 
 -- ---- what marks don't change
 

@@ -8,24 +8,16 @@ use Rattle.plain_model.specs.declared.event.PlainEvent.{PlainEvent}
 use Rattle.plain_model.specs.declared.event.PlainEvent.TheVariants.{Blob, Commit, Tag, Reset, Pass}
 use Rattle.plain_model.specs.Paths.{Bytes}
 use Rattle.plain_model.specs.Histories.{Past, nodes, past, tree_in, knows}
-use Rattle.plain_model.specs.Lookups.{greatest_mark, greatest_of, top_mark}
+use Rattle.plain_model.specs.Lookups.{greatest_mark, greatest_of, top_mark, id_number, id_of}
 use Rattle.plain_model.specs.Snapshots.{ShownTag, blob_bytes, shown, map_tree, shown_tree, refs}
 use Rattle.plain_model.specs.Streams.{blob_marked, commit_marked, is_among}
 use Rattle.stream_grammar.specs.Known.{alias_marks}
 use Rattle.history_laws.proofs.Commits.{unknown_both}
+use Rattle.history_laws.specs.Placed.{ArePlaced}
 use Rattle.replay_laws.specs.Replay.{Numbered, Replayed, bytes_marked, number_marked, commit_numbered, files_of}
 
 abbrev pub event_id : PlainEvent → ℕ
-event_id (Blob id mark bytes) = id
-event_id (Commit id mark branch author committer encoding comment parents ops aliases) = id
-event_id (Tag id name target tagger comment mark) = id
-event_id (Reset id branch target) = id
-event_id (Pass id line) = id
-
--- ids by place from k
-abbrev pub ArePlaced : ℕ → List PlainEvent → Type 0
-ArePlaced k [] = Unit {0}
-ArePlaced k (e ∷ events) = (event_id e ≡ k) × ArePlaced (suc k) events
+event_id e = id_number (id_of e)
 
 -- one more event, at the next place
 pub placed_more : (k : ℕ) (xs : List PlainEvent) (e : PlainEvent) → ArePlaced k xs → event_id e ≡ k + length xs → ArePlaced k (xs ++ e ∷ [])

@@ -19,10 +19,11 @@ use Rattle.plain_model.specs.Lookups.{top_mark, greatest_mark}
 use Rattle.plain_model.specs.Snapshots.{Shown, blob_bytes, shown, shown_tree, refs, refs_after}
 use Rattle.plain_model.specs.Snapshots.ShownContent.{ShownBytes, ShownObject}
 use Rattle.history_laws.proofs.Commits.{nodes_append, refs_append, all_put, all_where}
-use Rattle.history_laws.proofs.Lists.{all_imply, all_join}
+use Rattle.history_laws.proofs.Lists.{all_imply, all_join, all_reverse}
 use Rattle.replay_laws.specs.Replay.{Numbered, if_kept, changed_files}
 use Rattle.history_laws.proofs.TreeMapping.{map_change, if_ok_of, changed_from, begun_of, changes_seen, seen, seen_here, seen_other, seen_alike}
-use Rattle.replay_laws.proofs.Placed.{ArePlaced, IsBare, event_id, placed_more, marked_blobs, commits_seen, tags_seen, unmarked_in, seen_of, commits_append, blobs_append, tags_append, unmarked_append, greatest_more, bytes_still}
+use Rattle.history_laws.specs.Placed.{ArePlaced}
+use Rattle.replay_laws.proofs.Placed.{IsBare, event_id, placed_more, marked_blobs, commits_seen, tags_seen, unmarked_in, seen_of, commits_append, blobs_append, tags_append, unmarked_append, greatest_more, bytes_still}
 
 -- ---- what the commits refer to
 
@@ -56,11 +57,6 @@ all_up m n h = all_imply (λ x. x < m) (λ x. x < n) (λ x k. omega arith)
 -- a greater bound of what commits refer to
 pub nodes_up : (m n : ℕ) → m ≤ n → (cs : List Node) → AllByRecursion (NodeBelow m) cs → AllByRecursion (NodeBelow n) cs
 nodes_up m n h = all_imply (NodeBelow m) (NodeBelow n) (λ c k. record { own = let own = k.own in omega arith; parents = all_up m n h c.parents k.parents; blobs = all_up m n h (blobs_of c.ops) k.blobs })
-
--- what holds of a list holds of it reversed
-all_reverse : {A : Type 0} (P : A → Type 0) (xs : List A) → AllByRecursion P xs → AllByRecursion P (reverse xs)
-all_reverse P [] a = tt
-all_reverse P (x ∷ xs) a = subst (AllByRecursion P) (sym (reverse-append (x ∷ []) xs)) (all_join P (reverse xs) (x ∷ []) (all_reverse P xs a.1) (a.0, tt))
 
 -- the same bytes for the blobs that operations name
 changes_same : (w v : List PlainEvent) (ops : List FileOp) → AllByRecursion (λ b. blob_bytes w b ≡ blob_bytes v b) (blobs_of ops) → changes_seen (shown w) ops ≡ changes_seen (shown v) ops

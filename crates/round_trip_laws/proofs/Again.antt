@@ -25,7 +25,8 @@ use Rattle.stream_grammar.specs.Known.{next_id, alias_marks, with_aliases, with_
 use Rattle.stream_grammar.specs.Known.Open.{Nothing}
 use Rattle.stream_grammar.specs.Lines.{history_in, must_go_on}
 use Rattle.history_laws.proofs.Commits.{refs_append}
-use Rattle.round_trip_laws.specs.AsRead.{ArePlaced, IsRooted, AreRootedAfter, IsAsRead}
+use Rattle.history_laws.specs.Placed.{ArePlaced}
+use Rattle.round_trip_laws.specs.AsRead.{IsRooted, AreRootedAfter, IsAsRead}
 use Rattle.round_trip_laws.proofs.Points.{point, Gives, line_ends, text_ends}
 use Rattle.round_trip_laws.proofs.WrittenLines.{is_between, is_known, done_leads}
 use Rattle.round_trip_laws.proofs.WrittenEvents.{GivesAfter, blob_goes, tag_goes, alias_goes, reset_goes, pass_goes}

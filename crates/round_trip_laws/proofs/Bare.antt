@@ -22,7 +22,8 @@ use Rattle.plain_model.specs.Streams.{is_among, is_marked}
 use Rattle.plain_model.specs.Text.{alias_text, blob_mark_in, data_block, encoding_text, event_text, is_feature_done, line, marked, op_text, parents_text, person, reset_text, tagger_text, target_text, raw_op_text, raw_op}
 use Rattle.plain_model.specs.Trees.{TreeOf, put, has, where_path}
 use Rattle.stream_grammar.specs.Known.{alias_marks, aliases_for, next_id, with_aliases}
-use Rattle.round_trip_laws.specs.AsRead.{ArePlaced, AreRootedAfter, IsAsRead, IsRooted}
+use Rattle.round_trip_laws.specs.AsRead.{AreRootedAfter, IsAsRead, IsRooted}
+use Rattle.history_laws.specs.Placed.{ArePlaced}
 
 -- ---- the two parts
 

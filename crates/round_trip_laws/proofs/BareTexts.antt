@@ -19,8 +19,8 @@ use Rattle.plain_model.specs.Text.{alias_text, data_block, encoding_text, event_
 use Rattle.plain_model.specs.Trees.{TreeOf}
 use Rattle.stream_grammar.specs.Known.{alias_marks, aliases_for, with_aliases}
 use Rattle.field_laws.proofs.FieldsAgain.{both}
-use Rattle.round_trip_laws.specs.AsRead.{ArePlaced}
 use Rattle.round_trip_laws.proofs.Bare.{bare, bare_event, pairs, mark_bare, blob_mark_bare}
+use Rattle.history_laws.specs.Placed.{ArePlaced}
 
 -- ---- texts
 

@@ -17,7 +17,7 @@ use Rattle.plain_model.specs.Snapshots.{commit_mark}
 use Rattle.plain_model.specs.Text.{blob_mark_in}
 use Rattle.plain_model.specs.Marks.{IsMark}
 use Rattle.history_laws.proofs.Commits.{nodes_append, unknown_both}
-use Rattle.round_trip_laws.specs.AsRead.{ArePlaced}
+use Rattle.history_laws.specs.Placed.{ArePlaced}
 
 -- ---- ids of two parts
 

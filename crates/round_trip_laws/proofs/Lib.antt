@@ -9,4 +9,3 @@ pub mod Again
 pub mod Rows
 mod Bare
 mod BareTexts
-pub mod PlacedIds

@@ -1,19 +1,12 @@
 -- Histories as reading gives them: what holds of each besides its soundness, so that what is written of it is
 -- read again as it (git-fast-import, "Input format"; ids by place: own).
-use Rattle.std.specs.Prelude.{◌≡◌, ℕ, suc, List, [], ◌∷◌, ◌++◌, IsFalse}
+use Rattle.std.specs.Prelude.{List, [], ◌∷◌, ◌++◌, IsFalse}
 use Rattle.plain_model.specs.declared.event.PlainEvent.{PlainEvent}
 use Rattle.plain_model.specs.declared.event.PlainEvent.TheVariants.{Commit}
-use Rattle.plain_model.specs.Lookups.{id_of, id_number}
 use Rattle.plain_model.specs.Snapshots.{refs}
 use Rattle.plain_model.specs.Soundness.{IsSound}
 use Rattle.plain_model.specs.Trees.{has}
-
--- ---- ids
-
--- the numbers of ids are places, from k
-abbrev pub ArePlaced : ℕ → List PlainEvent → Type 0
-ArePlaced k [] = Unit {0}
-ArePlaced k (e ∷ events) = (id_number (id_of e) ≡ k) × ArePlaced (suc k) events
+use Rattle.history_laws.specs.Placed.{ArePlaced}
 
 -- ---- roots
 

@@ -1,13 +1,9 @@
 -- The sample is sound: what is known of its events up to some commit, and of one more.
-use Rattle.std.proofs.Common.{◌≡◌, ◌∙◌, ℕ, zero, suc, ◌+◌, ◌-◌, ◌*◌, ◌/◌, ◌%◌, ◌<◌, ◌≤◌, ◌^◌, Bool, true, false, cond, ◌&&◌, not, inl, inr, List, [], ◌∷◌, ◌++◌, Option, Some, refl, sym, ap, subst, eqb, length, reverse, arith, append_assoc, lit≤, min}
+use Rattle.std.proofs.Common.{◌≡◌, ◌∙◌, ℕ, zero, suc, ◌+◌, ◌-◌, ◌*◌, ◌/◌, ◌%◌, ◌<◌, ◌≤◌, ◌^◌, true, false, cond, ◌&&◌, not, inl, inr, List, [], ◌∷◌, ◌++◌, Option, Some, refl, sym, ap, subst, eqb, length, reverse, arith, append_assoc, lit≤, min}
 use Rattle.std.proofs.lemmas.Bool.{and_parts, cases_Bool, cond_both, leb-false, leb-true, le-ltb, ltb-false, ltb-true, ne_eqb, true≢false}
 use Rattle.std.proofs.Math.Nat.{mod-lt}
 use Rattle.std.proofs.lemmas.List.{append-nil, reverse-append}
 use Rattle.std.specs.List.{AllByRecursion}
-use Rattle.std.specs.Ordering.{match_ordering, nat_cmp}
-use Rattle.std.specs.Cmp.Lexicographic.{slice_cmp}
-use Rattle.std.specs.declared.cmp.Ordering.{Ordering}
-use Rattle.std.specs.declared.cmp.Ordering.TheVariants.{Less, Equal, Greater}
 use Rattle.std.specs.Prelude.{◌==◌, IsSome, nat_le, nat_lt}
 use Rattle.plain_model.specs.declared.id.AnyId.{AnyId}
 use Rattle.plain_model.specs.declared.id.AnyId.TheVariants as any
@@ -20,13 +16,14 @@ use Rattle.plain_model.specs.declared.operation.FileOp.TheVariants.{Modify, Dele
 use Rattle.plain_model.specs.declared.event.PlainEvent.{PlainEvent}
 use Rattle.plain_model.specs.Histories.{Node, begun, folded, nodes, past, tree, tree_in}
 use Rattle.plain_model.specs.Lookups.{AreIdsBelow, alias_count, id_number, id_of, same_id}
-use Rattle.plain_model.specs.Paths.{Bytes, is_at_or_below, is_in_the_way}
+use Rattle.plain_model.specs.Paths.{is_at_or_below, is_in_the_way}
 use Rattle.plain_model.specs.Soundness.{AreSoundAfter, IsCommitOf, IsFormedEvent, IsFormedOp, IsFormedSigned, IsSound, IsSoundEvent, RefersBack, are_distinct, has_id}
 use Rattle.plain_model.specs.Streams.{is_marked}
-use Rattle.plain_model.specs.Trees.{Tree, TreeOf, cleared_for, put, where_path, without}
+use Rattle.plain_model.specs.Trees.{Tree, cleared_for, put, without}
 use Rattle.history_laws.specs.Counts.{ops_in}
 use Rattle.history_laws.proofs.Commits.{nodes_append}
 use Rattle.history_laws.proofs.Ids.{has_id_append, has_id_after, has_id_step, has_id_still, has_own, ids_below, is_marked_append, same_number}
+use Rattle.history_laws.proofs.TreeMaps.{length_put, length_where}
 use Rattle.sample_history.specs.Sample.{blob_number, blob_of, commit_number, commit_of, file, folder, ops_of, parents_of, path_in, sample, sample_from, signed_at, drawn, stepped}
 use Rattle.plain_model.specs.declared.limit.TheConstants.{MAX_SAMPLE_COMMITS}
 use Rattle.sample_history.proofs.Files.{is_file}
@@ -65,23 +62,6 @@ module _ (i r : ℕ) where
 
 -- ---- how many paths a tree has
 
-module _ {X : Type 0} where
-  few_put : (p : Bytes) (x : X) (t : TreeOf X) → length (put p x t) ≤ length t + 1
-  few_put p x [] = omega arith
-  few_put p x (e ∷ es) = by (slice_cmp nat_cmp p e.0) (few_put p x es)
-    where
-      by : (o : Ordering) → length (put p x es) ≤ length es + 1
-          → length (match_ordering o ((p, x) ∷ e ∷ es) ((e.0, x) ∷ es) (e ∷ put p x es)) ≤ length (e ∷ es) + 1
-      by Less few = omega arith
-      by Equal few = omega arith
-      by Greater few = omega (arith, few)
-
-  few_where : (test : Bytes → Bool) (t : TreeOf X) → length (where_path test t) ≤ length t
-  few_where test [] = omega arith
-  few_where test (e ∷ es) =
-      cond_both (test e.0) (e ∷ where_path test es) (where_path test es) (λ l. length l ≤ length (e ∷ es))
-      (λ it. omega (arith, few_where test es)) (λ no. omega (arith, few_where test es))
-
 -- there is a tree, of no more paths than so many
 record HasTree (n : ℕ) (o : Option Tree) : Type 0 where
   paths : Tree
@@ -95,7 +75,7 @@ module _ (n i r : ℕ) (low : n + 1 ≤ 200000) where
       let entry : Entry = record { mode = Plain; content = OfBlob (blob_number i) } in
       let put_in = put path entry (cleared_for path t) in
       let more : length put_in ≤ n + 1 =
-      omega (arith, few_put path entry (cleared_for path t), few_where (λ q. not (is_in_the_way path q)) t)
+      omega (arith, length_put path entry (cleared_for path t), length_where (λ q. not (is_in_the_way path q)) t)
       in
       let fits : nat_lt MAX_PATHS (length put_in) ≡ false = le-ltb MAX_PATHS (length put_in) (omega arith) in
       ops_by i r (λ ops. HasTree (n + 1) (folded ops (Some t)))
@@ -104,7 +84,7 @@ module _ (n i r : ℕ) (low : n + 1 ≤ 200000) where
       record {
         paths = without gone put_in;
         is = rw fits refl;
-        few = omega (arith, few_where (λ q. not (is_at_or_below gone q)) put_in);
+        few = omega (arith, length_where (λ q. not (is_at_or_below gone q)) put_in);
       }
       )
       (record { paths = put_in; is = rw fits refl; few = more })

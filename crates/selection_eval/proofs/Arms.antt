@@ -3,6 +3,7 @@ use Rattle.std.proofs.Common.{◌≡◌, ℕ, zero, suc, ◌+◌, ◌<◌, ◌�
 use Rattle.std.specs.Prelude.{Vec, Box, ◌&&◌}
 use Rattle.std.specs.List.{All}
 use Rattle.std.specs.Str.{is_utf8}
+use Rattle.std.proofs.lemmas.List.{drop_all}
 use Rattle.plain_model.specs.Paths.{Bytes}
 use Rattle.plain_model.specs.declared.event.PlainEvent.{PlainEvent}
 use Rattle.plain_model.specs.declared.fault.Halt.{Halt}
@@ -22,7 +23,7 @@ use Rattle.selection_eval.specs.Denoted.{denote, in_turn, joined}
 use Rattle.selection_eval.specs.Names.{Names}
 use Rattle.selection_eval.specs.Turning.{JudgesSet, step, turn}
 use Rattle.byte_patterns.proofs.Judged.{stopped, went_on}
-use Rattle.selection_eval.proofs.Steps.{next_item}
+use Rattle.history_laws.proofs.Lists.{next_item}
 
 -- ---- texts
 
@@ -112,19 +113,13 @@ module _ (join : Ids → Ids → Ids) (events : List PlainEvent) (names : Names)
 
 -- ---- after all of them
 
-gone : {A : Type 0} (all : List A) (i : ℕ) → length all ≤ i → drop i all ≡ []
-gone [] zero h = refl
-gone [] (suc i) h = refl
-gone (x ∷ all) zero h = absurd (omega arith)
-gone (x ∷ all) (suc i) h = gone all i (omega arith)
-
 module _ (join : Ids → Ids → Ids) (events : List PlainEvent) (names : Names) (all : List Selection) (i : ℕ) (end : length all ≤ i) where
   pub ended_some : (o : Option Ids) (ids : Ids) → o ≡ Some ids
       → (turn join o (in_order (map plain_of (drop i all))) events names).value ≡ Ok ids
   unfolding denote joined in_turn
-  ended_some o ids is = rw (is, gone all i end) refl
+  ended_some o ids is = rw (is, drop_all i all end) refl
 
   pub ended_none : (o : Option Ids) (ids : Ids) → o ≡ None → ids ≡ []
       → (turn join o (in_order (map plain_of (drop i all))) events names).value ≡ Ok ids
   unfolding denote joined in_turn
-  ended_none o ids is empty = rw (is, empty, gone all i end) refl
+  ended_none o ids is empty = rw (is, empty, drop_all i all end) refl

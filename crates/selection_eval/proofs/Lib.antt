@@ -11,5 +11,4 @@ mod OnceLaws
 mod OnceParts
 mod PathMarks
 mod SoundLaws
-mod Steps
 mod TipSteps

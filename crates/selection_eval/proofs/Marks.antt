@@ -1,5 +1,5 @@
 -- A number that is no mark is none of a sound history.
-use Rattle.std.proofs.Common.{◌≡◌, ℕ, Bool, true, false, List, [], ◌∷◌, ◌++◌, inl, inr, Option, Some, None, refl, subst, sym}
+use Rattle.std.proofs.Common.{◌≡◌, ℕ, Bool, true, false, List, [], ◌∷◌, ◌++◌, inl, inr, Option, None, refl, subst, sym}
 use Rattle.std.specs.Prelude.{◌==◌, map, option_to_list, IfSome}
 use Rattle.std.specs.List.{AllByRecursion}
 use Rattle.std.specs.Map.{lookup}
@@ -9,15 +9,7 @@ use Rattle.plain_model.specs.Marks.{IsMark}
 use Rattle.plain_model.specs.Soundness.{IsFormedEvent, IsSound}
 use Rattle.plain_model.specs.declared.id.AnyId.{AnyId}
 use Rattle.plain_model.specs.declared.event.PlainEvent.{PlainEvent}
-use Rattle.plain_model.specs.declared.event.PlainEvent.TheVariants.{Blob, Commit, Tag, Reset, Pass}
-
-are_marks : (e : PlainEvent) → IsFormedEvent e → AllByRecursion IsMark (event_marks e)
-are_marks (Blob id mark bytes) h = (h, tt)
-are_marks (Commit id mark branch author committer encoding comment parents ops aliases) h = (h.0, h.2)
-are_marks (Tag id name target tagger comment None) h = tt
-are_marks (Tag id name target tagger comment (Some mark)) h = (h, tt)
-are_marks (Reset id branch target) h = tt
-are_marks (Pass id line) h = tt
+use Rattle.history_laws.proofs.SoundMarks.{marks_formed}
 
 module _ (n : ℕ) (no_mark : IsMark n → ⊥) where
   not_among : (id : AnyId) (marks : List ℕ) (others : List (ℕ × AnyId)) → AllByRecursion IsMark marks
@@ -32,7 +24,7 @@ module _ (n : ℕ) (no_mark : IsMark n → ⊥) where
   none_in : (events : List PlainEvent) → AllByRecursion IsFormedEvent events
       → lookup (λ m. n == m) (marks_of events) ≡ None
   none_in [] h = refl
-  none_in (e ∷ events) h = not_among (id_of e) (event_marks e) (marks_of events) (are_marks e h.0) (none_in events h.1)
+  none_in (e ∷ events) h = not_among (id_of e) (event_marks e) (marks_of events) (marks_formed e h.0) (none_in events h.1)
 
   pub unmarked : (events : List PlainEvent) → IsSound events → find_mark n events ≡ None
   unmarked events h = none_in events h.spelled

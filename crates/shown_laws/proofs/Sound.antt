@@ -3,7 +3,7 @@ use Rattle.std.proofs.Common.{◌≡◌, ℕ, suc, ◌+◌, Bool, true, false, n
 use Rattle.std.specs.Prelude.{◌==◌, ◌||◌, ◌&&◌, option_map, unwrap_or, IsFalse}
 use Rattle.plain_model.specs.Streams.{is_marked}
 use Rattle.std.specs.List.{AllByRecursion, list_any}
-use Rattle.std.proofs.lemmas.Bool.{cases_Bool, cond-true, cond-false, false_from_ne_true, or_cases, or_parts}
+use Rattle.std.proofs.lemmas.Bool.{cases_Bool, false_from_ne_true, or_cases}
 use Rattle.plain_model.specs.declared.id.AnyId.{AnyId}
 use Rattle.plain_model.specs.declared.id.AnyId.TheVariants as any
 use Rattle.plain_model.specs.declared.operation.Mode.TheVariants.{Plain, Executable, Link, Gitlink}
@@ -12,15 +12,16 @@ use Rattle.plain_model.specs.declared.operation.FileOp.{FileOp}
 use Rattle.plain_model.specs.declared.operation.FileOp.TheVariants.{Modify, Delete, Copy, Rename, DeleteAll}
 use Rattle.plain_model.specs.declared.event.PlainEvent.{PlainEvent}
 use Rattle.plain_model.specs.declared.event.PlainEvent.TheVariants.{Blob, Commit, Tag, Reset, Pass}
-use Rattle.plain_model.specs.Lookups.{id_of, id_number, place_of, same_id}
+use Rattle.plain_model.specs.Lookups.{id_of, id_number}
 use Rattle.plain_model.specs.Snapshots.{refs}
 use Rattle.plain_model.specs.Soundness.{AreSoundAfter, IsCommitOf, IsFormedEvent, IsFormedOp, IsSoundEvent, RefersBack, are_distinct, has_id}
 use Rattle.plain_model.specs.Trees.{TreeOf}
 use Rattle.round_trip_laws.specs.AsRead.{AreRootedAfter, IsRooted}
-use Rattle.history_laws.proofs.Ids.{has_id_step, same_id_refl, same_id_comm}
+use Rattle.history_laws.proofs.Ids.{place_after}
 use Rattle.history_laws.proofs.Commits.{refs_append}
-use Rattle.round_trip_laws.proofs.PlacedIds.{id_below}
-use Rattle.shown_laws.specs.AsWritten.{place, renamed, renamed_from, renamed_op}
+use Rattle.history_laws.proofs.PlacedIds.{id_below}
+use Rattle.history_laws.specs.Finding.{event_number}
+use Rattle.shown_laws.specs.AsWritten.{renamed, renamed_from, renamed_op}
 use Rattle.shown_laws.proofs.Known.{AreFitAfter, IsFitEvent}
 use Rattle.shown_laws.proofs.Places.{Agree, agree_front, append_under, blob_under, commit_under, length_under, marks_under, one_place, placed}
 use Rattle.shown_laws.proofs.Resets.{AreRootedOn, IsRootedOn}
@@ -34,34 +35,26 @@ more earlier e k is = let many = length-append earlier (e ∷ []) in omega arith
 one_more : (earlier : List PlainEvent) (e : PlainEvent) (k : ℕ) → k ≡ 1 + length earlier → suc k ≡ 1 + length (earlier ++ e ∷ [])
 one_more earlier e k is = let many = length-append earlier (e ∷ []) in omega arith
 
--- an event whose id is nowhere before it has its place
-place_own : (earlier events : List PlainEvent) (e : PlainEvent) → has_id earlier (id_of e) ≡ false → place_of (id_of e) (earlier ++ e ∷ events) ≡ Some (length earlier)
-place_own [] events e h = cond-true (same_id (id_of e) (id_of e)) (Some 0) (option_map suc (place_of (id_of e) events)) (same_id_refl (id_of e))
-place_own (x ∷ earlier) events e h =
-    let parts = or_parts (same_id (id_of x) (id_of e)) (has_id earlier (id_of e)) (sym (has_id_step x earlier (id_of e)) ∙ h) in
-    cond-false (same_id (id_of e) (id_of x)) (Some 0) (option_map suc (place_of (id_of e) (earlier ++ e ∷ events))) (same_id_comm (id_of e) (id_of x) ∙ parts.0)
-    ∙ ap (option_map suc) (place_own earlier events e parts.1)
-
-place_is : (earlier events : List PlainEvent) (e : PlainEvent) (k : ℕ) → k ≡ length earlier + 1 → has_id earlier (id_of e) ≡ false → place (earlier ++ e ∷ events) (id_of e) ≡ k
-place_is earlier events e k is h = ap (λ (o : Option ℕ). unwrap_or (option_map (λ n. n + 1) o) 0) (place_own earlier events e h) ∙ sym is
+place_is : (earlier events : List PlainEvent) (e : PlainEvent) (k : ℕ) → k ≡ length earlier + 1 → has_id earlier (id_of e) ≡ false → event_number (earlier ++ e ∷ events) (id_of e) ≡ k
+place_is earlier events e k is h = ap (λ (o : Option ℕ). unwrap_or (option_map (λ n. n + 1) o) 0) (place_after earlier events e h) ∙ sym is
 
 module _ (whole : List PlainEvent) where
   abbrev blob_in : ℕ → ℕ
-  blob_in b = place whole (any.Blob b)
+  blob_in b = event_number whole (any.Blob b)
 
   abbrev commit_in : ℕ → ℕ
-  commit_in c = place whole (any.Commit c)
+  commit_in c = event_number whole (any.Commit c)
 
   agree_after : (earlier events : List PlainEvent) (k : ℕ) → whole ≡ earlier ++ events → k ≡ length earlier + 1 → AreFitAfter earlier events → Agree blob_in commit_in k events
   agree_after earlier [] k w is h = tt
   agree_after earlier (Blob id mark bytes ∷ events) k w is h =
       let e : PlainEvent = Blob id mark bytes in (
-        ap (λ (l : List PlainEvent). place l (any.Blob id)) w ∙ place_is earlier events e k is h.0.0,
+        ap (λ (l : List PlainEvent). event_number l (any.Blob id)) w ∙ place_is earlier events e k is h.0.0,
         agree_after (earlier ++ e ∷ []) events (suc k) (w ∙ sym (append_assoc earlier (e ∷ []) events)) (more earlier e k is) h.1,
       )
   agree_after earlier (Commit id mark branch author committer encoding comment parents ops aliases ∷ events) k w is h =
       let e : PlainEvent = Commit id mark branch author committer encoding comment parents ops aliases in (
-        ap (λ (l : List PlainEvent). place l (any.Commit id)) w ∙ place_is earlier events e k is h.0.0,
+        ap (λ (l : List PlainEvent). event_number l (any.Commit id)) w ∙ place_is earlier events e k is h.0.0,
         agree_after (earlier ++ e ∷ []) events (suc k) (w ∙ sym (append_assoc earlier (e ∷ []) events)) (more earlier e k is) h.1,
       )
   agree_after earlier (Tag id name target tagger comment mark ∷ events) k w is h =
@@ -75,7 +68,7 @@ module _ (whole : List PlainEvent) where
       agree_after (earlier ++ e ∷ []) events (suc k) (w ∙ sym (append_assoc earlier (e ∷ []) events)) (more earlier e k is) h.1
 
 -- the ids of blobs and commits become their places
-pub places_agree : (events : List PlainEvent) → AreFitAfter [] events → Agree (λ b. place events (any.Blob b)) (λ c. place events (any.Commit c)) 1 events
+pub places_agree : (events : List PlainEvent) → AreFitAfter [] events → Agree (λ b. event_number events (any.Blob b)) (λ c. event_number events (any.Commit c)) 1 events
 places_agree events h = agree_after events [] events 1 refl refl h
 
 -- ---- soundness

@@ -13,7 +13,7 @@ use Rattle.plain_model.specs.Text.{end_text, line, text, text_from}
 use Rattle.stream_grammar.specs.Lines.{history_in}
 use Rattle.replay_laws.specs.Replay.{replay_in}
 use Rattle.round_trip_laws.specs.AsRead.{IsAsRead}
-use Rattle.shown_laws.specs.AsWritten.{as_written, place, with_resets}
+use Rattle.shown_laws.specs.AsWritten.{as_written, with_resets}
 use Rattle.production_laws.specs.Streams.{IsStreamOf}
 use Rattle.shown_laws.specs.Showing.{IsShownBy}
 use Rattle.shown_laws.proofs.Known.{AreFitAfter, AreKnown, all_known, fit_with_resets, formed_with_resets, known_with_resets}
@@ -21,16 +21,17 @@ use Rattle.shown_laws.proofs.Places.{Agree, blob_mark_under, bytes_under, commit
 use Rattle.shown_laws.proofs.Resets.{blob_mark_same, blob_same, bytes_same, commit_mark_same, commit_same, commits_same, nodes_same, promise_same, refs_same, resets_root, tags_same, text_from_same}
 use Rattle.shown_laws.proofs.Seen.{IsSeenAlike, commits_alike, nodes_under, refs_alike, rooted_alike, shown_alike, tags_alike, text_alike, under_node}
 use Rattle.shown_laws.proofs.Sound.{came_from, formed_under, places_agree, rooted_after, sound_under}
+use Rattle.history_laws.specs.Finding.{event_number}
 
 module _ (h : List PlainEvent) (sound : IsSound h) where
   abbrev g : List PlainEvent
   g = with_resets h
 
   abbrev blob_to : ℕ → ℕ
-  blob_to b = place g (any.Blob b)
+  blob_to b = event_number g (any.Blob b)
 
   abbrev commit_to : ℕ → ℕ
-  commit_to c = place g (any.Commit c)
+  commit_to c = event_number g (any.Commit c)
 
   fit : AreFitAfter [] g
   fit = fit_with_resets [] h sound.formed

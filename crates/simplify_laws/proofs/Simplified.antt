@@ -19,9 +19,9 @@ use Rattle.plain_model.specs.Lookups.{id_of, is_listed, op_blobs, referents_of, 
 use Rattle.plain_model.specs.Soundness.{IsCommitOf, IsFormedEvent, IsFormedOp, IsSound, has_id}
 use Rattle.plain_model.specs.Trees.{Refusal, Tree, apply_all}
 use Rattle.history_laws.proofs.Ids.{has_id_append}
-use Rattle.history_laws.proofs.Lists.{all_imply, all_join}
+use Rattle.history_laws.proofs.Lists.{all_imply, all_join, all_reverse}
 use Rattle.history_laws.proofs.TreeMaps.{IsOrdered}
-use Rattle.ancestry_laws.proofs.Pasts.{all_reverse, known_past, linked_past}
+use Rattle.ancestry_laws.proofs.Pasts.{known_past, linked_past}
 use Rattle.edit_laws.specs.Checking.{event_fault, fault_of, first_fault, first_refused, tree_check, unless}
 use Rattle.edit_laws.specs.Equations.{Fits}
 use Rattle.edit_laws.specs.Parts.{AreInOrder, AreOnce, HasFewParents, IsLawful, IsLawfulOp, of_id, of_mark, one_if, tally}

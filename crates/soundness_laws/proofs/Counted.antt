@@ -29,12 +29,12 @@ use Rattle.stream_grammar.specs.Known.Open.{Nothing, ABlob, ACommit, ATag, ARese
 use Rattle.stream_grammar.specs.Limits.{event_count, if_known, known_given, limit_at, limit_if, op_count, op_limit, open_aliases, open_count, open_ops, open_parents, own_want, exceeded, stream_of, stream_within, tree_limit, want_of}
 use Rattle.stream_grammar.specs.Limits.{known_aliases}
 use Rattle.stream_grammar.specs.Lines.{State, aliased, begun_with, after_word, changed, commit_on, data_arrived, follows, is_inline_expected, is_left_out_feature, judged, line_step, must_go_on, next_by, next_of, passed, stream, text_of, with_commit, with_from, with_mark, with_operation, with_tagger, word_of}
-use Rattle.round_trip_laws.specs.AsRead.{ArePlaced}
 use Rattle.field_laws.proofs.FieldSteps.{bind_ok, same_Ok}
 use Rattle.soundness_laws.proofs.Carried.{IsAfter, carried}
 use Rattle.soundness_laws.proofs.LinesKept.{GoesWith, goes_ok, start_ok}
 use Rattle.plain_model.specs.Lookups.{alias_count}
 use Rattle.history_laws.specs.Counts.{ops_in, ops_in_event}
+use Rattle.history_laws.specs.Placed.{ArePlaced}
 use Rattle.soundness_laws.proofs.MarkSums.{late, late_all, late_less, late_step, weigh}
 use Rattle.soundness_laws.proofs.Marking.{history_is, marked_event, marked_events}
 use Rattle.soundness_laws.proofs.SoFar.{are_placed}

@@ -23,7 +23,8 @@ use Rattle.stream_grammar.specs.Known.{Known, alias_marks, aliases_for, closed, 
 use Rattle.stream_grammar.specs.Limits.{last_mark, own_want, unmarked_count, want_of}
 use Rattle.round_trip_laws.specs.AsRead.{IsRooted, AreRootedAfter, IsAsRead}
 use Rattle.history_laws.proofs.Lists.{all_imply}
-use Rattle.round_trip_laws.proofs.PlacedIds.{id_below}
+use Rattle.history_laws.proofs.SoundMarks.{marks_formed}
+use Rattle.history_laws.proofs.PlacedIds.{id_below}
 use Rattle.soundness_laws.proofs.Kept.{AreKnown}
 use Rattle.soundness_laws.proofs.MarkSums.{AreOnce, marks_distinct, marks_new, one, weigh, weight, weight_append}
 use Rattle.soundness_laws.proofs.Marking.{are_once, has_id_same, history_is, mark_above, marked_append, marked_event, marked_events, nodes_same, placed_same, refs_same, unmarked_append}
@@ -49,15 +50,6 @@ aliases_formed id (a ∷ aliases) h = go (a.1 == id) (aliases_formed id aliases 
     go : (t : Bool) → AllByRecursion IsMark (aliases_for id aliases) → AllByRecursion IsMark (alias_marks (cond t (a ∷ filter (λ b. b.1 == id) aliases) (filter (λ b. b.1 == id) aliases)))
     go true more = (h.0, more)
     go false more = more
-
--- all marks of a formed event are marks
-marks_formed : (e : PlainEvent) → IsFormedEvent e → AllByRecursion IsMark (event_marks e)
-marks_formed (Blob id mark bytes) h = (h, tt)
-marks_formed (Commit id mark branch author committer encoding comment parents ops aliases) h = (h.0, h.2)
-marks_formed (Tag id name target tagger comment None) h = tt
-marks_formed (Tag id name target tagger comment (Some mark)) h = (h, tt)
-marks_formed (Reset id branch target) h = tt
-marks_formed (Pass id line) h = tt
 
 -- what reading gives of one event
 abbrev IsReadEvent : List PlainEvent → PlainEvent → Type 0

@@ -15,8 +15,8 @@ use Rattle.plain_model.specs.Soundness.{has_id}
 use Rattle.plain_model.specs.Trees.{TreeOf, put}
 use Rattle.stream_grammar.specs.Known.{Known, alias_marks, aliases_for, closed, greatest_read, with_aliases, with_marks}
 use Rattle.stream_grammar.specs.Limits.{own_want, unmarked_count, want_of}
-use Rattle.round_trip_laws.specs.AsRead.{ArePlaced}
 use Rattle.soundness_laws.proofs.MarkSums.{AreOnce, late, late_all, late_less, late_step, one, weigh, weight}
+use Rattle.history_laws.specs.Placed.{ArePlaced}
 
 -- ---- one event after another
 

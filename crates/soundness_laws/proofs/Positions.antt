@@ -16,7 +16,8 @@ use Rattle.plain_model.specs.Snapshots.{refs}
 use Rattle.plain_model.specs.Soundness.{AreSoundAfter, IsFormedEvent, IsSoundEvent, are_distinct, has_id}
 use Rattle.plain_model.specs.Streams.{is_among, is_marked}
 use Rattle.plain_model.specs.Trees.{at, has}
-use Rattle.round_trip_laws.specs.AsRead.{ArePlaced, IsRooted, AreRootedAfter, IsAsRead}
+use Rattle.round_trip_laws.specs.AsRead.{IsRooted, AreRootedAfter, IsAsRead}
+use Rattle.history_laws.specs.Placed.{ArePlaced}
 
 -- ---- positions
 

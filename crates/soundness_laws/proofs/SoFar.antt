@@ -21,10 +21,10 @@ use Rattle.plain_model.specs.Soundness.{IsCommitOf, IsFormedOp, IsFormedSigned, 
 use Rattle.plain_model.specs.Parts.{has_no_lf}
 use Rattle.plain_model.specs.Trees.{TreeOf, at}
 use Rattle.stream_grammar.specs.Known.{OpenCommit}
-use Rattle.round_trip_laws.specs.AsRead.{ArePlaced}
 use Rattle.history_laws.proofs.Ids.{has_id_append, has_id_still}
 use Rattle.history_laws.proofs.Commits.{refs_append, all_put, all_where, all_at}
 use Rattle.history_laws.proofs.Lists.{all_imply}
+use Rattle.history_laws.specs.Placed.{ArePlaced}
 use Rattle.soundness_laws.proofs.Ids.{past_same, past_more}
 
 -- ---- what is kept

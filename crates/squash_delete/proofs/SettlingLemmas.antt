@@ -1,9 +1,9 @@
 -- What is left is in its settled order already, where that holds of the events near the set.
-use Rattle.std.proofs.Common.{◌≡◌, ◌∙◌, ℕ, suc, Bool, true, false, cond, not, inl, inr, List, [], ◌∷◌, ◌++◌, Some, None, refl, sym, ap, subst, length, take, filter, flat_map, map, append_assoc, append-nil, true≢false}
+use Rattle.std.proofs.Common.{◌≡◌, ◌∙◌, ℕ, Bool, true, false, cond, not, inl, inr, List, [], ◌∷◌, ◌++◌, Some, None, refl, sym, ap, subst, length, take, filter, flat_map, map, append_assoc, append-nil, true≢false}
 use Rattle.std.proofs.lemmas.Bool.{and_from, and_parts, cases_Bool, false_from_ne_true, or_cases, or_left, or_parts, or_right}
 use Rattle.std.proofs.lemmas.Grind.{flat_map-append}
 use Rattle.std.specs.List.{list_all, list_any}
-use Rattle.std.specs.Prelude.{IsTrue, is_some, option_map, slice_get, unwrap_or}
+use Rattle.std.specs.Prelude.{IsTrue, is_some, slice_get, unwrap_or}
 use Rattle.std.proofs.lemmas.List.Elements.{filter-append}
 use Rattle.plain_model.specs.declared.id.AnyId.{AnyId}
 use Rattle.plain_model.specs.declared.id.AnyId.TheVariants as any
@@ -13,7 +13,7 @@ use Rattle.plain_model.specs.Histories.{past}
 use Rattle.plain_model.specs.Lookups.{event_parents, id_of, op_blobs, place_of, referents_of, same_id}
 use Rattle.plain_model.specs.Soundness.{IsSound, are_distinct, has_id}
 use Rattle.history_laws.specs.FirstParents.{ops_along}
-use Rattle.history_laws.proofs.Ids.{has_id_append, has_id_cons, same_id_refl, same_id_true}
+use Rattle.history_laws.proofs.Ids.{has_id_append, has_id_cons, same_id_true, place_after}
 use Rattle.history_laws.specs.Once.{AreDistinct}
 use Rattle.event_arena.proofs.OnceLemmas.{distinct_absent}
 use Rattle.history_laws.proofs.SoundOnce.{has_id_find, sound_once}
@@ -43,12 +43,6 @@ get_behind (x ∷ xs) ys e = get_behind xs ys e
 take_front : (xs ys : List PlainEvent) → take (length xs) (xs ++ ys) ≡ xs
 take_front [] ys = refl
 take_front (x ∷ xs) ys = ap (λ l. x ∷ l) (take_front xs ys)
-
-place_behind : (xs ys : List PlainEvent) (e : PlainEvent) → has_id xs (id_of e) ≡ false → place_of (id_of e) (xs ++ e ∷ ys) ≡ Some (length xs)
-place_behind [] ys e none = rw same_id_refl refl
-place_behind (x ∷ xs) ys e none =
-    let parts = or_parts (same_id (id_of e) (id_of x)) (has_id xs (id_of e)) (sym (has_id_cons x xs (id_of e)) ∙ none) in
-    ap (λ b. cond b (Some 0) (option_map suc (place_of (id_of e) (xs ++ e ∷ ys)))) parts.0 ∙ ap (option_map suc) (place_behind xs ys e parts.1)
 
 -- an id of earlier events is none of those that come later
 not_later : (pre rest : List PlainEvent) (id : AnyId) → AreDistinct (pre ++ rest) → has_id pre id ≡ true → has_id rest id ≡ false
@@ -148,7 +142,7 @@ module _ (left : PlainEvent → List PlainEvent) (own : LeavesOwn left) where
             let gone : has_id front (id_of d) ≡ false =
             false_from_ne_true (has_id front (id_of d)) (λ t. true≢false (sym (left_there pre (id_of d) t) ∙ ap (has_id pre) (own e d [] is).0 ∙ none)) in
             let place : place_of (id_of e) (flat_map left events) ≡ Some (length front) =
-            ap (λ id. place_of id (flat_map left events)) (sym (own e d [] is).0) ∙ ap (place_of (id_of d)) parts ∙ place_behind front (flat_map left rest) d gone in
+            ap (λ id. place_of id (flat_map left events)) (sym (own e d [] is).0) ∙ ap (place_of (id_of d)) parts ∙ place_after front (flat_map left rest) d gone in
             ap (λ es. is_ready es d) (sym (ap (take (length front)) parts ∙ take_front front (d ∷ flat_map left rest)))
             ∙ looked (length pre) (length front) e d here it place (ap (λ es. slice_get es (length front)) parts ∙ get_behind front (flat_map left rest) d)
         | inr no_it ↦

@@ -21,9 +21,9 @@ use Rattle.edit_laws.specs.Equations.{Fits}
 use Rattle.edit_laws.specs.Parts.{one_if}
 use Rattle.edit_laws.specs.Removal.{back, expand_all}
 use Rattle.edit_laws.specs.Settling.{is_ready}
-use Rattle.ancestry_laws.proofs.Pasts.{all_reverse, any_reverse, known_past, linked_past}
+use Rattle.ancestry_laws.proofs.Pasts.{any_reverse, known_past, linked_past}
 use Rattle.history_laws.proofs.LineLaws.{folded_more}
-use Rattle.history_laws.proofs.Lists.{all_imply}
+use Rattle.history_laws.proofs.Lists.{all_imply, all_reverse}
 use Rattle.edit_laws.proofs.Chains.{Leads, leads_all}
 use Rattle.edit_laws.proofs.Checked.{none_of_both}
 use Rattle.edit_laws.proofs.Fine.{ready_parents}

@@ -19,8 +19,9 @@ use Rattle.edit_laws.specs.Parts.{IsAbove}
 use Rattle.edit_laws.specs.Removal.{expand_all}
 use Rattle.edit_laws.specs.Settling.{is_ready}
 use Rattle.edit_laws.proofs.Chains.{Leads, chain_leads, chain_replays, foot, parents_stand}
-use Rattle.ancestry_laws.proofs.Pasts.{all_reverse, known_past, linked_past}
+use Rattle.ancestry_laws.proofs.Pasts.{known_past, linked_past}
 use Rattle.history_laws.proofs.LineLaws.{first_known, folded_more}
+use Rattle.history_laws.proofs.Lists.{all_reverse}
 use Rattle.edit_laws.proofs.Fine.{ready_parents}
 use Rattle.edit_laws.proofs.Lists.{OfNodes, all_flat, events_of_nodes, nodes_of_events}
 use Rattle.edit_laws.proofs.Settles.{sound_settles}

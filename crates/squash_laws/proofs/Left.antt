@@ -17,9 +17,9 @@ use Rattle.edit_laws.specs.Parts.{AreOnce, CanBeSettled, IsAbove, IsLawful, of_i
 use Rattle.edit_laws.specs.Removal.{expand}
 use Rattle.edit_laws.specs.Settling.{is_ready}
 use Rattle.edit_laws.proofs.Chains.{once_each_distinct, parents_stand}
-use Rattle.ancestry_laws.proofs.Pasts.{all_reverse, known_past, linked_past}
+use Rattle.ancestry_laws.proofs.Pasts.{known_past, linked_past}
 use Rattle.history_laws.proofs.Ids.{has_id_append}
-use Rattle.history_laws.proofs.Lists.{all_imply, all_join}
+use Rattle.history_laws.proofs.Lists.{all_imply, all_join, all_reverse}
 use Rattle.edit_laws.proofs.Fine.{IsFine, There, fine, fine_formed, fine_lawful, ready_ops, ready_parents}
 use Rattle.edit_laws.proofs.Lists.{OfNodes, all_flat, all_true, events_of_nodes, nodes_of_events, own_sum, tally_flat, true_all}
 use Rattle.edit_laws.proofs.Settles.{sound_settles, swept_settles}

@@ -14,7 +14,7 @@ use Rattle.edit_laws.specs.Blobs.{HasBytesOf}
 use Rattle.edit_laws.specs.Equations.{Fits}
 use Rattle.edit_laws.specs.Settling.{settle}
 use Rattle.edit_laws.specs.Sweeping.{is_left_over}
-use Rattle.ancestry_laws.proofs.Pasts.{all_reverse, linked_past}
+use Rattle.ancestry_laws.proofs.Pasts.{linked_past}
 use Rattle.edit_laws.specs.Keeping.{HasOperationsOf}
 use Rattle.edit_laws.proofs.Lists.{OfNodes, all_filter, all_flat, events_of_nodes, nodes_of_events}
 use Rattle.edit_laws.proofs.Settles.{settled_all, sound_settles}
@@ -29,6 +29,7 @@ use Rattle.plain_model.specs.declared.policy.Push.TheVariants as push
 use Rattle.plain_model.specs.declared.policy.Policy.{Policy}
 use Rattle.squash_laws.proofs.Done.{back_done_sound, back_trees, done_parts, done_sound, done_trees, forward_done_sound}
 use Rattle.squash_laws.proofs.Left.{one_left, one_moved}
+use Rattle.history_laws.proofs.Lists.{all_reverse}
 
 -- ---- blobs
 

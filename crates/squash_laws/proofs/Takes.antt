@@ -13,8 +13,8 @@ use Rattle.plain_model.specs.Soundness.{has_id}
 use Rattle.history_laws.specs.FirstParents.{ops_along}
 use Rattle.edit_laws.specs.Removal.{expand_all}
 use Rattle.edit_laws.proofs.Chains.{back_stays, chain_all, forward_stays}
-use Rattle.ancestry_laws.proofs.Pasts.{all_reverse, any_reverse, known_past}
-use Rattle.history_laws.proofs.Lists.{all_join}
+use Rattle.ancestry_laws.proofs.Pasts.{any_reverse, known_past}
+use Rattle.history_laws.proofs.Lists.{all_join, all_reverse}
 use Rattle.edit_laws.proofs.Lists.{all_filter, all_flat}
 use Rattle.squash_laws.specs.Removed.{is_removed}
 use Rattle.squash_laws.specs.Takings.{anew, back_of, forward_of, hanging, is_from_root, is_it, is_none, links, moved, ops_after, target_after}

@@ -12,7 +12,7 @@ use Rattle.plain_model.specs.declared.operation.FileOp.{FileOp}
 use Rattle.plain_model.specs.Histories.{Node, Past, nodes, node_at, past, folded, begun, tree_in, tree}
 use Rattle.plain_model.specs.Trees.{Tree}
 use Rattle.stream_drafts.specs.Events.{links_of}
-use Rattle.stream_drafts.specs.Placed.{ArePlaced}
+use Rattle.history_laws.specs.Placed.{ArePlaced}
 use Rattle.stream_grammar.specs.Known.{next_id}
 use Rattle.stream_builder.specs.Keeping.{IsEarlier}
 use Rattle.stream_builder.specs.Lines.{AreFolded, IsLine, ops_in, ops_at, along}

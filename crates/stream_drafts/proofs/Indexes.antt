@@ -10,7 +10,7 @@ use Rattle.plain_model.specs.Trees.{TreeOf}
 use Rattle.plain_model.specs.Streams.{blob_marked, commit_marked}
 use Rattle.stream_drafts.specs.declared.draft.Draft.{Draft}
 use Rattle.stream_drafts.specs.Events.{event_of, events_of}
-use Rattle.stream_drafts.specs.Placed.{ArePlaced}
+use Rattle.history_laws.specs.Placed.{ArePlaced}
 use Rattle.stream_drafts.proofs.Places.{placed_more}
 use Rattle.stream_drafts.specs.Indexed.{IsIndexed, first_of, tag_marked}
 use Rattle.stream_drafts.proofs.After.{blob_marked_append, commit_marked_append, tag_marked_append, greatest_mark_append, refs_append}

@@ -12,7 +12,7 @@ use Rattle.plain_model.specs.Histories.{Node, Past, nodes, node_at, past}
 use Rattle.plain_model.specs.Lookups.{id_of, id_number}
 use Rattle.stream_drafts.specs.declared.draft.Draft.{Draft}
 use Rattle.stream_drafts.specs.Events.{event_of, events_of, own_node, links_of}
-use Rattle.stream_drafts.specs.Placed.{ArePlaced}
+use Rattle.history_laws.specs.Placed.{ArePlaced}
 
 -- one more event, at the next place
 pub placed_more : (k : ℕ) (xs : List PlainEvent) (e : PlainEvent) → ArePlaced k xs → ArePlaced (length xs + k) (e ∷ []) → ArePlaced k (xs ++ e ∷ [])

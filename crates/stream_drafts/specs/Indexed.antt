@@ -7,7 +7,7 @@ use Rattle.plain_model.specs.Lookups.{greatest_mark}
 use Rattle.plain_model.specs.Snapshots.{refs}
 use Rattle.plain_model.specs.Streams.{blob_marked, commit_marked, is_among}
 use Rattle.plain_model.specs.Trees.{TreeOf}
-use Rattle.stream_drafts.specs.Placed.{ArePlaced}
+use Rattle.history_laws.specs.Placed.{ArePlaced}
 
 -- the first of two values that is there
 abbrev pub first_of : Option ℕ → Option ℕ → Option ℕ

@@ -8,7 +8,7 @@ ghost use Rattle.plain_model.specs.Trees.{at};
 ghost use Rattle.stream_grammar.specs.Known.{history_of, next_id, with_event};
 ghost use Rattle.stream_grammar.specs.Limits.{last_mark};
 ghost use Rattle.stream_drafts.specs.Aliased.{finished};
-ghost use Rattle.stream_drafts.specs.Placed.{ArePlaced};
+ghost use Rattle.history_laws.specs.Placed.{ArePlaced};
 ghost use Rattle.stream_drafts.specs.Whole.{IsMarked};
 ghost use Rattle.stream_drafts.specs.Events.{
   commit_of,

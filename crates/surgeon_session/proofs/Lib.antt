@@ -1,7 +1,6 @@
 mod Entries
 mod Pieces
 mod Halting
-mod Ids
 mod PathWords
 mod Places
 mod Changing

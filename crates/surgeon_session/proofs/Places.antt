@@ -1,6 +1,6 @@
 -- The place of the chosen repository: from the entries of the load list to what is found there, and what a change of it makes of all.
 use Rattle.std.proofs.Common.{Vec, ◌≡◌, ℕ, zero, suc, ◌+◌, Bool, true, false, cond, inl, inr, List, [], ◌∷◌, ◌++◌, length, Option, Some, None, Result, Ok, Err, refl, sym, ap, subst, ◌∙◌, nat_eq, arith}
-use Rattle.std.specs.Prelude.{bytes_eq, if◌then◌else◌, is_some, map, nat_lt, option_map, slice_get, IfOk, OnErr}
+use Rattle.std.specs.Prelude.{bytes_eq, if◌then◌else◌, is_some, map, nat_lt, option_map, slice_get, IfOk}
 use Rattle.std.specs.Cmp.Lexicographic.{pointwise}
 use Rattle.std.specs.List.{position, position_or_len}
 use Rattle.std.specs.Map.{keys_of, lookup}
@@ -220,7 +220,3 @@ module _ {A : Type 0} (es : List (Vec ℕ A × Loaded)) (choice : Option Bytes) 
     pub all_live_at : (r : Result Ids Halt) → IfOk r (AreLive old.history) → IfOk r (AreLiveIn (chosen_in list))
     all_live_at (Ok ids) live = subst (λ (one : Result Repo Fault). AreLiveIn one ids) (sym at.1) (subst (λ (q : Repo). AreLive q.history ids) its live)
     all_live_at (Err why) live = tt
-
-pub whatever_err : {X E : Type 0} (r : Result X E) (P : Type 0) → P → OnErr r P
-whatever_err (Ok x) P h = tt
-whatever_err (Err e) P h = h

@@ -1,7 +1,7 @@
 use Rattle.std.proofs.Common.{◌≤◌, length, arith}
 use Rattle.plain_model.specs.declared.limit.TheConstants.{MAX_EVENTS}
 use Rattle.round_trip_laws.specs.AsRead.{IsAsRead}
-use Rattle.tree_tests.proofs.Ids.{placed_low}
+use Rattle.history_laws.proofs.PlacedIds.{placed_low}
 use Rattle.tree_tests.proofs.tests.history.Goals as goal
 
 pub from_plain-requires-clause-sound : goal.from_plain-requires-clause-sound

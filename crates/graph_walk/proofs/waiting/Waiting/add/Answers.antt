@@ -3,8 +3,9 @@ use Rattle.std.proofs.Math.ListN.{set}
 use Rattle.std.proofs.lemmas.List.{set-get_or}
 use Rattle.graph_walk.specs.Rows.{rows_of}
 use Rattle.graph_walk.specs.declared.waiting.Waiter.{Waiter}
-use Rattle.graph_walk.proofs.WaitingLemmas.{on_err, rows_read, rows_set}
+use Rattle.graph_walk.proofs.WaitingLemmas.{rows_read, rows_set}
 use Rattle.graph_walk.proofs.waiting.Waiting.add.Goals as goal
+use Rattle.history_laws.proofs.Results.{on_err}
 
 pub returns-in_err-push-clause-err : goal.returns-in_err-push-clause-err
 returns-in_err-push-clause-err c =

@@ -2,7 +2,7 @@ use Rattle.std.proofs.Common.{List, length, ◌+◌, sym, subst, ◌≡◌, ◌+
 use Rattle.std.specs.HashSet.{contains}
 use Rattle.plain_model.specs.declared.event.PlainEvent.{PlainEvent}
 use Rattle.stream_drafts.specs.Events.{event_of}
-use Rattle.stream_drafts.specs.Placed.{ArePlaced}
+use Rattle.history_laws.specs.Placed.{ArePlaced}
 use Rattle.stream_drafts.specs.Rising.{finds}
 use Rattle.stream_drafts.proofs.Indexes.{IsIndexed_push}
 use Rattle.stream_drafts.proofs.drafts.Drafts.push.Goals as goal

@@ -1,4 +1,4 @@
--- Events whose ids are their places.
+-- Events whose ids are their places, as reading gives them. (own)
 use Rattle.std.specs.Prelude.{◌≡◌, ℕ, suc, List, [], ◌∷◌}
 use Rattle.plain_model.specs.declared.event.PlainEvent.{PlainEvent}
 use Rattle.plain_model.specs.Lookups.{id_of, id_number}
