@@ -1,6 +1,6 @@
 -- Numbers and marks: digits are read exactly where they say the number.
 use Rattle.std.proofs.Common.{◌≡◌, ℕ, ◌+◌, ◌-◌, ◌*◌, ◌≤◌, ◌<◌, Bool, true, false, cond, [], ◌∷◌, ◌++◌, length, Some, None, refl, ap, subst, ◌∙◌, arith, leb-true, le-leb, codes}
-use Rattle.std.specs.Prelude.{◌&&◌, nat_le}
+use Rattle.std.specs.Prelude.{◌&&◌, nat_le, ◌==◌, Err, Ok}
 use Rattle.std.specs.List.{list_all}
 use Rattle.std.proofs.lemmas.Bool.{and_parts, and_from, cond-true}
 use Rattle.std.proofs.lemmas.Option.{same_Some, none-some, cond_some, some_pair_parts}
@@ -9,7 +9,10 @@ use Rattle.plain_model.specs.Paths.{Bytes}
 use Rattle.plain_model.specs.Marks.{IsMark, as_mark}
 use Rattle.plain_model.specs.Numbers.{is_digit, value_after, IsNumeral}
 use Rattle.plain_model.specs.Parts.{◌>>=◌, rest_after, line_at, value_from, number_of, at_most, number_within, mark_of}
+use Rattle.plain_model.specs.declared.fault.Why.TheVariants.{BadMark}
+use Rattle.plain_model.specs.Fields.{mark_in, or_defect}
 use Rattle.field_laws.proofs.Steps.{bind_some, some_then}
+use Rattle.field_laws.proofs.FieldSteps.{or_defect_is}
 
 -- ---- numbers
 
@@ -67,6 +70,16 @@ mark_is digits m e =
       subst (IsNumeral digits) b.1 n.0,
       subst IsMark b.1 (leb-true 1 a.0 bounds.0, leb-true a.0 MAX_MARK bounds.1),
     )
+
+-- a text with a colon and a number is a mark
+pub mark_fits : (text : Bytes) (m : ℕ) → mark_in text ≡ Ok m → IsMark m
+unfolding mark_in
+mark_fits [] m e = absurd cc
+mark_fits (c ∷ digits) m e = go (c == 58) e
+  where
+    go : (t : Bool) → cond t (or_defect BadMark (mark_of digits)) (Err BadMark) ≡ Ok m → IsMark m
+    go true e = (mark_is digits m (or_defect_is BadMark (mark_of digits) m e)).1
+    go false e = absurd cc
 
 pub mark_read : (digits : Bytes) (m : ℕ) → IsNumeral digits m → IsMark m → mark_of digits ≡ Some m
 unfolding mark_of

@@ -13,12 +13,14 @@ use Rattle.plain_model.specs.declared.event.PlainEvent.TheVariants.{Blob, Commit
 use Rattle.plain_model.specs.Lookups.{find_event, id_of, is_listed, same_id}
 use Rattle.plain_model.specs.Paths.{Bytes}
 use Rattle.plain_model.specs.Soundness.{IsSound}
+use Rattle.event_arena.specs.declared.field.Field.TheVariants as field
 use Rattle.event_arena.specs.Changes.{changed, with_parents, with_target, without_all}
 use Rattle.history_laws.specs.Once.{AreDistinct}
 use Rattle.history_laws.proofs.Ids.{absent_cons, cons_absent}
 use Rattle.event_arena.proofs.ListLemmas.{drop_item}
 use Rattle.event_arena.proofs.OnceLemmas.{distinct_absent}
 use Rattle.event_arena.proofs.StepLemmas.{changed_after}
+use Rattle.event_arena.proofs.ChangeLemmas.{id_with_field}
 use Rattle.edit_laws.proofs.Sound.{in_parts}
 use Rattle.expunge_laws.specs.InLine.{IsInLine, ops_in_line, parents_in_line}
 use Rattle.expunge_laws.proofs.Emptied.{listed_each}
@@ -33,13 +35,6 @@ use Rattle.path_expunge.specs.declared.fates.Fate.TheVariants.{Same, Linked, Ane
 use Rattle.path_expunge.specs.Fates.{IsCommitFate, all_given_way, begins_anew, begun_anew, fated, given_way, taken, target_fate}
 
 -- ---- ids stay
-
-pub parents_id : (ps : List ℕ) (e : PlainEvent) → id_of (with_parents ps e) ≡ id_of e
-parents_id ps (Commit id mark branch author committer encoding comment parents ops aliases) = refl
-parents_id ps (Blob id mark bytes) = refl
-parents_id ps (Tag id name target tagger comment mark) = refl
-parents_id ps (Reset id branch target) = refl
-parents_id ps (Pass id line) = refl
 
 pub anew_id : (e : PlainEvent) → id_of (begun_anew e) ≡ id_of e
 anew_id (Commit id mark branch author committer encoding comment parents ops aliases) = refl
@@ -57,8 +52,8 @@ target_id t (Pass id line) = refl
 
 given_id : (fate : Fate) (e : PlainEvent) → id_of (given_way fate e) ≡ id_of e
 given_id Same e = refl
-given_id (Linked ps) e = parents_id ps e
-given_id (Anew ps) e = anew_id (with_parents ps e) ∙ parents_id ps e
+given_id (Linked ps) e = id_with_field (field.Parents ps) e
+given_id (Anew ps) e = anew_id (with_parents ps e) ∙ id_with_field (field.Parents ps) e
 given_id (Moved t) e = target_id t e
 
 -- ---- where a tag or a reset goes

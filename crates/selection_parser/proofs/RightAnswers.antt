@@ -371,7 +371,8 @@ refused column = Err column
 pub refused_so : (text : Bytes) (column : ℕ) → refused column ≡ selection_at text → Refuses text column
 refused_so text column h = refuses text column (sym h)
 
-whole_there : (text : Bytes) (x : PlainSelection) → Spells text x → IsSelection text (length text) x
+-- a text that is a selection is one up to its end
+pub whole_there : (text : Bytes) (x : PlainSelection) → Spells text x → IsSelection text (length text) x
 whole_there text x h = record {
   within = omega arith;
   spelled = subst (λ t. Spells t x) (sym (take-length text)) h;

@@ -16,16 +16,14 @@ use Rattle.plain_model.specs.declared.raw.RawContent.{RawContent}
 use Rattle.plain_model.specs.declared.raw.RawContent.TheVariants.{Marked, Object, Inline}
 use Rattle.plain_model.specs.Fields.{◌>>=◌, or_defect, after_space, mark_in, name_in, person_in, path_in, path_by, quoted_path, judged_path, unquoted, may_follow, plain_path, last_path_in, content_in, marked_content, inline_content, is_left_out_id}
 use Rattle.plain_model.specs.Fields.Quoting.{Between}
-use Rattle.plain_model.specs.Marks.{IsMark}
 use Rattle.plain_model.specs.Names.{is_name}
 use Rattle.plain_model.specs.Objects.{is_object, as_object}
-use Rattle.plain_model.specs.Parts.{begins, has_no_lf, mark_of}
+use Rattle.plain_model.specs.Parts.{begins, has_no_lf}
 use Rattle.plain_model.specs.Paths.{Bytes, IsPath, path_fault}
 use Rattle.plain_model.specs.People.{is_clean, IsNamePart}
 use Rattle.plain_model.specs.Soundness.{IsFormedSigned}
 use Rattle.stream_grammar.specs.Lines.{text_of}
 use Rattle.field_laws.proofs.FieldSteps.{bind_ok, or_defect_is, same_Ok}
-use Rattle.field_laws.proofs.Numerals.{mark_is}
 use Rattle.field_laws.proofs.Persons.{person_in_is, four_digits}
 use Rattle.field_laws.proofs.Written.{plain_parts}
 
@@ -41,15 +39,6 @@ plain_text (b ∷ bs) h = go (b == 32) (plain_text bs (and_parts (not (b == 10))
     go false more = more
 
 -- ---- marks, names, people
-
-pub mark_fits : (text : Bytes) (m : ℕ) → mark_in text ≡ Ok m → IsMark m
-unfolding mark_in
-mark_fits [] m e = absurd cc
-mark_fits (c ∷ digits) m e = go (c == 58) e
-  where
-    go : (t : Bool) → cond t (or_defect BadMark (mark_of digits)) (Err BadMark) ≡ Ok m → IsMark m
-    go true e = (mark_is digits m (or_defect_is BadMark (mark_of digits) m e)).1
-    go false e = absurd cc
 
 pub name_fits : (text name : Bytes) → name_in text ≡ Ok name → is_name name ≡ true
 unfolding name_in

@@ -26,9 +26,10 @@ use Rattle.stream_grammar.specs.Known.Open.{ABlob, ATag, AReset, AnAlias}
 use Rattle.stream_grammar.specs.Limits.{limit_at, exceeded, stream_within, last_mark, unless_spent, known_given, if_known, stream_of}
 use Rattle.stream_grammar.specs.Lines.{State, stream, text_of, word_of, follows, is_required, must_go_on, aliased, begun_with, commit_on, with_mark, with_commit, with_from, with_tagger, is_left_out_feature, changed, judged, passed, after_word, next_of, line_step, data_arrived}
 use Rattle.field_laws.proofs.FieldSteps.{bind_ok, same_Ok}
+use Rattle.field_laws.proofs.Numerals.{mark_fits}
 use Rattle.round_trip_laws.specs.AsRead.{IsAsRead}
 use Rattle.soundness_laws.proofs.Carried.{IsAfter, carried}
-use Rattle.soundness_laws.proofs.FieldsRead.{mark_fits, person_fits, plain_text}
+use Rattle.soundness_laws.proofs.FieldsRead.{person_fits, plain_text}
 use Rattle.soundness_laws.proofs.Finished.{are_as_read}
 use Rattle.soundness_laws.proofs.Kept.{AreKnown, awaiting, ready, ready_closed, arrived_ready}
 use Rattle.soundness_laws.proofs.LinesKept as lines

@@ -1,9 +1,8 @@
 -- A text on its way to a sink: an event further, to its end, or broken off.
-use Rattle.std.proofs.Common.{◌≡◌, ℕ, ◌+◌, ◌≤◌, List, [], ◌∷◌, ◌++◌, suc, length, take, drop, drop-cons, Option, Some, None, Bool, min, sym, ap, subst, ◌∙◌, arith, append_assoc, append-nil}
+use Rattle.std.proofs.Common.{◌≡◌, ℕ, ◌+◌, ◌≤◌, List, [], ◌∷◌, ◌++◌, suc, length, take, drop, Option, Some, None, Bool, min, sym, ap, subst, ◌∙◌, arith, append_assoc, append-nil}
 use Rattle.std.proofs.Math.Bool.{or_assoc}
 use Rattle.std.proofs.Math.Seq.{take-append-add, take-length}
 use Rattle.std.proofs.lemmas.List.{drop_all, take-append-le, take_min}
-use Rattle.std.proofs.lemmas.Option.{slice_get_within, get_or_from_slice_get}
 use Rattle.std.specs.Prelude.{IfSome, slice_get, ◌||◌, codes, if◌then◌else◌}
 use Rattle.std.specs.List.{list_any}
 use Rattle.plain_model.specs.Paths.{Bytes}
@@ -13,12 +12,9 @@ use Rattle.plain_model.specs.Snapshots.{refs_after}
 use Rattle.plain_model.specs.declared.event.PlainEvent.{PlainEvent}
 use Rattle.surgeon_store.specs.Outside.{SinkState, Puts, PutsSome}
 use Rattle.stream_writer.specs.Sending.{IsOnItsWay, SendsFirst, closing, to_come}
+use Rattle.event_arena.proofs.ListLemmas.{drop_item}
 
 -- ---- what is to come
-
--- the rest of a list, where one of its items is next
-next_item : {X : Type 0} (xs : List X) (k : ℕ) (x : X) → slice_get xs k ≡ Some x → drop k xs ≡ x ∷ drop (suc k) xs
-next_item xs k x is = drop-cons xs k x (slice_get_within xs k x is) ∙ ap (λ y. y ∷ drop (suc k) xs) (get_or_from_slice_get xs k x x is)
 
 to_come_cons : (whole : List PlainEvent) (tips : TreeOf ℕ) (promised : Bool) (e : PlainEvent) (rest : List PlainEvent)
     → to_come whole tips promised (e ∷ rest) ≡ event_text whole tips e ++ to_come whole (refs_after tips (e ∷ [])) (promised || is_feature_done e) rest
@@ -31,7 +27,7 @@ to_come_cons whole tips promised e rest =
 pub comes_next : (whole : List PlainEvent) (tips : TreeOf ℕ) (promised : Bool) (place : ℕ) (e : PlainEvent) → slice_get whole place ≡ Some e
     → to_come whole tips promised (drop place whole) ≡ event_text whole tips e ++ to_come whole (refs_after tips (e ∷ [])) (promised || is_feature_done e) (drop (suc place) whole)
 comes_next whole tips promised place e is =
-    ap (λ (rest : List PlainEvent). to_come whole tips promised rest) (next_item whole place e is) ∙ to_come_cons whole tips promised e (drop (suc place) whole)
+    ap (λ (rest : List PlainEvent). to_come whole tips promised rest) (drop_item whole place e is) ∙ to_come_cons whole tips promised e (drop (suc place) whole)
 
 -- after the last event only the end comes
 pub comes_last : (whole : List PlainEvent) (tips : TreeOf ℕ) (promised : Bool) (place : ℕ) → length whole ≤ place → to_come whole tips promised (drop place whole) ≡ closing promised []

@@ -7,13 +7,10 @@ use Rattle.plain_model.specs.declared.operation.FileOp.{FileOp}
 use Rattle.plain_model.specs.declared.person.Signed.{Signed}
 use Rattle.plain_model.specs.Paths.{Bytes}
 use Rattle.plain_model.specs.Snapshots.{commit_mark}
-use Rattle.plain_model.specs.Text.{line, marked, mode_text, raw_content, raw_content_text, last_path, source_path, person, encoding_text, data_block, parents_text, op_text}
+use Rattle.plain_model.specs.Text.{line, marked, mode_text, raw_content, raw_content_text, last_path, person, encoding_text, data_block, parents_text, op_text}
 
 abbrev pub modify_text : List PlainEvent → Mode → Content → Bytes → Bytes
 modify_text whole mode content path = codes "M " ++ mode_text mode ++ codes " " ++ raw_content_text (raw_content whole content) ++ codes " " ++ last_path path
-
-abbrev pub move_text : Bytes → Bytes → Bytes → Bytes
-move_text word source target = word ++ source_path source ++ codes " " ++ last_path target
 
 abbrev pub merges_text : List PlainEvent → List ℕ → Bytes
 merges_text whole merges = flat_map (λ q. line (codes "merge " ++ marked (commit_mark whole q))) merges

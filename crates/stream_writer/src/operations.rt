@@ -11,7 +11,8 @@ ghost use Rattle.plain_model.specs.Text.{
   source_path,
   last_path,
 };
-ghost use Rattle.stream_writer.specs.Parts.{modify_text, move_text, merges_text};
+ghost use Rattle.stream_fields.specs.Written.{paths_text};
+ghost use Rattle.stream_writer.specs.Parts.{modify_text, merges_text};
 
 use crate::fields::{push_mark_line, push_marked};
 use crate::marks::{blob_mark, commit_mark};
@@ -47,7 +48,7 @@ fn push_modify(
 
 // `C` or `R`, and its two paths.
 fn push_move(out: &mut Text, word: &[u8], source: &Path, target: &Path) -> Result<(), NoMemory>
-    ensures { OnOk result (out.new ≡ out.old ++ move_text word.now source.now target.now) }
+    ensures { OnOk result (out.new ≡ out.old ++ paths_text word.now source.now target.now) }
 {
     out.push_all(word)?;
     write_path(source, Place::Source, out)?;

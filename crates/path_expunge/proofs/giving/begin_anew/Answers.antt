@@ -8,11 +8,13 @@ use Rattle.plain_model.specs.declared.operation.FileOp.TheVariants.{DeleteAll}
 use Rattle.plain_model.specs.declared.event.PlainEvent.{PlainEvent}
 use Rattle.plain_model.specs.declared.event.PlainEvent.TheVariants.{Commit}
 use Rattle.plain_model.specs.Lookups.{find_event, id_of}
+use Rattle.event_arena.specs.declared.field.Field.TheVariants as field
 use Rattle.event_arena.specs.Changes.{changed, with_ops, with_parents}
 use Rattle.event_arena.specs.Graphs.{Change}
+use Rattle.event_arena.proofs.ChangeLemmas.{id_with_field}
 use Rattle.plan_steps.proofs.Steps.{changed_there, changed_twice}
 use Rattle.path_expunge.specs.Fates.{begun_anew}
-use Rattle.path_expunge.proofs.FateLemmas.{not_anew, parents_id}
+use Rattle.path_expunge.proofs.FateLemmas.{not_anew}
 use Rattle.plan_steps.proofs.Steps.{alike_of, kept_of}
 use Rattle.path_expunge.proofs.giving.begin_anew.Goals as goal
 
@@ -30,7 +32,7 @@ set_ops-requires c =
     let id = any.Commit c.in-Commit.id in
     let found = subst (λ (x : PlainEvent). IsSome (find_event (id_of x) plan.after)) c.in-Commit.is (ap is_some c.nth.ensures.found) in
     subst (λ (es : List PlainEvent). IsSome (find_event id es)) (sym (ap (λ (p : Change). p.after) c.in_ok-set_parents.ensures.ok))
-    (changed_there id (with_parents c.in_ok-copy.field-0) (parents_id c.in_ok-copy.field-0) plan.after found)
+    (changed_there id (with_parents c.in_ok-copy.field-0) (id_with_field (field.Parents c.in_ok-copy.field-0)) plan.after found)
 
 pub returns : goal.returns
 returns c event at =
@@ -45,7 +47,7 @@ returns c event at =
     (on_ok_weaker c.set_ops.result (λ is.
     is ∙ ap (λ (p : Change). record p { after = changed (any.Commit x.id) (with_ops c.in_ok-made.made) p.after }) c.in_ok-set_parents.ensures.ok
     ∙ ap (λ (es : List PlainEvent). record plan { after = es })
-    (changed_twice (any.Commit x.id) (with_ops c.in_ok-made.made) (with_parents c.in_ok-copy.field-0) (parents_id c.in_ok-copy.field-0) plan.after
+    (changed_twice (any.Commit x.id) (with_ops c.in_ok-made.made) (with_parents c.in_ok-copy.field-0) (id_with_field (field.Parents c.in_ok-copy.field-0)) plan.after
     ∙ alike_of plan.after n e (λ y. with_ops c.in_ok-made.made (with_parents c.in_ok-copy.field-0 y)) G x.is c.nth.ensures.found
     (ap (λ (l : List FileOp). Commit x.id x.mark x.branch x.author x.committer x.encoding x.comment c.in_ok-copy.field-0 l x.aliases) ops
     ∙ ap (λ (l : List ℕ). Commit x.id x.mark x.branch x.author x.committer x.encoding x.comment l (DeleteAll ∷ x.ops) x.aliases) c.in_ok-copy.ensures))) c.set_ops.ensures.ok)
