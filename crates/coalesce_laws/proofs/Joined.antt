@@ -1,14 +1,14 @@
 -- What a joined commit is: the only parent of its only child.
-use Rattle.std.proofs.Common.{◌≡◌, ℕ, Bool, true, false, cond, List, [], ◌∷◌, ◌++◌, map, filter, refl, sym, ap, ◌∙◌, inl, inr, eqb-true, eq-eqb, true≢false, Option, Some}
+use Rattle.std.proofs.Common.{◌≡◌, ℕ, Bool, true, false, cond, List, [], ◌∷◌, map, filter, refl, sym, ap, ◌∙◌, inl, inr, eqb-true, true≢false, Option, Some}
 use Rattle.std.specs.Prelude.{◌||◌, ◌&&◌, ◌==◌}
 use Rattle.std.specs.List.{AllByRecursion, list_any}
-use Rattle.std.proofs.lemmas.Bool.{or_cases, or_left, or_right, and_parts}
+use Rattle.std.proofs.lemmas.Bool.{or_cases, and_parts}
 use Rattle.plain_model.specs.declared.id.AnyId.{AnyId}
 use Rattle.plain_model.specs.declared.id.AnyId.TheVariants as any
 use Rattle.plain_model.specs.declared.event.PlainEvent.{PlainEvent}
 use Rattle.plain_model.specs.declared.event.PlainEvent.TheVariants.{Blob, Commit, Tag, Reset, Pass}
 use Rattle.plain_model.specs.Histories.{Node, nodes}
-use Rattle.plain_model.specs.Lookups.{children_of, event_parents, find_event, id_number, id_of, is_listed, own_child, same_id}
+use Rattle.plain_model.specs.Lookups.{children_of, event_parents, find_event, id_number, id_of, is_listed, same_id}
 use Rattle.plain_model.specs.Soundness.{IsSound}
 use Rattle.history_laws.specs.Finding.{is_only}
 use Rattle.history_laws.proofs.Ids.{each_found, same_id_true}
@@ -17,6 +17,7 @@ use Rattle.squash_laws.specs.Removed.{is_removed}
 use Rattle.coalesce_laws.specs.Coalesce.{is_joined_to, joined_ones}
 use Rattle.coalesce_laws.specs.Remaining.{IsJoinedTo}
 use Rattle.coalesce_laws.proofs.Single.{AreSingle}
+use Rattle.edit_laws.proofs.Children.{IsChild, all_children}
 
 -- one of a list that passes a test, with what is true of all
 one_passing : (P : PlainEvent → Type 0) (test : PlainEvent → Bool) (es : List PlainEvent) → AllByRecursion P es → list_any test es ≡ true → (e : PlainEvent) × (test e ≡ true) × P e
@@ -31,30 +32,6 @@ one_listed P test id (e ∷ es) a h = go (test e) refl h (λ x. one_listed P tes
     go : (b : Bool) → test e ≡ b → is_listed id (map id_of (cond b (e ∷ filter test es) (filter test es))) ≡ true → (is_listed id (map id_of (filter test es)) ≡ true → (e : PlainEvent) × (id ≡ id_of e) × (test e ≡ true) × P e) → (e : PlainEvent) × (id ≡ id_of e) × (test e ≡ true) × P e
     go true t x f = elim (or_cases (same_id id (id_of e)) (is_listed id (map id_of (filter test es))) x) [ inl it ↦ (e, same_id_true id (id_of e) it, t, a.0) | inr later ↦ f later ]
     go false t x f = f x
-
--- a commit is among the children of each of its parents
-abbrev IsAmong : List PlainEvent → Node → Type 0
-IsAmong es n = (p : ℕ) → list_any (λ q. q == p) n.parents ≡ true → list_any (λ m. m == n.id) (children_of p es) ≡ true
-
-any_later : (test : ℕ → Bool) (xs ys : List ℕ) → list_any test ys ≡ true → list_any test (xs ++ ys) ≡ true
-any_later test [] ys h = h
-any_later test (x ∷ xs) ys h = or_right (test x) (list_any test (xs ++ ys)) (any_later test xs ys h)
-
-among_later : (e : PlainEvent) (es : List PlainEvent) (ns : List Node) → AllByRecursion (IsAmong es) ns → AllByRecursion (IsAmong (e ∷ es)) ns
-among_later e es [] a = tt
-among_later e es (n ∷ ns) a = (λ p h. any_later (λ m. m == n.id) (own_child p e) (children_of p es) (a.0 p h), among_later e es ns a.1)
-
-among : (es : List PlainEvent) → AllByRecursion (IsAmong es) (nodes es)
-among [] = tt
-among (Commit id mark branch author committer encoding comment parents ops aliases ∷ es) =
-    let e : PlainEvent = Commit id mark branch author committer encoding comment parents ops aliases in (
-      (λ p h. ap (λ b. list_any (λ m. m == id) (cond b (id ∷ []) [] ++ children_of p es)) h ∙ or_left (id == id) (list_any (λ m. m == id) (children_of p es)) (eq-eqb id id refl)),
-      among_later e es (nodes es) (among es),
-    )
-among (Blob id mark bytes ∷ es) = among es
-among (Tag id name target tagger comment mark ∷ es) = among es
-among (Reset id branch target ∷ es) = among es
-among (Pass id line ∷ es) = among es
 
 only_one : (c : ℕ) (xs : List ℕ) → is_only c xs ≡ true → xs ≡ c ∷ []
 only_one c [] h = absurd (true≢false (sym h))
@@ -134,7 +111,7 @@ module _ (seconds : ℕ) (sel : List AnyId) (events : List PlainEvent) (h : IsSo
   same_one a b h = cc
 
   -- a commit with a joined parent has no other
-  single : (n : Node) → IsAmong events n → IsAtPlace n → AreSingle (is_removed set) n.parents
+  single : (n : Node) → IsChild events n → IsAtPlace n → AreSingle (is_removed set) n.parents
   single n m at p there gone =
       let j = joined p gone in
       let its : list_any (λ k. k == n.id) (id_number (id_of j.child) ∷ []) ≡ true = ap (list_any (λ k. k == n.id)) (sym j.only) ∙ m p there in
@@ -146,12 +123,12 @@ module _ (seconds : ℕ) (sel : List AnyId) (events : List PlainEvent) (h : IsSo
       one true h = refl
       one false h = absurd (true≢false (sym h))
 
-  singles : (ns : List Node) → AllByRecursion (IsAmong events) ns → AllByRecursion IsAtPlace ns → AllByRecursion (λ (n : Node). AreSingle (is_removed set) n.parents) ns
+  singles : (ns : List Node) → AllByRecursion (IsChild events) ns → AllByRecursion IsAtPlace ns → AllByRecursion (λ (n : Node). AreSingle (is_removed set) n.parents) ns
   singles [] m a = tt
   singles (n ∷ ns) m a = (single n m.0 a.0, singles ns m.1 a.1)
 
   pub all_single : AllByRecursion (λ (n : Node). AreSingle (is_removed set) n.parents) (nodes events)
-  all_single = singles (nodes events) (among events) (at_place events found)
+  all_single = singles (nodes events) (all_children events) (at_place events found)
 
   pub with_child : (c : ℕ) → is_removed set c ≡ true → IsJoinedTo sel events c
   with_child c r = let j = joined c r in (id_number (id_of j.child), j.selected, j.child_selected, j.only)

@@ -1,5 +1,5 @@
 -- The commits of a selection are there, each once, in the order of the set and in that of the list.
-use Rattle.std.proofs.Common.{◌≡◌, ℕ, ◌≤◌, Bool, true, false, cond, not, List, [], ◌∷◌, ◌++◌, filter, map, refl, sym, ap, subst, ◌∙◌, inl, inr, arith, eq-eqb, eqb-true, true≢false, ◌≢◌, IsTrue}
+use Rattle.std.proofs.Common.{◌≡◌, ℕ, ◌≤◌, Bool, true, false, cond, not, List, [], ◌∷◌, ◌++◌, filter, map, refl, sym, ap, subst, ◌∙◌, inl, inr, arith, eq-eqb, eqb-true, true≢false, ◌≢◌, IsTrue, Option, Some, None, Result, Err}
 use Rattle.std.specs.Prelude.{◌||◌, ◌==◌}
 use Rattle.std.specs.List.{AllByRecursion, list_any}
 use Rattle.std.proofs.lemmas.Bool.{cases_Bool, and_parts, and_from, or_cases, or_left, or_right}
@@ -12,12 +12,17 @@ use Rattle.plain_model.specs.Lookups.{id_of, is_listed}
 use Rattle.plain_model.specs.Soundness.{IsSound, are_distinct, has_id}
 use Rattle.edit_laws.specs.Parts.{of_id, one_if, tally}
 use Rattle.plain_model.proofs.Numbers.{eqb_turned}
+use Rattle.plain_model.specs.declared.fault.Fault.{Fault}
 use Rattle.history_laws.proofs.Ids.{has_id_append}
 use Rattle.edit_laws.proofs.Lists.{some_passing}
 use Rattle.edit_laws.proofs.Sound.{in_parts}
 use Rattle.commit_laws.specs.Selected.{chosen, listed}
 use Rattle.edit_laws.specs.Selecting.{are_apart}
 use Rattle.commit_laws.proofs.Given.{IsHere}
+
+-- what is made, unless there is a fault
+abbrev pub made_unless : Result (List PlainEvent) Fault → Option Fault → Result (List PlainEvent) Fault
+made_unless r o = elim o [ Some why ↦ Err why | None ↦ r ]
 
 -- ---- in the order of the set
 

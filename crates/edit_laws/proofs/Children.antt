@@ -2,12 +2,12 @@
 use Rattle.std.proofs.Common.{◌≡◌, ℕ, ◌≤◌, Bool, true, false, cond, List, [], ◌∷◌, ◌++◌, map, refl, sym, ap, subst, ◌∙◌, inl, inr, eqb-true, true≢false, append-nil, append_assoc, Option, Some, None}
 use Rattle.std.specs.Prelude.{◌||◌, ◌==◌, flat_map, if◌then◌else◌}
 use Rattle.std.specs.List.{AllByRecursion, list_any}
-use Rattle.std.proofs.lemmas.Bool.{cases_Bool, or_from, or_parts, cond-false}
+use Rattle.std.proofs.lemmas.Bool.{cases_Bool, or_from, or_parts, cond-false, or_left, or_right}
 use Rattle.plain_model.specs.declared.id.AnyId.TheVariants as any
 use Rattle.plain_model.specs.declared.event.PlainEvent.{PlainEvent}
 use Rattle.plain_model.specs.declared.event.PlainEvent.TheVariants.{Blob, Commit, Tag, Reset, Pass}
 use Rattle.plain_model.specs.Histories.{Node, nodes}
-use Rattle.plain_model.specs.Lookups.{children_of, op_blobs}
+use Rattle.plain_model.specs.Lookups.{children_of, op_blobs, own_child}
 use Rattle.plain_model.specs.Soundness.{IsSound, has_id}
 use Rattle.edit_laws.specs.Parts.{AreInOrder, AreOnce, of_id, tally}
 use Rattle.edit_laws.specs.Removal.{forward}
@@ -17,7 +17,31 @@ use Rattle.history_laws.proofs.Commits.{nodes_append}
 use Rattle.history_laws.proofs.Ids.{has_id_append}
 use Rattle.history_laws.proofs.Lists.{all_join}
 use Rattle.std.proofs.Common.{eq-eqb}
+use Rattle.std.proofs.lemmas.List.Folds.{list_any-append}
 use Rattle.edit_laws.proofs.Sound.{in_parts, new_there}
+
+-- a commit is a child of each of its parents
+abbrev pub IsChild : List PlainEvent → Node → Type 0
+IsChild es n = (p : ℕ) → list_any (λ q. q == p) n.parents ≡ true → list_any (λ m. m == n.id) (children_of p es) ≡ true
+
+child_later : (e : PlainEvent) (es : List PlainEvent) (ns : List Node) → AllByRecursion (IsChild es) ns → AllByRecursion (IsChild (e ∷ es)) ns
+child_later e es [] a = tt
+child_later e es (n ∷ ns) a = (
+  λ p among. list_any-append (λ m. m == n.id) (own_child p e) (children_of p es) ∙ or_right (list_any (λ m. m == n.id) (own_child p e)) (list_any (λ m. m == n.id) (children_of p es)) (a.0 p among),
+  child_later e es ns a.1,
+)
+
+pub all_children : (es : List PlainEvent) → AllByRecursion (IsChild es) (nodes es)
+all_children [] = tt
+all_children (Commit id mark branch author committer encoding comment parents ops aliases ∷ es) =
+    let e : PlainEvent = Commit id mark branch author committer encoding comment parents ops aliases in (
+      λ p among. ap (λ b. list_any (λ m. m == id) (cond b (id ∷ []) [] ++ children_of p es)) among ∙ or_left (id == id) (list_any (λ m. m == id) (children_of p es)) (eq-eqb id id refl),
+      child_later e es (nodes es) (all_children es),
+    )
+all_children (Blob id mark bytes ∷ es) = all_children es
+all_children (Tag id name target tagger comment mark ∷ es) = all_children es
+all_children (Reset id branch target ∷ es) = all_children es
+all_children (Pass id line ∷ es) = all_children es
 
 -- a commit isn't a child of one
 abbrev IsNoChild : ℕ → Node → Type 0

@@ -9,6 +9,7 @@ pub mod Limits
 pub mod Lists
 pub mod Naming
 pub mod Numbered
+pub mod Puts
 pub mod Repeats
 mod Rows
 pub mod Settled

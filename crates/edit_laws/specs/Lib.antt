@@ -6,6 +6,7 @@ pub mod Examples
 pub mod Keeping
 pub mod Parts
 pub mod Passing
+pub mod Puts
 pub mod Removal
 pub mod Selecting
 pub mod Settling

@@ -20,8 +20,9 @@ use Rattle.plain_model.specs.Trees.{Refusal, Tree, apply, apply_all, at, cleared
 use Rattle.history_laws.proofs.TreeLaws.{same_path}
 use Rattle.history_laws.proofs.Lists.{all_join}
 use Rattle.edit_laws.proofs.Lists.{all_filter}
+use Rattle.edit_laws.specs.Puts.{puts_of}
 use Rattle.squash_laws.specs.Takings.{is_none}
-use Rattle.expunge_laws.specs.Replaced.{deletes_of, is_clear, puts_of, replaced, replaced_all, restricted, rewritten, has_entry}
+use Rattle.expunge_laws.specs.Replaced.{deletes_of, is_clear, replaced, replaced_all, restricted, rewritten, has_entry}
 
 -- the moved path isn't too long
 abbrev pub IsShort : Bytes → Bytes → Bytes → Type 0

@@ -14,9 +14,10 @@ use Rattle.plain_model.specs.Trees.{IsTree, Refusal, Tree, apply, at, has, moved
 use Rattle.history_laws.proofs.PathLaws.{IsRest, after}
 use Rattle.history_laws.proofs.TreeLaws.{apply_tree, at_where, has_moved, has_where}
 use Rattle.expunge_laws.specs.Near.{copied_near, renamed_near, rewritten_near}
-use Rattle.expunge_laws.specs.Replaced.{deletes_of, puts_of, mode_number, restricted, rewritten, same_content, same_entry, has_entry}
+use Rattle.expunge_laws.specs.Replaced.{deletes_of, mode_number, restricted, rewritten, same_content, same_entry, has_entry}
 use Rattle.expunge_laws.proofs.InTurn.{copy_comes, copy_goes, rename_comes, rename_goes}
 use Rattle.history_laws.proofs.TreeMaps.{entries_found, ordered_where, where_alike, where_comm}
+use Rattle.edit_laws.specs.Puts.{puts_of}
 
 -- ---- a path that was moved
 

@@ -11,8 +11,9 @@ use Rattle.plain_model.specs.Paths.{Bytes, do_conflict, is_at_or_below}
 use Rattle.plain_model.specs.Trees.{IsTree, Refusal, Tree, apply, apply_all, at, has, moved, subtree, where_path}
 use Rattle.history_laws.proofs.TreeLaws.{apply_tree}
 use Rattle.edit_laws.proofs.Lists.{all_filter}
+use Rattle.edit_laws.specs.Puts.{puts_of}
 use Rattle.squash_laws.specs.Takings.{is_none}
-use Rattle.expunge_laws.specs.Replaced.{deletes_of, has_entry, has_matched, is_clear, puts_of, replaced, replaced_all, restricted, rewritten}
+use Rattle.expunge_laws.specs.Replaced.{deletes_of, has_entry, has_matched, is_clear, replaced, replaced_all, restricted, rewritten}
 use Rattle.expunge_laws.specs.Untouched.{may_touch, one_touches, touches}
 use Rattle.expunge_laws.proofs.Replacing.{clear_parts, replaced_step, subtree_clear}
 use Rattle.expunge_laws.proofs.Still.{names_alone, stay_ops}

@@ -19,10 +19,12 @@ use Rattle.plain_model.specs.Trees.{Tree, Refusal, at, has, IsTree, where_path, 
 use Rattle.plain_model.specs.Trees.Refusal.{PathBytes}
 use Rattle.plain_model.proofs.Words.{bytes_eq_same}
 use Rattle.squash_laws.specs.Takings.{is_none}
-use Rattle.expunge_laws.specs.Replaced.{mode_number, same_content, same_entry, has_entry, deletes_of, puts_of, restricted, has_matched, rewritten, is_clear, replaced}
+use Rattle.expunge_laws.specs.Replaced.{mode_number, same_content, same_entry, has_entry, deletes_of, restricted, has_matched, rewritten, is_clear, replaced}
 use Rattle.history_laws.proofs.LineLaws.{apply_more}
 use Rattle.history_laws.proofs.TreeLaws.{by_bytes, at_where, at_put, same_path, where_tree, has_where, apply_tree}
-use Rattle.history_laws.proofs.TreeMaps.{IsOrdered, ordered_where, ordered_put, ordered_put_all, same_tree, at_put_all, absent, where_comm, where_alike, where_all, any_there, there_any, length_where, within_ok, within_small, puts, ordered_puts, length_puts, clear_put, puts_agree, entries_found, found_has, placed_small}
+use Rattle.history_laws.proofs.TreeMaps.{IsOrdered, ordered_where, ordered_put, ordered_put_all, same_tree, at_put_all, absent, where_comm, where_alike, where_all, any_there, there_any, length_where, within_ok, within_small, puts, ordered_puts, puts_agree, entries_found, found_has, placed_small}
+use Rattle.edit_laws.proofs.Puts.{puts_apply}
+use Rattle.edit_laws.specs.Puts.{puts_of}
 
 -- ---- a run of deletions
 
@@ -75,27 +77,6 @@ deleted f tree t =
         go false false x y = x ∙ sym y
         go true false x y = absurd (true≢false (sym (down q h x) ∙ y))
         go false true x y = absurd (true≢false (sym (any_there (λ (p : Bytes). is_at_or_below p q) (where_path f tree) q (up q h y) (or_left (bytes_eq q q) (is_below q q) (bytes_eq_same q))) ∙ x))
-
--- ---- a run of modifications
-
--- modifications at paths of one tree, over some of its paths
-pub modified : (whole : Tree) → IsTree whole → (es base : Tree) → IsOrdered base → AllByRecursion (λ e. has whole e.0 ≡ true) es → ((q : Bytes) → has base q ≡ true → has whole q ≡ true) → length (puts es base) ≤ MAX_PATHS
-    → apply_all (puts_of es) base ≡ Ok (puts es base)
-modified whole w [] base s k within few = refl
-modified whole w (e ∷ es) base s k within few =
-    let is = clear_put e.0 e.1 base s (λ q h. w.apart e.0 q k.0 (within q h)) in
-    let grown = ordered_put e.0 e.1 base s in
-    let small = within_small (put e.0 e.1 base) (le_trans (length_puts es (put e.0 e.1 base) grown) few) in
-    ap (λ (t : Tree). within_paths t >>= apply_all (puts_of es)) is
-    ∙ ap (λ (r : Result Tree Refusal). r >>= apply_all (puts_of es)) small
-    ∙ modified whole w es (put e.0 e.1 base) grown k.1 (λ q h. inside q h) few
-  where
-    inside : (q : Bytes) → has (put e.0 e.1 base) q ≡ true → has whole q ≡ true
-    inside q h = go (eq_by_cmp by_bytes q e.0) refl (ap is_some (sym (at_put e.0 q e.1 base)) ∙ h)
-      where
-        go : (b : Bool) → eq_by_cmp by_bytes q e.0 ≡ b → is_some (cond (eq_by_cmp by_bytes q e.0) (Some e.1) (at base q)) ≡ true → has whole q ≡ true
-        go true x y = subst (λ (p : Bytes). has whole p ≡ true) (sym (same_path q e.0 x)) k.0
-        go false x y = within q (ap (λ b. is_some (cond b (Some e.1) (at base q))) (sym x) ∙ y)
 
 -- ---- puts towards a tree
 
@@ -326,7 +307,7 @@ module _ (matched : Bytes → Bool) where
   rewritten_step old new t u few =
       apply_more (deletes_of (where_path (λ p. not (has new p)) (restricted matched old))) (puts_of coming) (restricted matched old)
       ∙ ap (λ (r : Result Tree Refusal). r >>= apply_all (puts_of coming)) (deleted (λ p. not (has new p)) (restricted matched old) (restricted_tree old t))
-      ∙ modified whole wholes coming base ordered (found_has whole coming found) inside (subst (λ n. n ≤ MAX_PATHS) (sym (ap length agrees)) (le_trans (length_where (λ p. not (matched p)) new) few))
+      ∙ puts_apply whole wholes coming base ordered (found_has whole coming found) inside (subst (λ n. n ≤ MAX_PATHS) (sym (ap length agrees)) (le_trans (length_where (λ p. not (matched p)) new) few))
       ∙ ap (λ (r : Tree). Ok r) agrees
     where
       differs : Bytes × Entry → Bool

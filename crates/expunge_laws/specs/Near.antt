@@ -3,7 +3,8 @@ use Rattle.std.specs.Prelude.{Bool, not, ◌&&◌, ◌||◌, List, ◌++◌, fil
 use Rattle.plain_model.specs.declared.operation.FileOp.{FileOp}
 use Rattle.plain_model.specs.Paths.{Bytes, is_at_or_below, is_in_the_way}
 use Rattle.plain_model.specs.Trees.{Tree, at, has, subtree, where_path}
-use Rattle.expunge_laws.specs.Replaced.{deletes_of, has_entry, puts_of, restricted}
+use Rattle.expunge_laws.specs.Replaced.{deletes_of, has_entry, restricted}
+use Rattle.edit_laws.specs.Puts.{puts_of}
 
 module _ (matched : Bytes → Bool) where
   -- what goes is among the paths that pass the test, and what comes or changes is at or below the target

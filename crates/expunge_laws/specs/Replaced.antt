@@ -13,6 +13,7 @@ use Rattle.plain_model.specs.declared.operation.FileOp.TheVariants.{Modify, Dele
 use Rattle.plain_model.specs.Paths.{Bytes, do_conflict}
 use Rattle.plain_model.specs.Trees.{Tree, TreeOf, apply, at, has, moved, subtree, where_path}
 use Rattle.squash_laws.specs.Takings.{is_none}
+use Rattle.edit_laws.specs.Puts.{puts_of}
 
 -- ---- entries
 
@@ -43,11 +44,6 @@ has_entry (Some other) entry = same_entry other entry
 abbrev pub deletes_of : Tree → List FileOp
 deletes_of [] = []
 deletes_of (e ∷ es) = Delete e.0 ∷ deletes_of es
-
--- each path of a tree is put, in byte order
-abbrev pub puts_of : Tree → List FileOp
-puts_of [] = []
-puts_of (e ∷ es) = Modify e.1.mode e.1.content e.0 ∷ puts_of es
 
 module _ (matched : Bytes → Bool) where
   -- a tree without the matched paths

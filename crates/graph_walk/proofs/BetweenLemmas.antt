@@ -18,10 +18,11 @@ use Rattle.ancestry_laws.specs.Ancestry.{descends, is_one_of}
 use Rattle.graph_walk.specs.Flags.{FlagsMore, flag_at, is_commit_of, is_flagged_commit}
 use Rattle.ancestry_laws.proofs.Descent.{closed_reaches}
 use Rattle.std.proofs.lemmas.Bool.Decides.{nat_tests}
-use Rattle.graph_walk.proofs.ClosureLemmas.{AreClosedFrom, OfNode, closed_first, nodes_all}
+use Rattle.graph_walk.proofs.ClosureLemmas.{AreClosedFrom, closed_first, nodes_all}
 use Rattle.graph_walk.proofs.EarlierLemmas.{parents_before, is_earlier}
 use Rattle.graph_walk.proofs.FlagLemmas.{commit_id, commit_of_is, flag_of}
 use Rattle.graph_walk.proofs.PlaceLemmas.{event_placed, place_found}
+use Rattle.edit_laws.proofs.Lists.{OfNodes}
 
 -- the place is below a bound, or there is none
 abbrev is_below : ℕ → Option ℕ → Bool
@@ -96,10 +97,9 @@ module _ (events : List PlainEvent) (sound : IsSound events) (once : AreDistinct
         ]
 
     node_closure : (j : ℕ) (e : PlainEvent) → slice_get events j ≡ Some e →
-        OfNode (λ n. covered n.id ≡ true → AllByRecursion (λ p. covered p ≡ true) n.parents) e
-    unfolding OfNode
+        OfNodes (λ n. covered n.id ≡ true → AllByRecursion (λ p. covered p ≡ true) n.parents) e
     node_closure j (Commit id mark branch author committer encoding comment parents ops aliases) at =
-        closure_at j (Commit id mark branch author committer encoding comment parents ops aliases) id at refl
+        (closure_at j (Commit id mark branch author committer encoding comment parents ops aliases) id at refl, tt)
     node_closure j (Blob id mark bytes) at = tt
     node_closure j (Tag id name target tagger comment mark) at = tt
     node_closure j (Reset id branch target) at = tt

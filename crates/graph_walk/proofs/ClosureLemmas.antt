@@ -21,6 +21,7 @@ use Rattle.ancestry_laws.proofs.Descent.{any_here, any_some, closed_reaches, fro
 use Rattle.graph_walk.proofs.EarlierLemmas.{parents_before, is_earlier}
 use Rattle.graph_walk.proofs.FlagLemmas.{commit_id, commit_of_is, flag_of, flagged_by, of_commit}
 use Rattle.graph_walk.proofs.PlaceLemmas.{event_placed, has_id_place, place_found}
+use Rattle.edit_laws.proofs.Lists.{OfNodes}
 
 -- an event that is one of these commits
 listed_one : (P : ℕ → Type 0) (set' : List ℕ) (d : PlainEvent) → AllByRecursion P set' → is_commit_of set' d ≡ true →
@@ -36,20 +37,11 @@ all_unit [] = tt
 all_unit (x ∷ xs) = (tt, all_unit xs)
 
 -- a fact of each commit, from places to nodes
-unfoldable pub OfNode : (Node → Type 0) → PlainEvent → Type 0
-OfNode P (Commit id mark branch author committer encoding comment parents ops aliases) =
-    P (record { id = id; parents = parents; ops = ops })
-OfNode P (Blob id mark bytes) = Unit {0}
-OfNode P (Tag id name target tagger comment mark) = Unit {0}
-OfNode P (Reset id branch target) = Unit {0}
-OfNode P (Pass id line) = Unit {0}
-
 pub nodes_all : (P : Node → Type 0) (es : List PlainEvent) →
-    ((k : ℕ) (e : PlainEvent) → slice_get es k ≡ Some e → OfNode P e) → AllByRecursion P (nodes es)
-unfolding OfNode
+    ((k : ℕ) (e : PlainEvent) → slice_get es k ≡ Some e → OfNodes P e) → AllByRecursion P (nodes es)
 nodes_all P [] h = tt
 nodes_all P (Commit id mark branch author committer encoding comment parents ops aliases ∷ es) h =
-    (h 0 (Commit id mark branch author committer encoding comment parents ops aliases) refl, nodes_all P es (λ k e at. h (suc k) e at))
+    ((h 0 (Commit id mark branch author committer encoding comment parents ops aliases) refl).0, nodes_all P es (λ k e at. h (suc k) e at))
 nodes_all P (Blob id mark bytes ∷ es) h = nodes_all P es (λ k e at. h (suc k) e at)
 nodes_all P (Tag id name target tagger comment mark ∷ es) h = nodes_all P es (λ k e at. h (suc k) e at)
 nodes_all P (Reset id branch target ∷ es) h = nodes_all P es (λ k e at. h (suc k) e at)
@@ -263,7 +255,7 @@ module _ (events : List PlainEvent) (sound : IsSound events) (once : AreDistinct
   -- in the end they are the ancestors
   pub closed_all : (flags : List Bool) → AreClosedFrom events set' 0 flags →
       flagged_ids flags events ≡ map any.Commit (filter (λ c. list_any (descends events (c ∷ [])) set') (commits events))
-  unfolding of_commit OfNode
+  unfolding of_commit
   closed_all flags s = flagged_by (λ c. list_any (descends events (c ∷ [])) set') events flags s.count same
     where
       closure : AllByRecursion (λ n. is_flagged_commit flags events n.id ≡ true → AllByRecursion (λ p. is_flagged_commit flags events p ≡ true) n.parents) (past events)
@@ -272,15 +264,15 @@ module _ (events : List PlainEvent) (sound : IsSound events) (once : AreDistinct
         where
           node_of : (k : ℕ) (e : PlainEvent) → slice_get events k ≡ Some e →
               (get_or flags k false ≡ true → AllByRecursion (λ p. is_flagged_commit flags events p ≡ true) (event_parents e)) →
-              OfNode (λ n. is_flagged_commit flags events n.id ≡ true → AllByRecursion (λ p. is_flagged_commit flags events p ≡ true) n.parents) e
-          node_of k (Commit id mark branch author committer encoding comment parents ops aliases) at more = λ h. more (sym (flag_of flags events k id (Commit id mark branch author committer encoding comment parents ops aliases) once at refl) ∙ h)
+              OfNodes (λ n. is_flagged_commit flags events n.id ≡ true → AllByRecursion (λ p. is_flagged_commit flags events p ≡ true) n.parents) e
+          node_of k (Commit id mark branch author committer encoding comment parents ops aliases) at more = (λ h. more (sym (flag_of flags events k id (Commit id mark branch author committer encoding comment parents ops aliases) once at refl) ∙ h), tt)
           node_of k (Blob id mark bytes) at more = tt
           node_of k (Tag id name target tagger comment mark) at more = tt
           node_of k (Reset id branch target) at more = tt
           node_of k (Pass id line) at more = tt
 
           one : (k : ℕ) (e : PlainEvent) → slice_get events k ≡ Some e →
-              OfNode (λ n. is_flagged_commit flags events n.id ≡ true → AllByRecursion (λ p. is_flagged_commit flags events p ≡ true) n.parents) e
+              OfNodes (λ n. is_flagged_commit flags events n.id ≡ true → AllByRecursion (λ p. is_flagged_commit flags events p ≡ true) n.parents) e
           one k e at = node_of k e at (λ h. s.closed k e at (omega arith) h)
 
       -- a commit from which one of the set descends has a flag

@@ -12,11 +12,12 @@ use Rattle.plain_model.specs.Paths.{Bytes, is_at_or_below, is_in_the_way}
 use Rattle.plain_model.specs.Trees.{IsTree, Tree, apply, at, cleared_for, has, has_long_path, moved, placed, put_all, subtree, where_path, within_paths, without}
 use Rattle.plain_model.specs.Trees.Refusal.{PathBytes}
 use Rattle.history_laws.proofs.TreeLaws.{at_where, by_bytes, has_where}
-use Rattle.expunge_laws.specs.Replaced.{deletes_of, has_entry, puts_of, restricted, rewritten}
+use Rattle.expunge_laws.specs.Replaced.{deletes_of, has_entry, restricted, rewritten}
 use Rattle.expunge_laws.proofs.InTurn.{copy_goes, rename_goes}
 use Rattle.expunge_laws.proofs.Nearby.{copy_near, rename_near}
 use Rattle.history_laws.proofs.TreeMaps.{IsOrdered, any_there, length_where, ordered_put_all, ordered_where, where_all, where_alike, where_comm, within_ok}
 use Rattle.path_expunge.specs.Written.{gone_of, moving, written_at}
+use Rattle.edit_laws.specs.Puts.{puts_of}
 
 -- ---- how many paths there are
 

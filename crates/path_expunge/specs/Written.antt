@@ -4,7 +4,8 @@ use Rattle.plain_model.specs.declared.operation.FileOp.{FileOp}
 use Rattle.plain_model.specs.declared.operation.FileOp.TheVariants.{Copy, Rename}
 use Rattle.plain_model.specs.Paths.{Bytes}
 use Rattle.plain_model.specs.Trees.{Tree, at, has, subtree, where_path}
-use Rattle.expunge_laws.specs.Replaced.{deletes_of, has_entry, puts_of, restricted}
+use Rattle.expunge_laws.specs.Replaced.{deletes_of, has_entry, restricted}
+use Rattle.edit_laws.specs.Puts.{puts_of}
 
 -- a copy, or else a rename
 abbrev pub moving : Bool → Bytes → Bytes → FileOp

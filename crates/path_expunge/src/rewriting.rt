@@ -14,11 +14,11 @@ ghost use Rattle.std.specs.Prelude.{
   IsTrue,
   OnOk,
 };
+ghost use Rattle.edit_laws.specs.Puts.{puts_of};
 ghost use Rattle.expunge_laws.specs.Replaced.{
   deletes_of,
   has_entry,
   mode_number,
-  puts_of,
   restricted,
   rewritten,
   same_content,

@@ -5,7 +5,6 @@ use Rattle.std.specs.List.{AllByRecursion, list_any}
 use Rattle.std.specs.Map.{lookup}
 use Rattle.std.proofs.lemmas.Bool.{cases_Bool, and_parts, or_cases, or_left, or_right, or_parts, not-true, cond-true, cond-false, lt-ltb}
 use Rattle.std.proofs.lemmas.Bool.Decides.{nat_tests}
-use Rattle.std.proofs.lemmas.List.Folds.{list_any-append}
 use Rattle.plain_model.specs.declared.fault.Fault.{Fault}
 use Rattle.plain_model.specs.declared.fault.Fault.TheVariants as fault
 use Rattle.plain_model.specs.declared.limit.TheConstants.{MAX_PARENTS}
@@ -14,15 +13,15 @@ use Rattle.plain_model.specs.declared.id.AnyId.TheVariants as any
 use Rattle.plain_model.specs.declared.event.PlainEvent.{PlainEvent}
 use Rattle.plain_model.specs.declared.event.PlainEvent.TheVariants.{Blob, Commit, Tag, Reset, Pass}
 use Rattle.plain_model.specs.Histories.{Node, node_at, past}
-use Rattle.plain_model.specs.Lookups.{children_of, is_listed, own_child}
+use Rattle.plain_model.specs.Lookups.{children_of, is_listed}
 use Rattle.plain_model.specs.Soundness.{IsSound, are_distinct, has_id}
 use Rattle.plain_model.proofs.Numbers.{eqb_turned}
 use Rattle.history_laws.specs.Finding.{event_number, is_only}
 use Rattle.history_laws.proofs.Lists.{all_imply}
-use Rattle.edit_laws.proofs.Lists.{OfNodes}
 use Rattle.commit_laws.specs.Selected.{chosen, listed, node_of}
 use Rattle.edit_laws.specs.Selecting.{IsSelection}
 use Rattle.edit_laws.proofs.Limits.{not_many}
+use Rattle.edit_laws.proofs.Children.{IsChild}
 use Rattle.commit_laws.proofs.Given.{IsGiven, IsHere, all_given, parents_here, rank}
 use Rattle.commit_laws.proofs.Selections.{any_chosen, chosen_distinct, in_both, in_set, listed_here}
 use Rattle.reorder_laws.specs.Reorder.{instead, last_of, line_fault, lined_up}
@@ -56,40 +55,6 @@ only_one x i (d ∷ []) o h = sym (eqb-true d i (one (d == i) h)) ∙ eqb-true d
     one true h = refl
     one false h = absurd (true≢false (sym h))
 only_one x i (d ∷ e ∷ l) o h = absurd (true≢false (sym o))
-
--- ---- children
-
--- a commit is a child of each of its parents
-abbrev pub IsChild : List PlainEvent → Node → Type 0
-IsChild es n = (p : ℕ) → list_any (λ q. q == p) n.parents ≡ true → list_any (λ m. m == n.id) (children_of p es) ≡ true
-
-more_children : (e : PlainEvent) (es xs : List PlainEvent) → AllByRecursion (OfNodes (IsChild es)) xs → AllByRecursion (OfNodes (IsChild (e ∷ es))) xs
-more_children e es [] a = tt
-more_children e es (Commit i mark branch author committer encoding comment parents ops aliases ∷ xs) a = (
-  (λ p k. list_any-append (λ m. m == i) (own_child p e) (children_of p es) ∙ or_right (list_any (λ m. m == i) (own_child p e)) (list_any (λ m. m == i) (children_of p es)) (a.0.0 p k), tt),
-  more_children e es xs a.1,
-)
-more_children e es (Blob i mark bytes ∷ xs) a = (tt, more_children e es xs a.1)
-more_children e es (Tag i name target tagger comment mark ∷ xs) a = (tt, more_children e es xs a.1)
-more_children e es (Reset i branch target ∷ xs) a = (tt, more_children e es xs a.1)
-more_children e es (Pass i line ∷ xs) a = (tt, more_children e es xs a.1)
-
-pub all_children : (es : List PlainEvent) → AllByRecursion (OfNodes (IsChild es)) es
-all_children [] = tt
-all_children (e ∷ es) = (own e, more_children e es es (all_children es))
-  where
-    own : (e : PlainEvent) → OfNodes (IsChild (e ∷ es)) e
-    own (Commit i mark branch author committer encoding comment parents ops aliases) = (
-      λ p k.
-          list_any-append (λ m. m == i) (own_child p (Commit i mark branch author committer encoding comment parents ops aliases)) (children_of p es)
-          ∙ or_left (list_any (λ m. m == i) (own_child p (Commit i mark branch author committer encoding comment parents ops aliases))) (list_any (λ m. m == i) (children_of p es))
-          (ap (λ b. list_any (λ m. m == i) (cond b (i ∷ []) [])) k ∙ or_left (i == i) false (eq-eqb i i refl)),
-      tt,
-    )
-    own (Blob i mark bytes) = tt
-    own (Tag i name target tagger comment mark) = tt
-    own (Reset i branch target) = tt
-    own (Pass i line) = tt
 
 -- ---- given parents
 

@@ -19,22 +19,30 @@ use Rattle.history_laws.proofs.Ids.{each_found, has_id_append}
 use Rattle.history_laws.proofs.SoundOnce.{sound_once}
 use Rattle.history_laws.proofs.Lists.{all_imply, all_join}
 use Rattle.edit_laws.specs.Keeping.{HasOperationsOf}
-use Rattle.edit_laws.proofs.Lists.{OfNodes, all_rear, all_true, events_of_nodes, none_passing, own_id, some_passing, true_all}
+use Rattle.edit_laws.proofs.Lists.{OfNodes, all_rear, all_true, events_of_nodes, none_passing, own_id, some_passing, true_all, nodes_of_events}
 use Rattle.edit_laws.proofs.Sound.{in_parts}
 use Rattle.commit_laws.specs.Selected.{chosen, listed, node_of}
 use Rattle.edit_laws.specs.Selecting.{IsSelection}
 use Rattle.edit_laws.proofs.Fine.{There}
+use Rattle.edit_laws.proofs.Children.{IsChild, all_children}
 use Rattle.commit_laws.proofs.Given.{IsGiven, IsHere, all_given, here_parents, parents_here, rank}
 use Rattle.commit_laws.proofs.Selections.{chosen_here}
 use Rattle.reorder_laws.specs.InOrder.{IsOneInOrder}
 use Rattle.reorder_laws.specs.Reorder.{filled, instead, last_of, line_fault, lined_up, parents_after, relinked, relinked_all}
-use Rattle.reorder_laws.proofs.InOrder.{IsAfter}
-use Rattle.reorder_laws.proofs.Line.{IsApart, IsChild, all_children, distinct_instead, each_in, given_is, in_ws, line_here, node_is, not_given, not_new, number, number_given, number_other, outside}
+use Rattle.reorder_laws.proofs.Line.{IsApart, distinct_instead, each_in, given_is, in_ws, line_here, node_is, not_given, not_new, number, number_given, number_other, outside}
 use Rattle.reorder_laws.proofs.Places.{filled_all, filled_same, filled_there}
 
 pub all_both : {X : Type 0} (P Q : X → Type 0) (xs : List X) → AllByRecursion P xs → AllByRecursion Q xs → AllByRecursion (λ x. P x × Q x) xs
 all_both P Q [] a b = tt
 all_both P Q (x ∷ xs) a b = ((a.0, b.0), all_both P Q xs a.1 b.1)
+
+-- an event with other parents is the same one
+pub relinked_id : (given : List (ℕ × List ℕ)) (old new : ℕ) (e : PlainEvent) → id_of (relinked given old new e) ≡ id_of e
+relinked_id given old new (Commit id mark branch author committer encoding comment parents ops aliases) = refl
+relinked_id given old new (Blob id mark bytes) = refl
+relinked_id given old new (Tag id name target tagger comment mark) = refl
+relinked_id given old new (Reset id branch target) = refl
+relinked_id given old new (Pass id line) = refl
 
 module _ (set : List AnyId) (events : List PlainEvent) (h : IsSound events) (sel : IsSelection events set) (v : ℕ) (vs : List ℕ) (w : ℕ) (ws : List ℕ) (is_vs : listed set events ≡ v ∷ vs) (is_ws : chosen set ≡ w ∷ ws) (line : line_fault events v vs ≡ None) where
   abbrev old : ℕ
@@ -63,15 +71,8 @@ module _ (set : List AnyId) (events : List PlainEvent) (h : IsSound events) (sel
 
   -- ---- ids
 
-  same_id_of : (e : PlainEvent) → id_of (link e) ≡ id_of e
-  same_id_of (Commit id mark branch author committer encoding comment parents ops aliases) = refl
-  same_id_of (Blob id mark bytes) = refl
-  same_id_of (Tag id name target tagger comment mark) = refl
-  same_id_of (Reset id branch target) = refl
-  same_id_of (Pass id line) = refl
-
   one_same : (e : PlainEvent) (id : AnyId) → has_id (link e ∷ []) id ≡ has_id (e ∷ []) id
-  one_same e id = own_id (link e) id ∙ ap (same_id id) (same_id_of e) ∙ sym (own_id e id)
+  one_same e id = own_id (link e) id ∙ ap (same_id id) (relinked_id given old new e) ∙ sym (own_id e id)
 
   ids_same : (es : List PlainEvent) (id : AnyId) → has_id (map link es) id ≡ has_id es id
   ids_same [] id = refl
@@ -236,7 +237,7 @@ module _ (set : List AnyId) (events : List PlainEvent) (h : IsSound events) (sel
   -- ---- the places
 
   known : AllByRecursion Known events
-  known = all_both (IsGiven events (rank events h)) (OfNodes (IsChild events)) events (all_given events h) (all_children events)
+  known = all_both (IsGiven events (rank events h)) (OfNodes (IsChild events)) events (all_given events h) (nodes_of_events (IsChild events) events (all_children events))
 
   abbrev pub left : List PlainEvent
   left = filled set whole (w ∷ ws) whole

@@ -24,12 +24,13 @@ use Rattle.edit_laws.specs.Settling.{settle}
 use Rattle.edit_laws.proofs.Fine.{IsFine}
 use Rattle.edit_laws.proofs.Lists.{all_among}
 use Rattle.edit_laws.proofs.Settles.{settled_all, settled_ids, settled_sums, settled_trees, settling_ends}
+use Rattle.edit_laws.specs.Puts.{puts_of}
 use Rattle.commit_laws.specs.Rewriting.{rewritten_all}
 use Rattle.commit_laws.proofs.Given.{IsHere, rank}
 use Rattle.commit_laws.proofs.Rewritten.{MayHave, all_fit, bytes_new, can_settle, ids_same}
 use Rattle.reparent_laws.specs.Remaining.{IsOneOf}
 use Rattle.reparent_laws.specs.Reparent.{descendant, have_same_first, ops_onto, reparents}
-use Rattle.reparent_laws.specs.WrittenOut.{begun_tree, puts_of, written_out}
+use Rattle.reparent_laws.specs.WrittenOut.{begun_tree, written_out}
 use Rattle.reparent_laws.proofs.Changed.{adds_nothing, one_of_all}
 use Rattle.reparent_laws.proofs.Merged.{anew}
 use Rattle.reparent_laws.proofs.Puts.{puts_give_tree}

@@ -23,7 +23,7 @@ use Rattle.history_laws.proofs.KeptPaths.{PutsAtPath, change_paths}
 use Rattle.history_laws.proofs.TreeMaps.{entries_found, few_within, found_has, length_where, placed_small}
 use Rattle.edit_laws.proofs.Fine.{IsFine}
 use Rattle.edit_laws.proofs.Settles.{fine_nodes}
-use Rattle.reparent_laws.specs.WrittenOut.{puts_of}
+use Rattle.edit_laws.specs.Puts.{puts_of}
 
 -- ---- what each operation keeps is true of each tree
 

@@ -46,12 +46,12 @@ ghost use Rattle.commit_laws.specs.Rewriting.{rewritten_all};
 ghost use Rattle.commit_laws.specs.Selected.{listed, node_of};
 ghost use Rattle.history_laws.specs.Finding.{event_number};
 ghost use Rattle.edit_laws.specs.Selecting.{IsSelection};
+ghost use Rattle.edit_laws.specs.Puts.{puts_of};
 ghost use Rattle.reparent_laws.specs.declared.removal.Removal.{Removal};
 ghost use Rattle.reparent_laws.specs.Merge.{merge_of, merges, unmerge_of, unmerges};
 ghost use Rattle.reparent_laws.specs.Operations.{add_of, adds, op_of, remove_of, removes};
 ghost use Rattle.reparent_laws.specs.Remaining.{IsOneOf};
 ghost use Rattle.reparent_laws.specs.Reparent.{descendant, ordered, reparent_of, reparented, reparents};
-ghost use Rattle.reparent_laws.specs.WrittenOut.{puts_of};
 
 /// A new parent is refused where a path of parents leads from it to the commit that is changed, and nowhere else.
 pub fn a_cycle_is_a_path_of_parents()

@@ -10,6 +10,7 @@ use Rattle.plain_model.specs.declared.event.PlainEvent.{PlainEvent}
 use Rattle.edit_laws.specs.Passing.{limit_fault}
 use Rattle.commit_laws.specs.Rewriting.{rewritten_all}
 use Rattle.commit_laws.specs.Selected.{kind_fault, listed, node_of, the_commit}
+use Rattle.commit_laws.proofs.Selections.{made_unless}
 use Rattle.reparent_laws.specs.Faults.{tree_fault, unless_fault}
 use Rattle.reparent_laws.specs.Merge.{merge_of, merge_these, merges, ops_with_parent, unmerge_of, unmerges}
 use Rattle.reparent_laws.specs.Operations.{add_of, add_to, op_of, removal_fault, remove_of, removed}
@@ -37,13 +38,10 @@ merge_two events cs low high after o two is limit =
     ap (merge_these events) two ∙ (λ i. unless_fault (limit_fault (sym is i)) (sym is i)) ∙ ap (λ (w : Option Fault). unless_fault w after) limit
 
 module _ (set : List AnyId) (events : List PlainEvent) where
-  abbrev of_kinds : Result (List PlainEvent) Fault → Option Fault → Result (List PlainEvent) Fault
-  of_kinds r o = elim o [ Some why ↦ Err why | None ↦ r ]
-
   pub merged_of : (r : Result (List PlainEvent) Fault) → length set ≡ 2 → kind_fault events set ≡ None → merge_these events (listed set events) ≡ r → merge_of set events ≡ r
   merged_of r two kinds is =
-      ap (λ (b : Bool). cond b (of_kinds (merge_these events (listed set events)) (kind_fault events set)) (Err (fault.WrongCount (length set)))) (eq-eqb (length set) 2 two)
-      ∙ ap (of_kinds (merge_these events (listed set events))) kinds ∙ is
+      ap (λ (b : Bool). cond b (made_unless (merge_these events (listed set events)) (kind_fault events set)) (Err (fault.WrongCount (length set)))) (eq-eqb (length set) 2 two)
+      ∙ ap (made_unless (merge_these events (listed set events))) kinds ∙ is
 
   -- ---- unmerge
 
@@ -64,12 +62,12 @@ module _ (set : List AnyId) (events : List PlainEvent) where
       unless_fault (tree_fault (removed events c what)) (removed events c what) ≡ r → remove_of what set events ≡ r
   removed_of what c r is none made =
       ap (λ (x : Result ℕ Fault). elim x as (λ x. Result (List PlainEvent) Fault) [ Ok d ↦ elim (removal_fault what (node_of events d).ops) [ Some why ↦ Err why | None ↦ unless_fault (tree_fault (removed events d what)) (removed events d what) ] | Err why ↦ Err why ]) (sym is)
-      ∙ ap (of_kinds (unless_fault (tree_fault (removed events c what)) (removed events c what))) none ∙ made
+      ∙ ap (made_unless (unless_fault (tree_fault (removed events c what)) (removed events c what))) none ∙ made
 
   -- ---- reparent
 
   pub reparented_of : (use_order rebase : Bool) (r : Result (List PlainEvent) Fault) → kind_fault events set ≡ None → reparent_last rebase events (ordered use_order set events) ≡ r → reparent_of use_order rebase set events ≡ r
-  reparented_of use_order rebase r kinds is = ap (of_kinds (reparent_last rebase events (ordered use_order set events))) kinds ∙ is
+  reparented_of use_order rebase r kinds is = ap (made_unless (reparent_last rebase events (ordered use_order set events))) kinds ∙ is
 
 module _ (rebase : Bool) (events : List PlainEvent) (c : ℕ) (new : List ℕ) where
   -- its operations stay, or its tree is written out

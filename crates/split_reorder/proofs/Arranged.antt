@@ -30,9 +30,9 @@ use Rattle.edit_laws.proofs.Trees.{linked_in_order}
 use Rattle.graph_walk.specs.Outcome.{IsCauseOf}
 use Rattle.commit_laws.specs.Selected.{chosen, kind_fault, listed, node_of}
 use Rattle.edit_laws.specs.Selecting.{IsSelection}
-use Rattle.commit_laws.proofs.Selections.{chosen_here}
+use Rattle.commit_laws.proofs.Selections.{chosen_here, made_unless}
 use Rattle.reorder_laws.specs.Reorder.{filled, is_placed, last_of, line_fault, lined_up, relinked, relinked_all, reorder_of, reorder_these}
-use Rattle.reorder_laws.proofs.Reordered.{left_settles, left_sums}
+use Rattle.reorder_laws.proofs.Reordered.{left_settles, left_sums, relinked_id}
 use Rattle.split_reorder.specs.Ordered.{ordered}
 use Rattle.split_reorder.proofs.Permuted.{permuted, tally_times}
 use Rattle.plan_steps.proofs.Steps.{absent_mapped, found_mapped}
@@ -57,13 +57,6 @@ module _ (given : List (ℕ × List ℕ)) (old new : ℕ) where
   abbrev link : PlainEvent → PlainEvent
   link e = relinked given old new e
 
-  link_id : (e : PlainEvent) → id_of (link e) ≡ id_of e
-  link_id (Commit id mark branch author committer encoding comment parents ops aliases) = refl
-  link_id (Blob id mark bytes) = refl
-  link_id (Tag id name target tagger comment mark) = refl
-  link_id (Reset id branch target) = refl
-  link_id (Pass id line) = refl
-
   link_placed : (set : List AnyId) (e : PlainEvent) → is_placed set (link e) ≡ is_placed set e
   link_placed set (Commit id mark branch author committer encoding comment parents ops aliases) = refl
   link_placed set (Blob id mark bytes) = refl
@@ -74,9 +67,9 @@ module _ (given : List (ℕ × List ℕ)) (old new : ℕ) where
   -- the order is the same
   ordered_linked : (set : List AnyId) (us : List ℕ) (es : List PlainEvent) → ordered set us (map link es) ≡ ordered set us es
   ordered_linked set us [] = refl
-  ordered_linked set [] (e ∷ es) = λ i. cond (link_placed set e i) (ordered_linked set [] es i) (link_id e i ∷ ordered_linked set [] es i)
+  ordered_linked set [] (e ∷ es) = λ i. cond (link_placed set e i) (ordered_linked set [] es i) (relinked_id given old new e i ∷ ordered_linked set [] es i)
   ordered_linked set (u ∷ us) (e ∷ es) =
-      λ i. cond (link_placed set e i) (any.Commit u ∷ ordered_linked set us es i) (link_id e i ∷ ordered_linked set (u ∷ us) es i)
+      λ i. cond (link_placed set e i) (any.Commit u ∷ ordered_linked set us es i) (relinked_id given old new e i ∷ ordered_linked set (u ∷ us) es i)
 
 -- ---- the places
 
@@ -135,7 +128,7 @@ module _ (set : List AnyId) (events : List PlainEvent) (h : IsSound events) (sel
   whole = relinked_all events v vs w ws
 
   to_id : (e : PlainEvent) → id_of (to e) ≡ id_of e
-  to_id e = link_id given (last_of v vs) (last_of w ws) e
+  to_id e = relinked_id given (last_of v vs) (last_of w ws) e
 
   abbrev pub its : List PlainEvent
   its = filled set whole (w ∷ ws) whole
@@ -183,15 +176,12 @@ module _ (set : List AnyId) (events : List PlainEvent) (h : IsSound events) (sel
 
 -- ---- the whole
 
-abbrev of_kinds : Result (List PlainEvent) Fault → Option Fault → Result (List PlainEvent) Fault
-of_kinds r o = elim o [ Some why ↦ Err why | None ↦ r ]
-
 -- commits alone, and enough of them
 pub of_these : (set : List AnyId) (events : List PlainEvent) (r : Result (List PlainEvent) Fault) → 2 ≤ length set → kind_fault events set ≡ None →
     reorder_these set events (listed set events) (chosen set) ≡ r → reorder_of set events ≡ r
 of_these set events r many kinds is =
-    ap (λ (b : Bool). cond b (Err (fault.WrongCount (length set))) (of_kinds (reorder_these set events (listed set events) (chosen set)) (kind_fault events set))) (not_few (length set) many)
-    ∙ ap (of_kinds (reorder_these set events (listed set events) (chosen set))) kinds ∙ is
+    ap (λ (b : Bool). cond b (Err (fault.WrongCount (length set))) (made_unless (reorder_these set events (listed set events) (chosen set)) (kind_fault events set))) (not_few (length set) many)
+    ∙ ap (made_unless (reorder_these set events (listed set events) (chosen set))) kinds ∙ is
   where
     not_few : (n : ℕ) → 2 ≤ n → nat_lt n 2 ≡ false
     not_few n h = grind (arith, nat_tests)

@@ -18,11 +18,11 @@ use Rattle.history_laws.proofs.Lists.{map_same}
 use Rattle.event_arena.proofs.ChangeLemmas.{id_with_field}
 use Rattle.event_arena.proofs.DistinctLemmas.{distinct_changed}
 use Rattle.history_laws.proofs.SoundOnce.{sound_once}
-use Rattle.edit_laws.proofs.Lists.{OfNodes}
+use Rattle.edit_laws.proofs.Lists.{OfNodes, nodes_of_events}
+use Rattle.edit_laws.proofs.Children.{IsChild, all_children}
 use Rattle.commit_laws.specs.Selected.{node_of}
 use Rattle.commit_laws.proofs.Given.{IsGiven, all_given, rank}
 use Rattle.reorder_laws.specs.Reorder.{instead, last_of, lined_up, relinked}
-use Rattle.reorder_laws.proofs.Line.{IsChild, all_children}
 use Rattle.split_reorder.specs.Parents.{moved_parents, with_all}
 use Rattle.split_reorder.proofs.Halving.{unmoved}
 use Rattle.plan_steps.proofs.Nodes.{found_parts}
@@ -189,7 +189,7 @@ module _ (events : List PlainEvent) (h : IsSound events) (old new : ℕ) (ps : L
   all_relinked =
       sym (all_append moves (lined_up ps us) events)
       ∙ all_assigned all events (sound_once events h).ids
-      ∙ each_relinked events (all_given events h) (all_children events)
+      ∙ each_relinked events (all_given events h) (nodes_of_events (IsChild events) events (all_children events))
 
 -- ---- one commit more
 

@@ -1,8 +1,9 @@
 use Rattle.std.proofs.Common.{◌≡◌, ◌++◌, drop, not, filter}
-use Rattle.expunge_laws.specs.Replaced.{has_entry, puts_of, restricted}
+use Rattle.expunge_laws.specs.Replaced.{has_entry, restricted}
 use Rattle.plain_model.specs.Trees.{at}
 use Rattle.expunge_laws.specs.Matching.{matched_by}
 use Rattle.path_expunge.proofs.rewriting.push_new_entries.Given as goal
+use Rattle.edit_laws.specs.Puts.{puts_of}
 
 abbrev pub invariant-loop-entry : goal.invariant-loop-entry
 invariant-loop-entry l = record {

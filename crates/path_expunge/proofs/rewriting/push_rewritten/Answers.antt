@@ -2,11 +2,12 @@ use Rattle.std.proofs.Common.{◌∙◌, ◌++◌, List, filter, not, ap, append
 use Rattle.std.proofs.lemmas.Result.{on_ok_weaker}
 use Rattle.plain_model.specs.declared.operation.FileOp.{FileOp}
 use Rattle.plain_model.specs.Trees.{Tree, at, subtree}
-use Rattle.expunge_laws.specs.Replaced.{deletes_of, has_entry, puts_of, restricted}
+use Rattle.expunge_laws.specs.Replaced.{deletes_of, has_entry, restricted}
 use Rattle.expunge_laws.specs.Matching.{Matches, matched_by}
 use Rattle.path_expunge.specs.Written.{gone_of}
 use Rattle.path_expunge.proofs.WrittenLemmas.{written}
 use Rattle.path_expunge.proofs.rewriting.push_rewritten.Goals as goal
+use Rattle.edit_laws.specs.Puts.{puts_of}
 
 pub returns-clause-made : goal.returns-clause-made
 returns-clause-made c =
