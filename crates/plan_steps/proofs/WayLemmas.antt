@@ -83,13 +83,13 @@ is_early events k c place once known there =
     record { event = b.event; low = omega arith; at = ap (slice_get events) (sym same) ∙ b.at; own = commit_own c b.event b.own }
 
 -- the event at the place of a commit
-pub record IsPlaced (events : List PlainEvent) (c place : ℕ) : Type 0 where
+pub record IsCommitAt (events : List PlainEvent) (c place : ℕ) : Type 0 where
   pub event : PlainEvent
   pub at : slice_get events place ≡ Some event
   pub own : commit_id event ≡ Some c
 
-pub is_placed : (events : List PlainEvent) (c place : ℕ) → place_of (any.Commit c) events ≡ Some place → IsPlaced events c place
-is_placed events c place there =
+pub commit_placed : (events : List PlainEvent) (c place : ℕ) → place_of (any.Commit c) events ≡ Some place → IsCommitAt events c place
+commit_placed events c place there =
     let x = event_placed events (any.Commit c) place there in
     record { event = x.event; at = x.at; own = commit_own c x.event x.own }
 

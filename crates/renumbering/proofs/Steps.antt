@@ -78,8 +78,8 @@ renumbered_push n (x ∷ xs) e =
 
 -- ---- the list of a plan, where so many events have their marks
 
-abbrev pub so_far : ℕ → List PlainEvent → List PlainEvent
-so_far k events = renumbered (take k events) ++ drop k events
+abbrev pub renumbered_up_to : ℕ → List PlainEvent → List PlainEvent
+renumbered_up_to k events = renumbered (take k events) ++ drop k events
 
 -- the mark that is next there
 abbrev pub next_at : ℕ → List PlainEvent → ℕ
@@ -108,10 +108,10 @@ module _ (events : List PlainEvent) (k : ℕ) (e : PlainEvent) (is : slice_get e
     absent : find_event (id_of e) (renumbered (take k events)) ≡ None
     absent = absent_renumbered 1 (take k events) (id_of e) (distinct_absent (take k events) (drop (suc k) events) e (subst AreDistinct parts once))
 
-    pub found_so_far : find_event (id_of e) (so_far k events) ≡ Some e
+    pub found_so_far : find_event (id_of e) (renumbered_up_to k events) ≡ Some e
     found_so_far = ap (λ ys. find_event (id_of e) (renumbered (take k events) ++ ys)) (drop_item events k e is) ∙ find_after (renumbered (take k events)) (drop (suc k) events) e absent
 
-    pub changed_so_far : changed (id_of e) (marked_from (next_at k events)) (so_far k events) ≡ so_far (suc k) events
+    pub changed_so_far : changed (id_of e) (marked_from (next_at k events)) (renumbered_up_to k events) ≡ renumbered_up_to (suc k) events
     changed_so_far =
         ap (λ ys. changed (id_of e) (marked_from (next_at k events)) (renumbered (take k events) ++ ys)) (drop_item events k e is)
         ∙ changed_after (marked_from (next_at k events)) (renumbered (take k events)) (drop (suc k) events) e absent
@@ -119,7 +119,7 @@ module _ (events : List PlainEvent) (k : ℕ) (e : PlainEvent) (is : slice_get e
         ∙ ap (λ xs. xs ++ drop (suc k) events) (sym (renumbered_push 1 (take k events) e) ∙ ap renumbered (sym (take_item events k e is)))
 
 -- all of them have their marks
-pub so_far_all : (events : List PlainEvent) (k : ℕ) → length events ≤ k → so_far k events ≡ renumbered events
+pub so_far_all : (events : List PlainEvent) (k : ℕ) → length events ≤ k → renumbered_up_to k events ≡ renumbered events
 so_far_all events k h = ap (λ xs. renumbered xs ++ drop k events) (take_all events k h) ∙ ap (λ ys. renumbered events ++ ys) (none_left k events h) ∙ append-nil (renumbered events)
   where
     none_left : (k : ℕ) (xs : List PlainEvent) → length xs ≤ k → drop k xs ≡ []

@@ -116,14 +116,14 @@ module _ {State Why State' Why' : Type 0} (a : Automaton State Why) (b : Automat
   -- ---- outcomes
 
   -- read, to a state that goes with the first's
-  abbrev pub ReadsTwin : State → Outcome State' Why' → Type 0
-  ReadsTwin s o = (t : State') × (o ≡ Reads t) × Ends s t
+  abbrev pub ReadsAlike : State → Outcome State' Why' → Type 0
+  ReadsAlike s o = (t : State') × (o ≡ Reads t) × Ends s t
 
   reads_at : (l : ℕ) (q s : State) (t : State') → AreTwins AtLine q t → ◌≡◌ {A = Outcome State Why} (cond (a.is_expected q) (Misses l) (Reads q)) (Reads s)
-      → ReadsTwin s (cond (b.is_expected t) (Misses l) (Reads t))
+      → ReadsAlike s (cond (b.is_expected t) (Misses l) (Reads t))
   reads_at l q s t h e = go (a.is_expected q) refl e
     where
-      go : (v : Bool) → a.is_expected q ≡ v → ◌≡◌ {A = Outcome State Why} (cond v (Misses l) (Reads q)) (Reads s) → ReadsTwin s (cond (b.is_expected t) (Misses l) (Reads t))
+      go : (v : Bool) → a.is_expected q ≡ v → ◌≡◌ {A = Outcome State Why} (cond v (Misses l) (Reads q)) (Reads s) → ReadsAlike s (cond (b.is_expected t) (Misses l) (Reads t))
       go true d e = absurd cc
       go false d e = (
         t,
@@ -131,14 +131,14 @@ module _ {State Why State' Why' : Type 0} (a : Automaton State Why) (b : Automat
         subst (λ x. Ends x t) (let is : q ≡ s = cc in is) (twin_reads q t h d),
       )
 
-  verdict_reads : (m : Machine State Why) (o : Machine State' Why') (s : State) → IsInStep AreTwins m o → verdict a m ≡ Reads s → ReadsTwin s (verdict b o)
+  verdict_reads : (m : Machine State Why) (o : Machine State' Why') (s : State) → IsInStep AreTwins m o → verdict a m ≡ Reads s → ReadsAlike s (verdict b o)
   verdict_reads (Stopped n why) o s h e = absurd cc
   verdict_reads (At n (InBlock from k bytes) q) o s h e = absurd cc
   verdict_reads (At n (InDelimited from d bytes text) q) o s h e = absurd cc
   verdict_reads (At n Ended q) o s h e = (h.0, ap (verdict b) h.1, subst (λ x. Ends x h.0) (let is : q ≡ s = cc in is) (twin_over q h.0 h.2))
-  verdict_reads (At n (InLine text) q) o s h e = subst (λ p. ReadsTwin s (verdict b p)) (sym h.1) (reads_at n q s h.0 h.2 e)
-  verdict_reads (At n (After inside) q) o s h e = subst (λ p. ReadsTwin s (verdict b p)) (sym h.1) (reads_at (cond inside (n + 1) n) q s h.0 h.2 e)
+  verdict_reads (At n (InLine text) q) o s h e = subst (λ p. ReadsAlike s (verdict b p)) (sym h.1) (reads_at n q s h.0 h.2 e)
+  verdict_reads (At n (After inside) q) o s h e = subst (λ p. ReadsAlike s (verdict b p)) (sym h.1) (reads_at (cond inside (n + 1) n) q s h.0 h.2 e)
 
   -- Where the first reads a text, so does the second.
-  pub reads_alike : (x : Bytes) (s : State) → outcome a all x ≡ Reads s → ReadsTwin s (outcome b all x)
+  pub reads_alike : (x : Bytes) (s : State) → outcome a all x ≡ Reads s → ReadsAlike s (outcome b all x)
   reads_alike x s h = verdict_reads (closed a all (run a all (begun a) x)) (closed b all (run b all (begun b) x)) s (ended_in_step x) h

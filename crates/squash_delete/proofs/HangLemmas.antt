@@ -31,7 +31,7 @@ use Rattle.squash_delete.specs.Backing.{AreCountedTo, own_fault}
 use Rattle.squash_delete.specs.Hangings.{AreHungTo, hung}
 use Rattle.edit_laws.proofs.Limits.{not_many}
 use Rattle.plan_steps.proofs.NodeLemmas.{node_of}
-use Rattle.plan_steps.proofs.WayLemmas.{is_placed, own_commit}
+use Rattle.plan_steps.proofs.WayLemmas.{commit_placed, own_commit}
 
 same_number : (c : ℕ) → (c == c) ≡ true
 same_number c = grind (arith)
@@ -59,7 +59,7 @@ nodes_of_none (Pass id line) none = refl
 same_commit : (events : List PlainEvent) → AreDistinct events → (d place j : ℕ) (e : PlainEvent) (c : ℕ) → place_of (any.Commit d) events ≡ Some place →
     slice_get events j ≡ Some e → commit_id e ≡ Some c → place ≡ j → d ≡ c
 same_commit events once d place j e c there at is same =
-    let x = is_placed events d place there in
+    let x = commit_placed events d place there in
     let one : x.event ≡ e = same_Some x.event e (sym x.at ∙ ap (slice_get events) same ∙ at) in
     same_Some d c (sym x.own ∙ ap commit_id one ∙ is)
 

@@ -3,7 +3,7 @@ use Rattle.std.proofs.lemmas.List.{get_or_read}
 use Rattle.std.specs.Option.{option_or}
 use Rattle.std.specs.Prelude.{option_and_then}
 use Rattle.squash_laws.specs.Takings.{back_of, forward_of, moved}
-use Rattle.plan_steps.proofs.WayLemmas.{is_placed}
+use Rattle.plan_steps.proofs.WayLemmas.{commit_placed}
 use Rattle.plan_steps.proofs.targets.moved.Goals as goal
 
 pub returns-in-Forward : goal.returns-in-Forward
@@ -12,7 +12,7 @@ returns-in-Forward c =
     let set = c.args.removal.now.set in
     let place = c.place-place.result in
     let within = c.place-place.ensures.within in
-    let b = is_placed events c.args.commit place c.place-place.ensures.place in
+    let b = commit_placed events c.args.commit place c.place-place.ensures.place in
     let on : c.index.result.now ≡ forward_of set events c.args.commit =
     get_or_read c.args.leads.now.forward.items place c.index.result.now (let count = c.requires.forward.count in omega arith) c.index.ensures None ∙ c.requires.forward.entry place b.event b.at c.args.commit b.own in
     let down : c.index-in-Forward.result.now ≡ back_of set events c.args.commit =
@@ -26,7 +26,7 @@ returns-in-Back c =
     let set = c.args.removal.now.set in
     let place = c.place-place.result in
     let within = c.place-place.ensures.within in
-    let b = is_placed events c.args.commit place c.place-place.ensures.place in
+    let b = commit_placed events c.args.commit place c.place-place.ensures.place in
     let on : c.index-in-Back-2.result.now ≡ forward_of set events c.args.commit =
     get_or_read c.args.leads.now.forward.items place c.index-in-Back-2.result.now (let count = c.requires.forward.count in omega arith) c.index-in-Back-2.ensures None ∙ c.requires.forward.entry place b.event b.at c.args.commit b.own in
     let down : c.index-in-Back.result.now ≡ back_of set events c.args.commit =

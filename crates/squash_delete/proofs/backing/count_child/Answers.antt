@@ -3,7 +3,7 @@ use Rattle.std.specs.Prelude.{slice_get}
 use Rattle.plain_model.specs.Lookups.{commit_id, event_parents}
 use Rattle.squash_delete.proofs.HangLemmas.{counted_more, counted_same, few_children, no_parents, take_short}
 use Rattle.plan_steps.proofs.NodeLemmas.{earlier_there}
-use Rattle.plan_steps.proofs.WayLemmas.{first_known, is_placed, no_id}
+use Rattle.plan_steps.proofs.WayLemmas.{first_known, commit_placed, no_id}
 use Rattle.squash_delete.proofs.backing.count_child.Goals as goal
 
 pub place-requires : goal.place-requires
@@ -16,7 +16,7 @@ place-requires c =
 pub overflow_add-counts : goal.overflow_add-counts
 overflow_add-counts c =
     let events = c.args.removal.now.events in
-    let b = is_placed events c.in-Some.parent.now c.place.result c.place.ensures.place in
+    let b = commit_placed events c.in-Some.parent.now c.place.result c.place.ensures.place in
     let few = few_children events c.count-count.ensures.sound (take c.args.place events) c.in-Some.parent.now in
     let short = take_short c.args.place events in
     let is = c.requires.counts.entry c.place.result b.event b.at c.in-Some.parent.now b.own in

@@ -10,7 +10,7 @@ use Rattle.squash_laws.specs.Removed.{is_removed}
 use Rattle.squash_delete.specs.Backing.{own_fault}
 use Rattle.squash_delete.proofs.HangLemmas.{is_fork, no_fork}
 use Rattle.plan_steps.proofs.NodeLemmas.{earlier_there}
-use Rattle.plan_steps.proofs.WayLemmas.{first_known, is_placed, removed_at}
+use Rattle.plan_steps.proofs.WayLemmas.{first_known, commit_placed, removed_at}
 use Rattle.squash_delete.proofs.backing.fault_at.Goals as goal
 
 pub place-requires : goal.place-requires
@@ -28,7 +28,7 @@ returns-in-Some c event at =
     let first = ap (λ (ps : List ℕ). slice_get ps 0) (sym c.as_slice.ensures) ∙ sym c.in-Some.ensures.value in
     let gone = sym (removed_at set c.in-Commit.id e c.has_at.result (ap commit_id c.in-Commit.is) (c.has_at.ensures e c.nth.ensures.event)) ∙ c.if-not-has_at.false in
     let same : event ≡ e = same_Some event e (sym at ∙ c.nth.ensures.event) in
-    let b = is_placed events c.in-Some.parent.now c.place.result c.place.ensures.place in
+    let b = commit_placed events c.in-Some.parent.now c.place.result c.place.ensures.place in
     let is : get_or c.args.counts.now c.place.result 0 ≡ first_children events c.in-Some.parent.now = c.requires.counts.entry c.place.result b.event b.at c.in-Some.parent.now b.own ∙ ap (λ (es : List PlainEvent). first_children es c.in-Some.parent.now) (take_all events (length events) (omega arith)) in
     let many = c.if-counts-place-gt1.true in
     sym (ap (own_fault set events) (same ∙ c.in-Commit.is)
@@ -43,7 +43,7 @@ returns-in-Some-2 c event at =
     let first = ap (λ (ps : List ℕ). slice_get ps 0) (sym c.as_slice.ensures) ∙ sym c.in-Some.ensures.value in
     let gone = sym (removed_at set c.in-Commit.id e c.has_at.result (ap commit_id c.in-Commit.is) (c.has_at.ensures e c.nth.ensures.event)) ∙ c.if-not-has_at.false in
     let same : event ≡ e = same_Some event e (sym at ∙ c.nth.ensures.event) in
-    let b = is_placed events c.in-Some.parent.now c.place.result c.place.ensures.place in
+    let b = commit_placed events c.in-Some.parent.now c.place.result c.place.ensures.place in
     let is : get_or c.args.counts.now c.place.result 0 ≡ first_children events c.in-Some.parent.now = c.requires.counts.entry c.place.result b.event b.at c.in-Some.parent.now b.own ∙ ap (λ (es : List PlainEvent). first_children es c.in-Some.parent.now) (take_all events (length events) (omega arith)) in
     let few = c.if-counts-place-gt1.false in
     sym (ap (own_fault set events) (same ∙ c.in-Commit.is)
