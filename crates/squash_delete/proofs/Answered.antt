@@ -1,8 +1,8 @@
 -- What the steps of a squash answer is what is specified.
 use Rattle.std.proofs.Common.{◌≡◌, ◌∙◌, ℕ, zero, Bool, true, false, cond, not, inl, inr, List, [], ◌∷◌, ◌++◌, flat_map, Option, Some, None, Result, Ok, Err, refl, sym, ap, subst, suc, ◌≤◌, ◌<◌, filter, arith, length-append, map, true≢false}
 use Rattle.std.specs.List.{list_any}
-use Rattle.std.specs.Prelude.{is_some, nat_lt, option_and_then, length, slice_get}
-use Rattle.std.proofs.lemmas.Bool.{cases_Bool, or_left, or_right, lt-ltb}
+use Rattle.std.specs.Prelude.{nat_lt, length, slice_get}
+use Rattle.std.proofs.lemmas.Bool.{cases_Bool, or_left, or_right}
 use Rattle.std.proofs.lemmas.Grind.{flat_map-append}
 use Rattle.std.proofs.lemmas.List.Folds.{list_any-append}
 use Rattle.std.proofs.lemmas.Option.{none-some, same_Some}
@@ -35,8 +35,7 @@ use Rattle.edit_laws.specs.Checking.{unless}
 use Rattle.graph_walk.specs.Outcome.{IsCauseOf}
 use Rattle.squash_laws.specs.Squash.{checked_after, fault_before, squash_of, trees_checked}
 use Rattle.squash_laws.specs.Removed.{Takings, is_removed, without_set}
-use Rattle.squash_laws.specs.Takings.{anew, hanging, links, moved, ops_after, squashed, takes}
-use Rattle.plain_model.specs.declared.policy.Lean.{Lean}
+use Rattle.squash_laws.specs.Takings.{anew, hanging, links, ops_after, squashed, takes}
 use Rattle.plain_model.specs.declared.policy.Push.{Push}
 use Rattle.plain_model.specs.declared.policy.Push.TheVariants as push
 use Rattle.plain_model.specs.declared.policy.Policy.{Policy}
@@ -44,16 +43,12 @@ use Rattle.squash_laws.proofs.Squashed.{squash_ends, squash_settles}
 use Rattle.squash_delete.specs.Judged.{IsLeft, IsLeftOf, ParentsAre, judged, limit_passed}
 use Rattle.plan_steps.specs.Leaving.{event_after, goes, staying, with_takings}
 use Rattle.squash_delete.specs.Sources.{count_ops}
-use Rattle.plan_steps.specs.Targets.{AreMoves, lost_target, moving, target_for}
 use Rattle.squash_delete.specs.declared.counting.Left.{Left}
 use Rattle.squash_delete.specs.declared.counting.Left.TheVariants.{All, ManyOperations}
-use Rattle.plan_steps.proofs.Counting.{any_item}
+use Rattle.plan_steps.proofs.Counting.{more_than}
 use Rattle.edit_laws.proofs.Limits.{not_many}
 use Rattle.squash_delete.proofs.JudgedLemmas.{judged_alike}
 use Rattle.plan_steps.proofs.LeavingLemmas.{left_staying}
-use Rattle.plan_steps.proofs.NearLemmas.{lost_is}
-use Rattle.plan_steps.specs.Tables.{IsTableTo}
-use Rattle.plan_steps.proofs.Tables.{table_all}
 
 -- ---- the outcome
 
@@ -197,7 +192,7 @@ keep_names set events par how k (Reset n branch target) id at out listed = absur
 keep_names set events par how k (Pass n line) id at out listed = absurd (true≢false (sym listed))
 
 -- sweeping takes no operation away, nor does a move
-ops_swept : (old whole es : List PlainEvent) → count_ops (filter (λ e. not (is_left_over old whole e)) es) ≡ count_ops es
+pub ops_swept : (old whole es : List PlainEvent) → count_ops (filter (λ e. not (is_left_over old whole e)) es) ≡ count_ops es
 ops_swept old whole [] = refl
 ops_swept old whole (Blob id mark bytes ∷ es) = by (is_left_over old whole (Blob id mark bytes)) (ops_swept old whole es)
   where

@@ -124,7 +124,7 @@ abbrev big : PlainEvent → ℕ
 big e = one_if (list_any is_big (e ∷ []))
 
 -- settling moves no commit away
-big_settled : (es new : List PlainEvent) → settle es ≡ Ok new → list_any is_big new ≡ list_any is_big es
+pub big_settled : (es new : List PlainEvent) → settle es ≡ Ok new → list_any is_big new ≡ list_any is_big es
 big_settled es new is = go (list_any is_big new) (list_any is_big es) refl refl
   where
     join : (xs ys : List PlainEvent) → list_any is_big (xs ++ ys) ≡ list_any is_big xs || list_any is_big ys
@@ -148,7 +148,7 @@ big_settled es new is = go (list_any is_big new) (list_any is_big es) refl refl
         absurd (omega arith)
 
 -- nor does sweeping
-big_swept : (old whole es : List PlainEvent) → list_any is_big (filter (λ e. not (is_left_over old whole e)) es) ≡ list_any is_big es
+pub big_swept : (old whole es : List PlainEvent) → list_any is_big (filter (λ e. not (is_left_over old whole e)) es) ≡ list_any is_big es
 big_swept old whole [] = refl
 big_swept old whole (Blob id mark bytes ∷ es) = by (is_left_over old whole (Blob id mark bytes)) (big_swept old whole es)
   where

@@ -1,9 +1,12 @@
 pub mod Answered
 pub mod ChainLemmas
 pub mod EntryLemmas
+pub mod FateLemmas
+pub mod ForwardLemmas
 pub mod HangLemmas
 pub mod JudgedLemmas
 pub mod MovedPlaces
 pub mod MovingLemmas
 pub mod SettlingLemmas
+pub mod StandingLemmas
 pub mod TakingLemmas

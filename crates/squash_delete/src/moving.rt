@@ -53,8 +53,8 @@ fn set_both(plan: &mut Plan, commit: CommitId, ops: OpList, comment: Text) -> Re
     plan.set_comment(AnyId::Commit(commit), comment)
 }
 
-// Gives a commit other operations and another comment, if it is there.
-fn give(plan: &mut Plan, commit: CommitId, ops: OpList, comment: Text) -> Result<(), NoMemory>
+/// Gives a commit other operations and another comment, if it is there.
+pub fn give(plan: &mut Plan, commit: CommitId, ops: OpList, comment: Text) -> Result<(), NoMemory>
     ensures { OnOk result (plan.new ≡ record plan.old {
       after = changed (Commit commit) (λ event. with_comment comment (with_ops ops event)) plan.old.after;
     }) }
