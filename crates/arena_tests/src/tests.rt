@@ -1,4 +1,5 @@
 ghost use Rattle.std.specs.Prelude.{◌≡◌, ◌≤◌, ◌<◌, ◌^◌, None, IfOk, IsSome, IsTrue, OnOk};
+ghost use Rattle.edit_laws.specs.Passing.{IsWithinLimits};
 ghost use Rattle.event_arena.specs.Changes.{has_label, has_signed};
 ghost use Rattle.plain_model.specs.Lookups.{find_event, id_of};
 ghost use Rattle.plain_model.specs.Soundness.{IsSound};
@@ -13,7 +14,8 @@ use plain_model::{
 };
 use soundness_laws::{what_is_read_is_sound, what_is_read_passes_no_limit};
 use split_reorder::split_at;
-use squash_delete::squash;
+use squash_delete::{push_forward, squash};
+use squash_laws::a_squash_keeps_the_limits;
 use std::alloc::Global;
 use std::test::*;
 use stream_reader::read_stream;
@@ -459,5 +461,90 @@ fn removed_merges_expand(rt: HostRuntime) -> Result<(), Fail> {
         parents.as_slice(),
         [CommitId::new(2), CommitId::new(3)].as_slice()
     );
+    Ok(())
+}
+
+// Pushes a commit forward in a plan.
+fn pushed(alloc: Global, plan: Plan, commit: AnyId) -> Result<Plan, Fail>
+    requires sound { IsSound plan.after }
+    requires limits { IsWithinLimits plan.after }
+{
+    let mut plan = plan;
+    match push_forward(alloc, &mut plan, &[commit], true, Lean::Forward) {
+        Ok(()) => Ok(plan),
+        Err(_) => Err("refused")?,
+    }
+}
+
+// A plan that deletes a commit, and then pushes another one forward.
+fn deleted_and_pushed(
+    alloc: Global,
+    events: &Events,
+    gone: AnyId,
+    commit: AnyId,
+) -> Result<Plan, Fail> {
+    let _count = events.count();
+    a_squash_keeps_the_limits();
+    let mut manifests = Manifests::new(alloc)?;
+    let how = Policy {
+        push: Push::Discard,
+        tags: Lean::Back,
+    };
+    match squash(alloc, events, &mut manifests, &[gone], how) {
+        Ok(plan) => pushed(alloc, plan, commit),
+        Err(_) => Err("refused")?,
+    }
+}
+
+// The number of a commit, its parents, and how many operations it has; what a tag or a reset is on.
+fn put_links(out: &mut Text, event: &PlainEvent) -> Result<(), NoMemory> {
+    match event {
+        PlainEvent::Commit {
+            id,
+            parents,
+            ops,
+            ..
+        } => {
+            out.push(b' ')?;
+            out.push_number(id.number())?;
+            for parent in parents.as_slice() {
+                out.push(b'<')?;
+                out.push_number(parent.number())?;
+            }
+            out.push(b'x')?;
+            out.push_number(ops.as_slice().len() as u64)
+        }
+        PlainEvent::Tag { target, .. } => {
+            put(out, b">")?;
+            out.push_number(target.number())
+        }
+        PlainEvent::Reset {
+            target: Some(target),
+            ..
+        } => {
+            put(out, b">")?;
+            out.push_number(target.number())
+        }
+        _ => Ok(()),
+    }
+}
+
+fn links(alloc: Global, plan: &Plan) -> Result<Text, NoMemory> {
+    let mut out = Items::empty(alloc);
+    for place in 0..plan.count() {
+        put_links(&mut out, plan.nth(place))?;
+    }
+    Ok(out)
+}
+
+// The merge gets the root for its first parent, and both its children take over what that had; the merge begins without
+// files, for it keeps a parent.
+#[test]
+fn a_root_is_pushed_forward_after_a_deletion(rt: HostRuntime) -> Result<(), Fail> {
+    let alloc = rt.alloc();
+    let events = history(alloc, FORK)?;
+    let plan = deleted_and_pushed(alloc, &events, commit_id(3), commit_id(2))?;
+    let want: &[u8] = b" 4x2 5<4x3 >5 >4";
+    assert_eq!(rt; links(alloc, &plan)?.as_slice(), want);
     Ok(())
 }
