@@ -9,7 +9,8 @@ use Rattle.plain_model.specs.declared.fault.Fault.{Fault}
 use Rattle.selection_parser.specs.Plain.{PlainSelection}
 use Rattle.selection_parser.specs.Reading.{IsRightAnswer, selection_at}
 use Rattle.selection_parser.specs.Spelling.{IsSelection, Spells, ends_here}
-use Rattle.script_lines.specs.Words.{after_head, begins_plain, head_of, is_blank, words_from, words_of, without_blanks}
+use Rattle.plain_model.specs.Blanks.{is_blank}
+use Rattle.script_lines.specs.Words.{after_head, begins_plain, head_of, words_from, words_of, without_blanks}
 use Rattle.script_lines.specs.Words.Spot.{Between, InWord, InQuotes, Closed}
 use Rattle.script_lines.specs.Written.{is_whole, written}
 use Rattle.script_lines.specs.declared.word.Word.{Word}

@@ -9,7 +9,9 @@ use crate::form::form;
 use crate::keyword::Keyword;
 use crate::selecting::{WrittenSelection, cut_front, is_superfluous};
 use plain_model::{Fault, Halt, Items, NoMemory, Text};
-use script_lines::{LineList, ScriptText, bad_words, cut_head, is_long, too_long, words_in};
+use script_lines::{
+    LineList, RepoName, ScriptText, bad_words, cut_head, is_long, too_long, words_in,
+};
 use std::alloc::Global;
 
 /// A command as it was read: its words fit, and nothing was looked up yet. (reposurgeon manual, the
@@ -19,7 +21,7 @@ pub enum Command {
     /// Loads the history of a file, as a repository of that name.
     Read {
         file: ScriptText,
-        name: Text,
+        name: RepoName,
     },
     /// Writes the chosen history into a file, or prints it.
     Write {

@@ -36,7 +36,7 @@ use crate::number::{MAX_START, number_between};
 use crate::selecting::WrittenSelection;
 use plain_model::{Halt, Items, MAX_SAMPLE_COMMITS, NoMemory, Text};
 use script_lines::{
-    Direction, ScriptText, Word, at_fault, bad_words, is_given_name, is_repo_name, name_in,
+    Direction, RepoName, ScriptText, Word, at_fault, bad_words, is_given_name, name_in,
     or_at_fault, redirected, repo_name, text_before, texts_in,
 };
 use std::alloc::Global;
@@ -83,14 +83,11 @@ fn read_of(alloc: Global, file: Option<&str>) -> Result<Option<Command>, NoMemor
     let Some(file) = file else {
         return Ok(None);
     };
-    let name = repo_name(file.as_bytes());
-    if !is_repo_name(name) {
+    let Some(name) = RepoName::of(alloc, repo_name(file.as_bytes()))? else {
         return Ok(None);
-    }
-    Ok(Some(Command::Read {
-        file: ScriptText::of(alloc, file)?,
-        name: Items::of(alloc, name)?,
-    }))
+    };
+    let file = ScriptText::of(alloc, file)?;
+    Ok(Some(Command::Read { file, name }))
 }
 
 // `read <FILE`, of the one word
