@@ -1,21 +1,14 @@
 -- What is kept by one command after another.
-use Rattle.std.proofs.Common.{◌≡◌, List, [], ◌∷◌, map, refl, sym, ap, ◌∙◌}
-use Rattle.std.specs.Prelude.{◌||◌}
-use Rattle.plain_model.specs.declared.event.PlainEvent.{PlainEvent}
+use Rattle.std.proofs.Common.{◌≡◌, List, [], ◌∷◌, map, sym, ap, ◌∙◌}
 use Rattle.plain_model.specs.declared.id.AnyId.{AnyId}
 use Rattle.plain_model.specs.declared.id.AnyId.TheVariants as any
-use Rattle.plain_model.specs.Lookups.{id_of, is_listed, same_id}
+use Rattle.plain_model.specs.Lookups.{is_listed}
 use Rattle.plain_model.specs.Soundness.{has_id}
-use Rattle.history_laws.proofs.Ids.{has_id_cons}
-use Rattle.history_machine.specs.Kept.{Each, KeepsEveryTree, KeepsTrees, KeepsTreesOfRest}
+use Rattle.selection_eval.proofs.SoundLaws.{has_listed}
+use Rattle.history_machine.specs.Kept.{Each, KeepsEveryTree, KeepsIdsAndTrees, KeepsTreesOfRest}
 use Rattle.history_machine.specs.Sessions.{Repo}
 
--- an event is there where its id is listed
-has_listed : (events : List PlainEvent) (id : AnyId) → has_id events id ≡ is_listed id (map id_of events)
-has_listed [] id = refl
-has_listed (e ∷ events) id = has_id_cons e events id ∙ ap (λ b. same_id id (id_of e) || b) (has_listed events id)
-
-pub every_of_all : (old new : Repo) → KeepsTrees old new → KeepsEveryTree old new
+pub every_of_all : (old new : Repo) → KeepsIdsAndTrees old new → KeepsEveryTree old new
 every_of_all old new k = record {
   rest = record {
     name = k.name;

@@ -63,7 +63,7 @@ pub record Splits (number : ℕ) (ids : Ids) (old : Repo) (made : Remade) : Type
   pub only : ids ≡ any.Commit commit ∷ []
   pub next : made.next ≡ old.next + 1
   pub halves : IsInHalves commit old.next number old.history made.history
-  pub trees : SplitTrees.KeepsTrees commit old.next old.history made.history
+  pub trees : SplitTrees.KeepsOtherTrees commit old.next old.history made.history
 
 -- the same from the first operation on that touches the path which a word says
 pub record SplitsBy (text : Bytes) (ids : Ids) (old : Repo) (made : Remade) : Type 0 where
@@ -106,7 +106,7 @@ pub record Reparents (use_order rebase : Bool) (set : Ids) (old : Repo) (made : 
   pub others : List ℕ
   pub last : ℕ
   pub are : ordered use_order set old.history ≡ others ++ last ∷ []
-  pub events : AllByRecursion (Remaining.IsOneOf last (reparents rebase old.history others) old.history) made.history
+  pub events : AllByRecursion (Remaining.IsRewritten last (reparents rebase old.history others) old.history) made.history
 
 -- The same events are there. Of two commits the one that is later in the list has the other as a parent too. All else of each event is as
 -- it was.
@@ -116,7 +116,7 @@ pub record Merges (set : Ids) (old : Repo) (made : Remade) : Type 0 where
   pub low : ℕ
   pub high : ℕ
   pub are : ordered false set old.history ≡ low ∷ high ∷ []
-  pub events : AllByRecursion (Remaining.IsOneOf high (merges low) old.history) made.history
+  pub events : AllByRecursion (Remaining.IsRewritten high (merges low) old.history) made.history
 
 -- The same events are there. The one event is a commit, which keeps its first parent alone. All else of each event is as it was.
 pub record Unmerges (set : Ids) (old : Repo) (made : Remade) : Type 0 where
@@ -124,7 +124,7 @@ pub record Unmerges (set : Ids) (old : Repo) (made : Remade) : Type 0 where
   pub ids : (id : AnyId) → has_id made.history id ≡ has_id old.history id
   pub commit : ℕ
   pub only : set ≡ any.Commit commit ∷ []
-  pub events : AllByRecursion (Remaining.IsOneOf commit unmerges old.history) made.history
+  pub events : AllByRecursion (Remaining.IsRewritten commit unmerges old.history) made.history
 
 -- ---- operations on other parents
 
@@ -160,7 +160,7 @@ pub record Adds (spelled : RawOp) (set : Ids) (old : Repo) (made : Remade) : Typ
   pub op : FileOp
   pub only : set ≡ any.Commit commit ∷ []
   pub said : op_of old.history spelled ≡ Ok op
-  pub events : AllByRecursion (Remaining.IsOneOf commit (adds op) old.history) made.history
+  pub events : AllByRecursion (Remaining.IsRewritten commit (adds op) old.history) made.history
   pub trees : AreReplayed made.history
 
 -- The one event is a commit, which has lost such operations, and all else is as it was, but that blobs are gone which these alone named.
@@ -171,7 +171,7 @@ pub record Removes (what : Removal) (set : Ids) (old : Repo) (made : Remade) : T
       ≡ has_id old.history (any.Blob b) && not (is_named old.history b && not (is_named made.history b))
   pub commit : ℕ
   pub only : set ≡ any.Commit commit ∷ []
-  pub events : AllByRecursion (Remaining.IsOneOf commit (removes what) old.history) made.history
+  pub events : AllByRecursion (Remaining.IsRewritten commit (removes what) old.history) made.history
   pub trees : AreReplayed made.history
 
 -- the same of the operations at the path that a word says

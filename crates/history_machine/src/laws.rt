@@ -39,7 +39,7 @@ ghost use Rattle.history_machine.specs.Kept.{
   Each,
   KeepsEveryTree,
   KeepsHistory,
-  KeepsTrees,
+  KeepsIdsAndTrees,
   KeepsTreesOfRest,
   LosesPaths,
 };
@@ -118,7 +118,7 @@ pub fn a_write_sends_the_stream()
 /// its tree.
 pub fn a_renumber_keeps_trees()
     ensures { (denial : Option Denial) (s : Session) (files : Files) (t : Effect Session) →
-        step denial s files command.Renumber ≡ Ok t → Each KeepsTrees s.repos t.session.repos }
+        step denial s files command.Renumber ≡ Ok t → Each KeepsIdsAndTrees s.repos t.session.repos }
 {
     ids_stay();
     renumbering_keeps_trees();
@@ -300,7 +300,7 @@ pub fn an_expunge_takes_paths_out_of_trees()
 /// Where each repository keeps the trees of its events it keeps every commit with its tree, and then the trees of what is still
 /// there; and what several commands in turn keep of these, all of them together keep.
 pub fn what_is_kept_composes()
-    ensures all { (old new : List Repo) → Each KeepsTrees old new → Each KeepsEveryTree old new }
+    ensures all { (old new : List Repo) → Each KeepsIdsAndTrees old new → Each KeepsEveryTree old new }
     ensures rest { (old new : List Repo) → Each KeepsEveryTree old new → Each KeepsTreesOfRest old new }
     ensures every_in_turn { (first second third : List Repo) → Each KeepsEveryTree first second →
         Each KeepsEveryTree second third → Each KeepsEveryTree first third }
