@@ -176,3 +176,27 @@ module _ (set : List AnyId) (takes : Takings) (stays : (c : ℕ) → is_removed 
           ap (λ b. is_some (cond b (Some target) None) && not (is_some entry)) kept ∙ sym (ap (λ o. not (is_some o)) (stays target kept))
   lost_goes (Reset id branch None) entry out is = sym out
   lost_goes (Pass id line) entry out is = sym out
+
+-- ---- where a tag or a reset goes
+
+-- one on a removed commit
+pub goes_on : (set : List AnyId) (goes_to : ℕ → Option ℕ) (e : PlainEvent) (c : ℕ) → lost_target set e ≡ Some c → target_for goes_to e ≡ goes_to c
+goes_on set goes_to e c lost = on e (lost_is set c e lost).0
+  where
+    on : (e : PlainEvent) → target_for Some e ≡ Some c → target_for goes_to e ≡ goes_to c
+    on (Tag id name target tagger comment mark) is = ap goes_to (same_Some target c is)
+    on (Reset id branch (Some target)) is = ap goes_to (same_Some target c is)
+    on (Reset id branch None) is = absurd (none-some c is)
+    on (Blob id mark bytes) is = absurd (none-some c is)
+    on (Commit id mark branch author committer encoding comment parents ops aliases) is = absurd (none-some c is)
+    on (Pass id line) is = absurd (none-some c is)
+
+-- and any other, where those on commits that stay stay
+pub stays_on : (set : List AnyId) (goes_to : ℕ → Option ℕ) → ((c : ℕ) → is_removed set c ≡ false → goes_to c ≡ Some c) → (e : PlainEvent) → lost_target set e ≡ None →
+    target_for goes_to e ≡ target_for Some e
+stays_on set goes_to stays (Tag id name target tagger comment mark) none = stays target (kept_on set target (Tag id name target tagger comment mark) none refl)
+stays_on set goes_to stays (Reset id branch (Some target)) none = stays target (kept_on set target (Reset id branch (Some target)) none refl)
+stays_on set goes_to stays (Reset id branch None) none = refl
+stays_on set goes_to stays (Blob id mark bytes) none = refl
+stays_on set goes_to stays (Commit id mark branch author committer encoding comment parents ops aliases) none = refl
+stays_on set goes_to stays (Pass id line) none = refl

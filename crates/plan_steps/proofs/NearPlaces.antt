@@ -17,7 +17,7 @@ use Rattle.plan_steps.proofs.Counting.{none_item}
 use Rattle.squash_laws.specs.Removed.{Takings}
 use Rattle.plan_steps.specs.Flags.{FlagsAll, FlagsNamed}
 use Rattle.plan_steps.specs.Leaving.{goes}
-use Rattle.plan_steps.specs.Near.{AreNear, ArePlacesNear, ArePlacesOf, AreRising, IsOneOf, NoneNear, is_near}
+use Rattle.plan_steps.specs.Near.{AreNear, ArePlacesNear, ArePlacesOf, AreRising, IsPlaceOf, NoneNear, is_near}
 use Rattle.plan_steps.specs.Targets.{AreMoves, lost_target}
 use Rattle.plan_steps.proofs.NearLemmas.{apart_stays, is_apart}
 use Rattle.plan_steps.proofs.SweepLemmas.{filter_out, filtered_same, passing_item}
@@ -51,7 +51,7 @@ flag_within (b ∷ flags) (suc k) on = let rest = flag_within flags k on in omeg
 pub record ArePlacesTo (to : ℕ) (flags : List Bool) (places : List ℕ) : Type 0 where
   pub rising : AreRising places
   pub flagged : (i : ℕ) → i < length places → (get_or places i 0 < to) × (get_or flags (get_or places i 0) false ≡ true)
-  pub all : (k : ℕ) → k < to → get_or flags k false ≡ true → IsOneOf places k
+  pub all : (k : ℕ) → k < to → get_or flags k false ≡ true → IsPlaceOf places k
 
 pub places_none : (flags : List Bool) → ArePlacesTo 0 flags []
 places_none flags = record {
@@ -119,7 +119,7 @@ places_more to flags places on p = record {
         let under = f.0 in
         (omega arith, subst (λ x. get_or flags x false ≡ true) (sym a) f.1)
 
-    all : (k : ℕ) → k < suc to → get_or flags k false ≡ true → (k ≡ to) ⊎ (k ≡ to → ⊥) → IsOneOf (places ++ to ∷ []) k
+    all : (k : ℕ) → k < suc to → get_or flags k false ≡ true → (k ≡ to) ⊎ (k ≡ to → ⊥) → IsPlaceOf (places ++ to ∷ []) k
     all k low is_on (inl is) = let long = whole in (length places, omega arith, last (length places) refl ∙ sym is)
     all k low is_on (inr other) =
         let f = p.all k (omega arith) is_on in

@@ -29,20 +29,20 @@ abbrev pub AreRising : List ℕ → Type 0
 AreRising places = (i j : ℕ) → i < j → j < length places → slice_index_or places i 0 < slice_index_or places j 0
 
 -- the place is one of them
-abbrev pub IsOneOf : List ℕ → ℕ → Type 0
-IsOneOf places k = (i : ℕ) × (i < length places) × (slice_index_or places i 0 ≡ k)
+abbrev pub IsPlaceOf : List ℕ → ℕ → Type 0
+IsPlaceOf places k = (i : ℕ) × (i < length places) × (slice_index_or places i 0 ≡ k)
 
 -- they are those that have a flag, in order
 pub record ArePlacesOf (flags : List Bool) (places : List ℕ) : Type 0 where
   pub rising : AreRising places
   pub flagged : (i : ℕ) → i < length places → slice_index_or flags (slice_index_or places i 0) false ≡ true
-  pub all : (k : ℕ) → slice_index_or flags k false ≡ true → IsOneOf places k
+  pub all : (k : ℕ) → slice_index_or flags k false ≡ true → IsPlaceOf places k
 
 -- places of a history in order, at which all near events are
 pub record ArePlacesNear (set : List AnyId) (events : List PlainEvent) (places : List ℕ) : Type 0 where
   pub rising : AreRising places
   pub within : (i : ℕ) → i < length places → slice_index_or places i 0 < length events
-  pub apart : (k : ℕ) (e : PlainEvent) → slice_get events k ≡ Some e → ¬ IsOneOf places k → is_near set e ≡ false
+  pub apart : (k : ℕ) (e : PlainEvent) → slice_get events k ≡ Some e → ¬ IsPlaceOf places k → is_near set e ≡ false
 
 -- places that are known, if they are
 abbrev pub places_in : {A : Type 0} → Option (Vec ℕ A) → Option (List ℕ)

@@ -29,6 +29,7 @@ use Rattle.commit_laws.proofs.Given.{IsGiven, IsHere, all_given, here_parents, p
 use Rattle.commit_laws.proofs.Selections.{chosen_here}
 use Rattle.reorder_laws.specs.InOrder.{IsOneInOrder}
 use Rattle.reorder_laws.specs.Reorder.{filled, instead, last_of, line_fault, lined_up, parents_after, relinked, relinked_all}
+use Rattle.reorder_laws.proofs.InOrder.{IsAfter}
 use Rattle.reorder_laws.proofs.Line.{IsApart, distinct_instead, each_in, given_is, in_ws, line_here, node_is, not_given, not_new, number, number_given, number_other, outside}
 use Rattle.reorder_laws.proofs.Places.{filled_all, filled_same, filled_there}
 
@@ -312,5 +313,5 @@ module _ (set : List AnyId) (events : List PlainEvent) (h : IsSound events) (sel
   -- each event is as it was, but for the parents of a commit
   pub left_in_order : AllByRecursion (IsOneInOrder v vs w ws events) left
   left_in_order =
-      left_all IsFound (IsOneInOrder v vs w ws events) (λ e f. (e, ap (λ id. find_event id events) (same_id_of e) ∙ f, refl))
+      left_all IsFound (IsOneInOrder v vs w ws events) (λ e f. (e, ap (λ id. find_event id events) (relinked_id given old new e) ∙ f, refl))
       (each_found events (sound_once events h).ids)

@@ -22,7 +22,7 @@ use Rattle.edit_laws.proofs.Lists.{own_id}
 use Rattle.edit_laws.proofs.Tallies.{aliases_counted, counted, mapped_no_greater, none_new, one, ops_counted, own_aliases, own_ops}
 use Rattle.commit_laws.specs.Rewriting.{Rewrite, rewritten, rewritten_all}
 use Rattle.commit_laws.proofs.Rewritten.{all_new}
-use Rattle.reparent_laws.specs.Remaining.{IsOneOf}
+use Rattle.reparent_laws.specs.Remaining.{IsRewritten}
 
 -- ---- one commit
 
@@ -45,9 +45,9 @@ module _ (c : ℕ) (how : Rewrite) where
   rewritten_id : (e : PlainEvent) → id_of (rewritten c how e) ≡ id_of e
   rewritten_id = alike id_of (λ id mark branch author committer encoding comment parents others ops more aliases. refl)
 
-  pub one_of_all : (events : List PlainEvent) → IsSound events → AllByRecursion (IsOneOf c how events) (rewritten_all c how events)
+  pub one_of_all : (events : List PlainEvent) → IsSound events → AllByRecursion (IsRewritten c how events) (rewritten_all c how events)
   one_of_all events h =
-      all_new c how (λ e. find_event (id_of e) events ≡ Some e) (IsOneOf c how events)
+      all_new c how (λ e. find_event (id_of e) events ≡ Some e) (IsRewritten c how events)
       (λ e f. (e, ap (λ id. find_event id events) (rewritten_id e) ∙ f, refl))
       events (each_found events (sound_once events h).ids)
 

@@ -33,7 +33,7 @@ use Rattle.commit_laws.proofs.Given.{IsHere, all_take}
 use Rattle.commit_laws.proofs.Rewritten.{MayHave, all_fit, bytes_new, few_new, ids_same, in_order, lawful_all, once_same, spelled_all}
 use Rattle.commit_laws.proofs.Selections.{listed_distinct, listed_here, low_before}
 use Rattle.reparent_laws.specs.Merge.{merge_of, merge_these, merges, ops_with_parent, unmerge_of, unmerges, with_parent}
-use Rattle.reparent_laws.specs.Remaining.{IsOneOf}
+use Rattle.reparent_laws.specs.Remaining.{IsRewritten}
 use Rattle.reparent_laws.proofs.Changed.{adds_nothing, one_of_all, still_within}
 use Rattle.reparent_laws.proofs.Checked.{no_fault}
 
@@ -206,8 +206,8 @@ module _ (set : List AnyId) (events new : List PlainEvent) where
       let highs : high ≡ m.high = cc in
       (λ i. rewritten_all (highs i) (merges (lows i)) events) ∙ m.is
 
-  pub merge_changes_one : IsSound events → (low high : ℕ) → listed set events ≡ low ∷ high ∷ [] → merge_of set events ≡ Ok new → AllByRecursion (IsOneOf high (merges low) events) new
-  merge_changes_one h low high two d = subst (AllByRecursion (IsOneOf high (merges low) events)) (merge_is low high two d) (one_of_all high (merges low) events h)
+  pub merge_changes_one : IsSound events → (low high : ℕ) → listed set events ≡ low ∷ high ∷ [] → merge_of set events ≡ Ok new → AllByRecursion (IsRewritten high (merges low) events) new
+  merge_changes_one h low high two d = subst (AllByRecursion (IsRewritten high (merges low) events)) (merge_is low high two d) (one_of_all high (merges low) events h)
 
 -- ---- unmerge: the first parent alone
 
@@ -270,5 +270,5 @@ module _ (set : List AnyId) (events new : List PlainEvent) where
       subst IsWithinLimits u.1
       (still_within u.0 unmerges events (rewritten_all u.0 unmerges events) (λ f. omega arith) (λ parents ops. omega arith) (alone_parents u.0 events h) within)
 
-pub unmerge_changes_one : (c : ℕ) (events new : List PlainEvent) → IsSound events → unmerge_of (any.Commit c ∷ []) events ≡ Ok new → AllByRecursion (IsOneOf c unmerges events) new
-unmerge_changes_one c events new h d = let is : rewritten_all c unmerges events ≡ new = cc in subst (AllByRecursion (IsOneOf c unmerges events)) is (one_of_all c unmerges events h)
+pub unmerge_changes_one : (c : ℕ) (events new : List PlainEvent) → IsSound events → unmerge_of (any.Commit c ∷ []) events ≡ Ok new → AllByRecursion (IsRewritten c unmerges events) new
+unmerge_changes_one c events new h d = let is : rewritten_all c unmerges events ≡ new = cc in subst (AllByRecursion (IsRewritten c unmerges events)) is (one_of_all c unmerges events h)

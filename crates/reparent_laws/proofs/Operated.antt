@@ -47,7 +47,7 @@ use Rattle.commit_laws.proofs.Given.{IsGiven, all_drop, all_given, all_take, ran
 use Rattle.commit_laws.proofs.Rewritten.{all_new, can_settle, few_new, ids_same, in_order, lawful_all, once_same, spelled_all}
 use Rattle.reparent_laws.specs.Faults.{any_fault, tree_fault, unless_fault}
 use Rattle.reparent_laws.specs.Operations.{add_of, add_to, adds, as_blob, content_of, op_of, ops_without, removal_fault, remove_of, removed, removes}
-use Rattle.reparent_laws.specs.Remaining.{IsOneOf}
+use Rattle.reparent_laws.specs.Remaining.{IsRewritten}
 use Rattle.reparent_laws.specs.declared.removal.Removal.{Removal}
 use Rattle.reparent_laws.specs.declared.removal.Removal.TheVariants.{Index, At}
 use Rattle.reparent_laws.proofs.Changed.{adds_nothing, one_of_all, still_within}
@@ -181,11 +181,11 @@ module _ (spelled : RawOp) (set : List AnyId) (events new : List PlainEvent) (h 
   add_fits = let parts = in_parts new add_sound in trees_fit new parts.once parts.in_order
 
 pub add_changes_one : (spelled : RawOp) (op : FileOp) (c : ℕ) (events new : List PlainEvent) → IsSound events → HasItsContent spelled → OpFits spelled → op_of events spelled ≡ Ok op → add_of spelled (any.Commit c ∷ []) events ≡ Ok new →
-    AllByRecursion (IsOneOf c (adds op) events) new
+    AllByRecursion (IsRewritten c (adds op) events) new
 add_changes_one spelled op c events new h its fits is d =
     let fine = fine_op events spelled op its fits is in
     let a = add_done events h c op fine new (sym (ap (λ (r : Result FileOp Fault). elim r as (λ x. Result (List PlainEvent) Fault) [ Ok op ↦ add_to events c op | Err why ↦ Err why ]) is) ∙ d) in
-    settled_all (IsOneOf c (adds op) events) (left events h c op fine) new (one_of_all c (adds op) events h) a.is
+    settled_all (IsRewritten c (adds op) events) (left events h c op fine) new (one_of_all c (adds op) events h) a.is
 
 pub add_ends : (spelled : RawOp) (op : FileOp) (events : List PlainEvent) (c : ℕ) → IsSound events → HasItsContent spelled → OpFits spelled → op_of events spelled ≡ Ok op → is_ok (settle (rewritten_all c (adds op) events)) ≡ true
 add_ends spelled op events c h its fits is =
@@ -322,8 +322,8 @@ module _ (what : Removal) (c : ℕ) (events new : List PlainEvent) (h : IsSound 
       go None d = subst P (no_fault (tree_fault (removed events c what)) (removed events c what) new d).1 f
       go (Some why) d = absurd cc
 
-  pub remove_changes_one : AllByRecursion (IsOneOf c (removes what) events) new
-  remove_changes_one = of_its (AllByRecursion (IsOneOf c (removes what) events)) (all_filter (IsOneOf c (removes what) events) (kept events h c what) (fewer events h c what) (one_of_all c (removes what) events h))
+  pub remove_changes_one : AllByRecursion (IsRewritten c (removes what) events) new
+  remove_changes_one = of_its (AllByRecursion (IsRewritten c (removes what) events)) (all_filter (IsRewritten c (removes what) events) (kept events h c what) (fewer events h c what) (one_of_all c (removes what) events h))
 
   pub remove_others : AllByRecursion (λ n. IsFalse (n.id == c) → HasOperationsOf events n) (nodes new)
   remove_others =

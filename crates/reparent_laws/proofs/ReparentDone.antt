@@ -30,7 +30,7 @@ use Rattle.commit_laws.proofs.Given.{IsHere}
 use Rattle.commit_laws.proofs.Rewritten.{ops_all}
 use Rattle.commit_laws.proofs.Selections.{chosen_distinct, chosen_here, listed_distinct, listed_here}
 use Rattle.reparent_laws.specs.Faults.{tree_fault, unless_fault}
-use Rattle.reparent_laws.specs.Remaining.{IsOneOf}
+use Rattle.reparent_laws.specs.Remaining.{IsRewritten}
 use Rattle.reparent_laws.specs.Reparent.{descendant, fault_after, ordered, reparent_commit, reparent_last, reparent_of, reparented, reparents}
 use Rattle.reparent_laws.proofs.Checked.{no_fault, trees_checked}
 use Rattle.reparent_laws.proofs.Reparented.{changes_one, kept_trees, left, left_ends, left_settles, no_event_more, same_bytes, same_ids}
@@ -134,7 +134,7 @@ module _ (rebase : Bool) (events : List PlainEvent) (h : IsSound events) (c : �
               (settled_all (OfNodes (HasOperationsOf events)) (left true events h c new there here_new distinct_new) after (ops_all c (reparents true events new) (λ parents ops. refl) events h) is)
           go false e is = absurd cc
 
-      its_change : AllByRecursion (IsOneOf c (reparents rebase events new) events) after
+      its_change : AllByRecursion (IsRewritten c (reparents rebase events new) events) after
       its_change = changes_one rebase events h c new there here_new distinct_new after done.is
 
       its_events : AddsNothing events after
@@ -190,7 +190,7 @@ module _ (use_order rebase : Bool) (set : List AnyId) (events after : List Plain
   pub done_last : (others : List ℕ) × (c : ℕ) × (ordered use_order set events ≡ others ++ c ∷ [])
   done_last = of_last ((others : List ℕ) × (c : ℕ) × (ordered use_order set events ≡ others ++ c ∷ [])) (λ new c is x. (new, c, is))
 
-  pub done_changes_one : (others : List ℕ) (c : ℕ) → ordered use_order set events ≡ others ++ c ∷ [] → AllByRecursion (IsOneOf c (reparents rebase events others) events) after
+  pub done_changes_one : (others : List ℕ) (c : ℕ) → ordered use_order set events ≡ others ++ c ∷ [] → AllByRecursion (IsRewritten c (reparents rebase events others) events) after
   done_changes_one others c is =
       let x = sym (last_is rebase events others c) ∙ sym (ap (reparent_last rebase events) is) ∙ of_commits in
       its_change rebase events h c others after (here_c others c is) (here_new others c is) (distinct_new others c is) (done_of others c is x)

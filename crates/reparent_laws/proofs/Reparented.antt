@@ -28,7 +28,7 @@ use Rattle.edit_laws.specs.Puts.{puts_of}
 use Rattle.commit_laws.specs.Rewriting.{rewritten_all}
 use Rattle.commit_laws.proofs.Given.{IsHere, rank}
 use Rattle.commit_laws.proofs.Rewritten.{MayHave, all_fit, bytes_new, can_settle, ids_same}
-use Rattle.reparent_laws.specs.Remaining.{IsOneOf}
+use Rattle.reparent_laws.specs.Remaining.{IsRewritten}
 use Rattle.reparent_laws.specs.Reparent.{descendant, have_same_first, ops_onto, reparents}
 use Rattle.reparent_laws.specs.WrittenOut.{begun_tree, written_out}
 use Rattle.reparent_laws.proofs.Changed.{adds_nothing, one_of_all}
@@ -214,8 +214,8 @@ module _ (rebase : Bool) (events : List PlainEvent) (h : IsSound events) (c : â„
     pub same_bytes : AllByRecursion (HasBytesOf events) after
     same_bytes = settled_all (HasBytesOf events) left after (bytes_new c (reparents rebase events new) events h) is
 
-    pub changes_one : AllByRecursion (IsOneOf c (reparents rebase events new) events) after
-    changes_one = settled_all (IsOneOf c (reparents rebase events new) events) left after (one_of_all c (reparents rebase events new) events h) is
+    pub changes_one : AllByRecursion (IsRewritten c (reparents rebase events new) events) after
+    changes_one = settled_all (IsRewritten c (reparents rebase events new) events) left after (one_of_all c (reparents rebase events new) events h) is
 
     pub no_event_more : AddsNothing events after
     no_event_more = adds_nothing c (reparents rebase events new) events after (Î» f. let same = settled_sums left after is f in omega arith)

@@ -5,5 +5,5 @@ use Rattle.plain_model.specs.Lookups.{find_event, id_of}
 use Rattle.commit_laws.specs.Rewriting.{Rewrite, rewritten}
 
 -- the history had the event, which is as it was, but for the new parents and operations of the one commit
-abbrev pub IsOneOf : ℕ → Rewrite → List PlainEvent → PlainEvent → Type 0
-IsOneOf c how events e = (old : PlainEvent) × (find_event (id_of e) events ≡ Some old) × (rewritten c how old ≡ e)
+abbrev pub IsRewritten : ℕ → Rewrite → List PlainEvent → PlainEvent → Type 0
+IsRewritten c how events e = (old : PlainEvent) × (find_event (id_of e) events ≡ Some old) × (rewritten c how old ≡ e)

@@ -50,7 +50,7 @@ ghost use Rattle.edit_laws.specs.Puts.{puts_of};
 ghost use Rattle.reparent_laws.specs.declared.removal.Removal.{Removal};
 ghost use Rattle.reparent_laws.specs.Merge.{merge_of, merges, unmerge_of, unmerges};
 ghost use Rattle.reparent_laws.specs.Operations.{add_of, adds, op_of, remove_of, removes};
-ghost use Rattle.reparent_laws.specs.Remaining.{IsOneOf};
+ghost use Rattle.reparent_laws.specs.Remaining.{IsRewritten};
 ghost use Rattle.reparent_laws.specs.Reparent.{descendant, ordered, reparent_of, reparented, reparents};
 
 /// A new parent is refused where a path of parents leads from it to the commit that is changed, and nowhere else.
@@ -166,20 +166,20 @@ pub fn one_commit_is_changed()
         (others : List ℕ) (c : ℕ) → IsSound events → IsSelection events set →
         reparent_of use_order rebase set events ≡ Ok new →
         ordered use_order set events ≡ others ++ c ∷ [] →
-        AllByRecursion (IsOneOf c (reparents rebase events others) events) new }
+        AllByRecursion (IsRewritten c (reparents rebase events others) events) new }
     ensures merge { (set : List AnyId) (events new : List PlainEvent) (low high : ℕ) →
         IsSound events → merge_of set events ≡ Ok new → listed set events ≡ low ∷ high ∷ [] →
-        AllByRecursion (IsOneOf high (merges low) events) new }
+        AllByRecursion (IsRewritten high (merges low) events) new }
     ensures unmerge { (c : ℕ) (events new : List PlainEvent) → IsSound events →
         unmerge_of (any.Commit c ∷ []) events ≡ Ok new →
-        AllByRecursion (IsOneOf c unmerges events) new }
+        AllByRecursion (IsRewritten c unmerges events) new }
     ensures add { (spelled : RawOp) (op : FileOp) (c : ℕ) (events new : List PlainEvent) →
         IsSound events → HasItsContent spelled → OpFits spelled → op_of events spelled ≡ Ok op →
         add_of spelled (any.Commit c ∷ []) events ≡ Ok new →
-        AllByRecursion (IsOneOf c (adds op) events) new }
+        AllByRecursion (IsRewritten c (adds op) events) new }
     ensures remove { (what : Removal) (c : ℕ) (events new : List PlainEvent) → IsSound events →
         remove_of what (any.Commit c ∷ []) events ≡ Ok new →
-        AllByRecursion (IsOneOf c (removes what) events) new }
+        AllByRecursion (IsRewritten c (removes what) events) new }
 {}
 
 /// A sound history stays sound. An operation that is added has fields as they are spelled, and a link to another

@@ -10,5 +10,5 @@ mod NameSteps
 mod OnceLaws
 mod OnceParts
 mod PathMarks
-mod SoundLaws
+pub mod SoundLaws
 mod TipSteps

@@ -29,7 +29,7 @@ use Rattle.selection_eval.proofs.OnceParts.{or_second}
 or_same : (a b c d : Bool) → a ≡ b → c ≡ d → (a || c) ≡ (b || d)
 or_same a b c d e f = rw (e, f) refl
 
-has_listed : (events : List PlainEvent) (id : AnyId) → has_id events id ≡ is_listed id (map id_of events)
+pub has_listed : (events : List PlainEvent) (id : AnyId) → has_id events id ≡ is_listed id (map id_of events)
 has_listed [] id = refl
 has_listed (Blob id mark bytes ∷ events) (any.Blob b) = or_same (id == b) (b == id) _ _ (eqb_turned id b) (has_listed events (any.Blob b))
 has_listed (Commit id mark branch author committer encoding comment parents ops aliases ∷ events) (any.Commit b) = or_same (id == b) (b == id) _ _ (eqb_turned id b) (has_listed events (any.Commit b))

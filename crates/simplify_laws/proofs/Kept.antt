@@ -32,7 +32,7 @@ use Rattle.edit_laws.proofs.Shown.{has_own_bytes, shown_alike}
 use Rattle.edit_laws.proofs.Sound.{in_parts}
 use Rattle.edit_laws.proofs.Swept.{swept_itself, swept_others}
 use Rattle.edit_laws.proofs.Tallies.{aliases_counted, counted, mapped_no_greater, none_new, one, ops_counted, own_aliases, own_ops}
-use Rattle.simplify_laws.specs.Remaining.{IsOneOf}
+use Rattle.simplify_laws.specs.Remaining.{IsSimplified}
 use Rattle.simplify_laws.specs.Simplify.{is_void, ops_left, simpler, simplified, simplified_event, simplify_of}
 use Rattle.simplify_laws.proofs.Again.{simpler_again}
 use Rattle.simplify_laws.proofs.Simplified.{all_simple, done, few, ids_same, new_sound, new_trees, one_same, same_id_of}
@@ -145,10 +145,10 @@ module _ (set : List AnyId) where
         shown = λ c there. shown_alike events new same_bytes (sound_settles new (new_sound set events h d)).complete c c (new_trees set events h d c there);
       }
 
-      one_of_all : AllByRecursion (IsOneOf set events) new
+      one_of_all : AllByRecursion (IsSimplified set events) new
       one_of_all =
-          all_filter (IsOneOf set events) kept (map simple events)
-          (all_simple set (λ e. find_event (id_of e) events ≡ Some e) (IsOneOf set events)
+          all_filter (IsSimplified set events) kept (map simple events)
+          (all_simple set (λ e. find_event (id_of e) events ≡ Some e) (IsSimplified set events)
           (λ e f. (e, ap (λ id. find_event id events) (same_id_of set e) ∙ f, refl)) events (each_found events (sound_once events h).ids))
 
     -- ---- once more
@@ -202,8 +202,8 @@ module _ (set : List AnyId) where
         (swept_blob events (map simple events) b
         ∙ ap (λ t. t && not (is_named events b && not (is_named (simplified set events) b))) (ids_same set events (any.Blob b)))
 
-    pub result_one_of : IsSound events → AllByRecursion (IsOneOf set events) result
-    result_one_of h = of_it (AllByRecursion (IsOneOf set events)) (one_of_all events h)
+    pub result_one_of : IsSound events → AllByRecursion (IsSimplified set events) result
+    result_one_of h = of_it (AllByRecursion (IsSimplified set events)) (one_of_all events h)
 
     pub result_again : simplify_of set result ≡ Ok result
     result_again =

@@ -13,5 +13,5 @@ CanBeCarriedOut set events n =
     IsSome (folded (ops_left (is_listed (any.Commit n.id) set) n.ops) (begun (tree events) n.parents))
 
 -- the history had the event, which is as it was, but for the operations of a selected commit, which are simpler
-abbrev pub IsOneOf : List AnyId → List PlainEvent → PlainEvent → Type 0
-IsOneOf set events e = (old : PlainEvent) × (find_event (id_of e) events ≡ Some old) × (simplified_event set old ≡ e)
+abbrev pub IsSimplified : List AnyId → List PlainEvent → PlainEvent → Type 0
+IsSimplified set events e = (old : PlainEvent) × (find_event (id_of e) events ≡ Some old) × (simplified_event set old ≡ e)

@@ -17,7 +17,7 @@ ghost use Rattle.plain_model.specs.Trees.{IsTree, Tree, apply_all};
 ghost use Rattle.edit_laws.specs.Editing.{IsEdit, with_number};
 ghost use Rattle.edit_laws.specs.Passing.{IsWithinLimits};
 ghost use Rattle.edit_laws.specs.Sweeping.{is_named};
-ghost use Rattle.simplify_laws.specs.Remaining.{CanBeCarriedOut, IsOneOf};
+ghost use Rattle.simplify_laws.specs.Remaining.{CanBeCarriedOut, IsSimplified};
 ghost use Rattle.edit_laws.specs.Keeping.{IsNoBlob, KeepsTrees, AddsNothing};
 ghost use Rattle.simplify_laws.specs.Simplify.{is_void, simpler, simplified, simplify_of};
 
@@ -74,7 +74,7 @@ pub fn nothing_is_added()
 /// Each event is as it was, but for the operations of a selected commit, which are those that aren't void.
 pub fn selected_commits_are_simpler()
     ensures { (set : List AnyId) (events new : List PlainEvent) → IsSound events →
-        simplify_of set events ≡ Ok new → AllByRecursion (IsOneOf set events) new }
+        simplify_of set events ≡ Ok new → AllByRecursion (IsSimplified set events) new }
 {}
 
 /// Of all that a tree can refuse only the number of its paths can come: a dropped operation had made room that a later

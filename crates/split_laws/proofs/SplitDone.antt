@@ -13,7 +13,7 @@ use Rattle.edit_laws.proofs.Limits.{limits_hold}
 use Rattle.commit_laws.specs.Selected.{node_of}
 use Rattle.commit_laws.proofs.Greatest.{next_a_mark, next_unmarked}
 use Rattle.split_laws.specs.Split.{first_touch, split_at_of, split_by_of, split_from, split_list, unless_limit}
-use Rattle.split_laws.specs.SplitTrees.{IsFirstTouch, IsInHalves, KeepsTrees}
+use Rattle.split_laws.specs.SplitTrees.{IsFirstTouch, IsInHalves, KeepsOtherTrees}
 use Rattle.split_laws.proofs.Halves.{copy_here, copy_tree, other_tree, split_shown, split_sound, still_here}
 
 -- what is true where a split isn't refused
@@ -53,13 +53,13 @@ by_from copy path c events new h = go (first_touch path 1 (node_of events c).ops
     go (Some number) h = (number, h)
     go None h = absurd cc
 
-from_trees : (copy c number : ℕ) (events new : List PlainEvent) → IsSound events → IsCommitOf events c → has_id events (any.Commit copy) ≡ false → split_from copy c number events ≡ Ok new → KeepsTrees c copy events new
+from_trees : (copy c number : ℕ) (events new : List PlainEvent) → IsSound events → IsCommitOf events c → has_id events (any.Commit copy) ≡ false → split_from copy c number events ≡ Ok new → KeepsOtherTrees c copy events new
 from_trees copy c number events new h there fresh d =
     let done = from_done copy c number events new d in
     let mark = done.mark in
     let unmarked = next_unmarked events mark done.next in
     let formed = next_a_mark events mark h.spelled done.next in
-    subst (KeepsTrees c copy events) done.is (record {
+    subst (KeepsOtherTrees c copy events) done.is (record {
       copied = copy_here c copy mark (number - 1) events h there fresh unmarked formed;
       copy_tree = copy_tree c copy mark (number - 1) events h there fresh unmarked formed;
       copy_shown = split_shown c copy mark (number - 1) events h there fresh unmarked formed copy c (copy_tree c copy mark (number - 1) events h there fresh unmarked formed);
@@ -68,10 +68,10 @@ from_trees copy c number events new h there fresh d =
       shown = λ e k other. split_shown c copy mark (number - 1) events h there fresh unmarked formed e e (other_tree c copy mark (number - 1) events h there fresh unmarked formed e k other);
     })
 
-pub at_trees : (copy number c : ℕ) (events new : List PlainEvent) → IsSound events → IsCommitOf events c → has_id events (any.Commit copy) ≡ false → split_at_of copy number (any.Commit c ∷ []) events ≡ Ok new → KeepsTrees c copy events new
+pub at_trees : (copy number c : ℕ) (events new : List PlainEvent) → IsSound events → IsCommitOf events c → has_id events (any.Commit copy) ≡ false → split_at_of copy number (any.Commit c ∷ []) events ≡ Ok new → KeepsOtherTrees c copy events new
 at_trees copy number c events new h there fresh d = from_trees copy c number events new h there fresh d
 
-pub by_trees : (copy : ℕ) (path : Bytes) (c : ℕ) (events new : List PlainEvent) → IsSound events → IsCommitOf events c → has_id events (any.Commit copy) ≡ false → split_by_of copy path (any.Commit c ∷ []) events ≡ Ok new → KeepsTrees c copy events new
+pub by_trees : (copy : ℕ) (path : Bytes) (c : ℕ) (events new : List PlainEvent) → IsSound events → IsCommitOf events c → has_id events (any.Commit copy) ≡ false → split_by_of copy path (any.Commit c ∷ []) events ≡ Ok new → KeepsOtherTrees c copy events new
 by_trees copy path c events new h there fresh d = let from = by_from copy path c events new d in from_trees copy c from.0 events new h there fresh from.1
 
 from_sound : (copy c number : ℕ) (events new : List PlainEvent) → IsSound events → IsCommitOf events c → has_id events (any.Commit copy) ≡ false → split_from copy c number events ≡ Ok new → IsSound new

@@ -10,7 +10,7 @@ ghost use Rattle.plain_model.specs.Soundness.{IsCommitOf, IsSound, has_id};
 ghost use Rattle.edit_laws.specs.Editing.{IsEdit, with_number};
 ghost use Rattle.edit_laws.specs.Passing.{IsWithinLimits};
 ghost use Rattle.split_laws.specs.Split.{split_at_of, split_by_of};
-ghost use Rattle.split_laws.specs.SplitTrees.{IsFirstTouch, IsInHalves, KeepsTrees};
+ghost use Rattle.split_laws.specs.SplitTrees.{IsFirstTouch, IsInHalves, KeepsOtherTrees};
 
 /// A split that isn't refused is of one event, which is a commit.
 pub fn a_split_is_of_one_commit()
@@ -35,10 +35,10 @@ pub fn a_split_makes_two_halves()
 pub fn a_split_keeps_trees()
     ensures at { (copy number c : ℕ) (events new : List PlainEvent) → IsSound events →
         IsCommitOf events c → IsFalse (has_id events (any.Commit copy)) →
-        split_at_of copy number (any.Commit c ∷ []) events ≡ Ok new → KeepsTrees c copy events new }
+        split_at_of copy number (any.Commit c ∷ []) events ≡ Ok new → KeepsOtherTrees c copy events new }
     ensures by { (copy : ℕ) (path : Bytes) (c : ℕ) (events new : List PlainEvent) → IsSound events →
         IsCommitOf events c → IsFalse (has_id events (any.Commit copy)) →
-        split_by_of copy path (any.Commit c ∷ []) events ≡ Ok new → KeepsTrees c copy events new }
+        split_by_of copy path (any.Commit c ∷ []) events ≡ Ok new → KeepsOtherTrees c copy events new }
 {}
 
 /// A sound history stays sound.

@@ -11,7 +11,8 @@ use Rattle.plain_model.specs.Lookups.{find_event, id_of, is_listed}
 use Rattle.plain_model.specs.Soundness.{IsSound}
 use Rattle.history_laws.proofs.Ids.{each_found}
 use Rattle.history_laws.proofs.SoundOnce.{sound_once}
-use Rattle.ancestry_laws.proofs.Pasts.{all_reverse, linked_past}
+use Rattle.history_laws.proofs.Lists.{all_reverse}
+use Rattle.ancestry_laws.proofs.Pasts.{linked_past}
 use Rattle.edit_laws.specs.Settling.{settle}
 use Rattle.edit_laws.specs.Sweeping.{is_left_over}
 use Rattle.edit_laws.proofs.Lists.{OfNodes, all_filter, all_flat, events_of_nodes, nodes_of_events}

@@ -3,7 +3,7 @@ use Rattle.std.proofs.lemmas.Option.{same_Some}
 use Rattle.plain_model.specs.declared.policy.Push.TheVariants as push
 use Rattle.plan_steps.specs.Targets.{lost_target, target_for}
 use Rattle.squash_laws.specs.Takings.{target_after}
-use Rattle.squash_delete.proofs.FateLemmas.{goes_on, stays_on}
+use Rattle.plan_steps.proofs.NearLemmas.{goes_on, stays_on}
 use Rattle.squash_delete.proofs.fates.target_in.Goals as goal
 
 pub returns-in-Some : goal.returns-in-Some

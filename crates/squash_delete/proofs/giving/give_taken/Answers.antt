@@ -9,7 +9,7 @@ use Rattle.plain_model.specs.Lookups.{id_of}
 use Rattle.plain_model.specs.Paths.{Bytes}
 use Rattle.event_arena.specs.Changes.{changed, with_comment, with_ops, with_parents}
 use Rattle.event_arena.specs.Graphs.{Change}
-use Rattle.graph_walk.proofs.TurnLemmas.{on_ok}
+use Rattle.std.proofs.lemmas.Result.{on_ok_weaker}
 use Rattle.plan_steps.proofs.Steps.{alike_of, changed_twice, kept_of}
 use Rattle.squash_delete.specs.Fates.{given}
 use Rattle.squash_delete.specs.declared.fates.Fate.TheVariants.{Taken}
@@ -36,7 +36,7 @@ returns c event at =
     let G : PlainEvent → PlainEvent = given (Taken c.args.parents.now c.args.ops.now c.args.comment.now) in
     let F : PlainEvent → PlainEvent = λ y. with_comment text (with_ops os y) in
     subst (λ (y : PlainEvent). OnOk c.give.result (c.give.new.plan ≡ record plan { after = changed (id_of y) G plan.after })) (same_Some n event (sym c.nth.ensures.event ∙ at))
-    (on_ok c.give.result _ _ (λ is.
+    (on_ok_weaker c.give.result (λ is.
     is ∙ ap (λ (p : Change). record p { after = changed (any.Commit x.id) F p.after }) c.in_ok-give_parents.ensures
     ∙ ap (λ (es : List PlainEvent). record plan { after = es })
     (changed_twice (any.Commit x.id) F (with_parents ps) (parents_id ps) plan.after

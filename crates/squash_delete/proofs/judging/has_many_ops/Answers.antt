@@ -5,7 +5,8 @@ use Rattle.history_laws.proofs.Lists.{item_at}
 use Rattle.event_arena.proofs.ListLemmas.{take_all}
 use Rattle.edit_laws.specs.Parts.{tally}
 use Rattle.edit_laws.proofs.Limits.{not_many}
-use Rattle.plan_steps.proofs.Counting.{more_than, tally_item, tally_less}
+use Rattle.std.proofs.lemmas.Bool.{lt-ltb}
+use Rattle.plan_steps.proofs.Counting.{tally_item, tally_less}
 use Rattle.squash_delete.specs.Fates.{left_events, left_some}
 use Rattle.squash_delete.specs.Sources.{count_ops}
 use Rattle.squash_delete.proofs.ForwardLemmas.{ops_each}
@@ -27,7 +28,7 @@ returns-then-total-count c comments tags table =
     let whole : tally own events ≡ count_ops (left_events set events comments tags) = ops_each set events comments tags events in
     let low = c.loop-place.invariant.low in
     let passed = c.if-total-count.true in
-    sym (more_than MAX_OPERATIONS (count_ops (left_events set events comments tags)) (omega arith))
+    sym (lt-ltb MAX_OPERATIONS (count_ops (left_events set events comments tags)) (omega arith))
 
 pub loop-place-preserved : goal.loop-place-preserved
 loop-place-preserved c =
