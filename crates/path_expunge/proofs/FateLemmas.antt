@@ -27,8 +27,7 @@ use Rattle.expunge_laws.proofs.Emptied.{listed_each}
 use Rattle.squash_laws.specs.Removed.{all_left, is_removed, parents_after}
 use Rattle.plan_steps.specs.Leaving.{event_after, goes, staying}
 use Rattle.plain_model.specs.declared.policy.Lean.TheVariants as lean
-use Rattle.plan_steps.specs.Targets.{lost_target, moving, target_for}
-use Rattle.plan_steps.proofs.NearLemmas.{kept_on, lost_is}
+use Rattle.plan_steps.specs.Targets.{moving, target_for}
 use Rattle.plan_steps.proofs.LeavingLemmas.{after_id, left_staying}
 use Rattle.path_expunge.specs.declared.fates.Fate.{Fate}
 use Rattle.path_expunge.specs.declared.fates.Fate.TheVariants.{Same, Linked, Anew, Moved}
@@ -55,30 +54,6 @@ given_id Same e = refl
 given_id (Linked ps) e = id_with_field (field.Parents ps) e
 given_id (Anew ps) e = anew_id (with_parents ps e) ∙ id_with_field (field.Parents ps) e
 given_id (Moved t) e = target_id t e
-
--- ---- where a tag or a reset goes
-
--- one on a removed commit
-pub goes_on : (set : List AnyId) (goes_to : ℕ → Option ℕ) (e : PlainEvent) (c : ℕ) → lost_target set e ≡ Some c → target_for goes_to e ≡ goes_to c
-goes_on set goes_to e c lost = on e (lost_is set c e lost).0
-  where
-    on : (e : PlainEvent) → target_for Some e ≡ Some c → target_for goes_to e ≡ goes_to c
-    on (Tag id name target tagger comment mark) is = ap goes_to (same_Some target c is)
-    on (Reset id branch (Some target)) is = ap goes_to (same_Some target c is)
-    on (Reset id branch None) is = absurd (none-some c is)
-    on (Blob id mark bytes) is = absurd (none-some c is)
-    on (Commit id mark branch author committer encoding comment parents ops aliases) is = absurd (none-some c is)
-    on (Pass id line) is = absurd (none-some c is)
-
--- and any other, where those on commits that stay stay
-pub stays_on : (set : List AnyId) (goes_to : ℕ → Option ℕ) → ((c : ℕ) → is_removed set c ≡ false → goes_to c ≡ Some c) → (e : PlainEvent) → lost_target set e ≡ None →
-    target_for goes_to e ≡ target_for Some e
-stays_on set goes_to stays (Tag id name target tagger comment mark) none = stays target (kept_on set target (Tag id name target tagger comment mark) none refl)
-stays_on set goes_to stays (Reset id branch (Some target)) none = stays target (kept_on set target (Reset id branch (Some target)) none refl)
-stays_on set goes_to stays (Reset id branch None) none = refl
-stays_on set goes_to stays (Blob id mark bytes) none = refl
-stays_on set goes_to stays (Commit id mark branch author committer encoding comment parents ops aliases) none = refl
-stays_on set goes_to stays (Pass id line) none = refl
 
 -- ---- one after another
 

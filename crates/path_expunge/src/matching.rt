@@ -37,6 +37,16 @@ fn matches(test: &mut PathTest<'_>, path: &[u8]) -> bool
     }
 }
 
+impl Matcher {
+    /// Whether it matches a path. An expunge makes the search for a pattern once, for all paths. (reposurgeon manual, `expunge`.)
+    pub fn matches(&self, alloc: Global, path: &Path) -> Result<bool, NoMemory>
+        ensures { IfOk result (λ answer. answer ≡ matches self.now path.now) }
+    {
+        let mut test = ready(alloc, self)?;
+        Ok(matches(&mut test, path.as_bytes()))
+    }
+}
+
 /// Matchers, with a search for each pattern that is made once. Contracts see what they match.
 #[derive(Drop)]
 pub struct Matching<'m> {

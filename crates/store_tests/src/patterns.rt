@@ -1,6 +1,7 @@
 //! Patterns that are refused for their size, which `regex` does of no short one.
 use byte_patterns::{BuildFault, Pattern, Patterns, RegexPatterns};
-use plain_model::{Fault, Halt, Items, Status};
+use path_expunge::Matcher;
+use plain_model::{Fault, Halt, Items, Path, Status};
 use regex::bytes::Regex;
 use std::alloc::Global;
 use std::test::*;
@@ -46,6 +47,24 @@ fn a_size_may_be_refused_once(rt: HostRuntime) {
     for want in ["a pattern", "too big", "a pattern"] {
         assert_eq!(rt; answer(rt.alloc(), "a.c", &mut patterns), want);
     }
+}
+
+// What a matcher says of a few paths; an expunge asks for many.
+#[test]
+fn a_matcher_says_which_paths_it_matches(rt: HostRuntime) -> Result<(), Fail> {
+    let alloc = rt.alloc();
+    let path = |bytes: &[u8]| Path::new(alloc, bytes);
+    let mut patterns = RegexPatterns::new(alloc, 0);
+    let only = Matcher::literal(path(b"a/b")?);
+    let Ok(found) = Matcher::pattern(alloc, "^a/", &mut patterns) else {
+        assert!(rt; false);
+        return Ok(());
+    };
+    assert!(rt; only.matches(alloc, &path(b"a/b")?)?);
+    assert!(rt; !only.matches(alloc, &path(b"a/bc")?)?);
+    assert!(rt; found.matches(alloc, &path(b"a/bc")?)?);
+    assert!(rt; !found.matches(alloc, &path(b"b/a/c")?)?);
+    Ok(())
 }
 
 #[test]

@@ -2,7 +2,7 @@ use Rattle.std.proofs.Common.{◌≡◌, ◌∙◌, Some, None, ap, sym}
 use Rattle.std.proofs.lemmas.Option.{same_Some}
 use Rattle.plan_steps.specs.Targets.{lost_target, moving, target_for}
 use Rattle.plain_model.specs.declared.policy.Lean.TheVariants as lean
-use Rattle.path_expunge.proofs.FateLemmas.{goes_on, stays_on}
+use Rattle.plan_steps.proofs.NearLemmas.{goes_on, stays_on}
 use Rattle.path_expunge.proofs.fates.target_in.Goals as goal
 
 pub returns-in-Some : goal.returns-in-Some
