@@ -22,5 +22,13 @@ pub one_by_one : (P : List (Option Denial) → Type 0) (before : List (Option De
     → P (before ++ denial ∷ more) → P ((before ++ denial ∷ []) ++ more)
 one_by_one P before denial more h = subst P (sym (append_assoc before (denial ∷ []) more)) h
 
+-- and back
+pub all_at_once : (P : List (Option Denial) → Type 0) (before : List (Option Denial)) (denial : Option Denial) (more : List (Option Denial))
+    → P ((before ++ denial ∷ []) ++ more) → P (before ++ denial ∷ more)
+all_at_once P before denial more h = subst P (append_assoc before (denial ∷ []) more) h
+
+pub with_none : (P : List (Option Denial) → Type 0) (before : List (Option Denial)) → P before → P (before ++ [])
+with_none P before h = subst P (sym (append-nil before)) h
+
 pub no_more : (P : List (Option Denial) → Type 0) (before : List (Option Denial)) → P (before ++ []) → P before
 no_more P before h = subst P (append-nil before) h

@@ -7,6 +7,8 @@ mod Changing
 mod Denying
 mod ListChanges
 mod Readying
+mod LoadedFiles
+mod Sent
 pub mod Rounds
 pub mod SessionRounds
 mod Sessions

@@ -1,15 +1,17 @@
 -- What a file gives of which pieces were read.
-use Rattle.std.proofs.Common.{◌≡◌, ℕ, ◌+◌, ◌-◌, ◌≤◌, ◌<◌, Bool, true, false, List, [], ◌++◌, length, take, drop, zero, suc, Option, Some, None, Result, Ok, Err, refl, sym, ap, subst, ◌∙◌, inl, inr, arith, nat_lt, length-drop, length-take}
+use Rattle.std.proofs.Common.{◌≡◌, ℕ, ◌+◌, ◌-◌, ◌≤◌, ◌<◌, Bool, true, false, cond, List, [], ◌++◌, length, take, drop, ◌∷◌, zero, suc, Option, Some, None, Result, Ok, Err, refl, sym, ap, subst, ◌∙◌, inl, inr, arith, nat_lt, length-drop, length-take}
 use Rattle.std.specs.Prelude.{IfSome, IsErrOf, IsSome, min, if◌then◌else◌}
-use Rattle.std.specs.FinMap.{get}
+use Rattle.std.specs.FinMap.{get, get-empty, get-insert, empty, insert}
 use Rattle.std.specs.Result.{IsErrAnd}
 use Rattle.std.proofs.lemmas.Option.{IfSome_then}
 use Rattle.std.proofs.Math.Nat.{le-min, min-le_left, min-le_right}
 use Rattle.std.proofs.Math.Seq.{drop-length, take-add, take-append_seam}
 use Rattle.std.proofs.lemmas.Bool.{cond-true, cond-false, cases_Bool}
 use Rattle.std.proofs.lemmas.Bool.Decides.{nat_tests}
-use Rattle.std.proofs.lemmas.List.{take_all, take-append-le, drop-drop}
-use Rattle.plain_model.specs.Files.{Files}
+use Rattle.std.proofs.lemmas.List.{take_all, take-append-le, drop-drop, length-append}
+use Rattle.std.proofs.lemmas.Cmp.{eq_by_cmp_equiv}
+use Rattle.std.specs.Cmp.Lexicographic.{nat_list_cmp_total}
+use Rattle.plain_model.specs.Files.{Files, name_cmp}
 use Rattle.plain_model.specs.Paths.{Bytes}
 use Rattle.plain_model.specs.declared.event.PlainEvent.{PlainEvent}
 use Rattle.plain_model.specs.declared.fault.Fault.{Fault}
@@ -33,9 +35,28 @@ use Rattle.surgeon_store.specs.Outside.{Reads, StoreState}
 use Rattle.surgeon_store.specs.WholeFiles.{ReturnsOrBreaks}
 use Rattle.surgeon_store.specs.declared.whole_files.ReadEnd.{ReadEnd}
 use Rattle.surgeon_store.specs.declared.whole_files.ReadEnd.TheVariants as ended
-use Rattle.history_machine.specs.Loading.{loaded, over, read_of}
+use Rattle.history_machine.specs.Loading.{IsStreamFault, loaded, over, read_of}
 use Rattle.surgeon_session.specs.Ends.{of_read_fault}
-use Rattle.surgeon_session.specs.Pieces.{GoesOn, IsWhole, StopsNear, Tells, read_refused}
+use Rattle.surgeon_session.specs.Calls.{AsTold}
+use Rattle.surgeon_session.specs.Pieces.{GoesOn, IsWhole, LeavesNothing, StopsNear, Tells, read_refused}
+
+-- ---- what is told
+
+-- what holds of everything
+pub any_told : {A : Type 0} (o : Option A) {P : A → Type 0} → A → ((x : A) → P x) → AsTold o P
+any_told None some all = (some, all some)
+any_told (Some x) some all = all x
+
+-- what follows
+pub told_then : {A : Type 0} (o : Option A) {P Q : A → Type 0} → AsTold o P → ((x : A) → P x → Q x) → AsTold o Q
+told_then None h f = (h.0, f h.0 h.1)
+told_then (Some x) h f = f x h
+
+-- out of memory
+pub memory_told : {A X Y : Type 0} (o : Option A) → A → (view : X → Y) (r : Result X ReadEnd) → IsErrAnd r (λ e. e ≡ ended.Memory) → (expected : A → Result Y Fault)
+    → AsTold o (λ x. ReturnsOrBreaks view r (expected x))
+memory_told o some view (Ok x) is expected = absurd is
+memory_told o some view (Err e) is expected = any_told o some (λ x. subst (λ (y : ReadEnd). ReturnsOrBreaks view (Err y) (expected x)) (sym is) tt)
 
 -- ---- machines that have stopped, and others
 
@@ -137,15 +158,28 @@ module _ (defect : (bytes : Bytes) (n : ℕ) (why : Why) → stream_of bytes ≡
           ]
 
   -- a refusal is answered once at most a piece has come beyond where the machine went on
-  stops_near : (r : Result (List PlainEvent) ReadEnd) (bytes : Bytes) (rest : Option Bytes) (come k : ℕ) → k ≤ come + 65536 → rest ≡ Some (drop k bytes)
-      → GoesOn (after at_start (take come bytes)) → ReturnsOrBreaks (λ (l : List PlainEvent). l) r (stream_of bytes) → StopsNear (Some bytes) (read_refused r) rest
-  stops_near (Ok l) bytes rest come k h is on e = tt
-  stops_near (Err ended.SourceFault) bytes rest come k h is on e = tt
-  stops_near (Err ended.Memory) bytes rest come k h is on e = tt
-  stops_near (Err (ended.Refused (fault.BadStream n why))) bytes rest come k h is on e = λ not_end others cut.
-      let below = before_refusal bytes n why come not_end e on others cut in
-      (k, omega (arith, below, h), is)
-  stops_near (Err (ended.Refused other)) bytes rest come k h is on e = tt
+  stops_near : (r : Result (List PlainEvent) ReadEnd) (bytes : Bytes) (rest : Option Bytes) (come k : ℕ) → k ≤ come + 65536 → k ≤ MAX_STREAM_BYTES → rest ≡ Some (drop k bytes)
+      → GoesOn (after at_start (take come bytes)) → IfSome (read_refused r) (λ f. IsStreamFault f) → ReturnsOrBreaks (λ (l : List PlainEvent). l) r (stream_of bytes)
+      → StopsNear (Some bytes) (read_refused r) rest
+  stops_near (Ok l) bytes rest come k h within is on cause e = tt
+  stops_near (Err ended.SourceFault) bytes rest come k h within is on cause e = tt
+  stops_near (Err ended.Memory) bytes rest come k h within is on cause e = tt
+  stops_near (Err (ended.Refused (fault.BadStream n why))) bytes rest come k h within is on cause e = (
+    (k, within, is),
+    λ not_end others cut.
+        let below = before_refusal bytes n why come not_end e on others cut in
+        (k, omega (arith, below, h), is),
+  )
+  stops_near (Err (ended.Refused (fault.Limit which number))) bytes rest come k h within is on cause e = (k, within, is)
+  stops_near (Err (ended.Refused fault.MarksSpent)) bytes rest come k h within is on cause e = (k, within, is)
+  stops_near (Err (ended.Refused other)) bytes rest come k h within is on cause e = absurd cause
+
+-- why a stream isn't read is why a stream is refused
+stream_cause : (X : Type 0) (f : ReadFault) → IfSome (read_refused {X = X} (Err (of_read_fault f))) (λ f. IsStreamFault f)
+stream_cause X (read.BadStream n why) = tt
+stream_cause X (read.Limit which number) = tt
+stream_cause X read.MarksSpent = tt
+stream_cause X read.Memory = tt
 
 -- ---- a file that is read in pieces
 
@@ -206,15 +240,26 @@ never_source read.Memory e is h = absurd cc
 pub memory_tells : (name : Bytes) (file : Option Bytes) (r : Result (Unit {0}) ReadEnd) (reader : Reading) (rest : Option Bytes)
     → IsErrAnd r (λ e. e ≡ ended.Memory) → Tells name file r reader rest
 memory_tells name file (Ok done) reader rest is = absurd is
-memory_tells name file (Err e) reader rest is = subst (λ (y : ReadEnd). Tells name file (Err y) reader rest) (sym is) (each_some file (λ bytes. tt))
+memory_tells name file (Err e) reader rest is = subst (λ (y : ReadEnd). Tells name file (Err y) reader rest) (sym is) (any_told file [] (λ bytes. tt))
 
 pub memory_near : {X : Type 0} (r : Result X ReadEnd) → IsErrAnd r (λ e. e ≡ ended.Memory) → (file rest : Option Bytes) → StopsNear file (read_refused r) rest
 memory_near (Ok x) is file rest = absurd is
 memory_near {X = X} (Err e) is file rest = subst (λ (y : ReadEnd). StopsNear file (read_refused {X = X} (Err y)) rest) (sym is) (nothing_near file rest)
 
-pub long_near : (file rest : Option Bytes) (name : Bytes) (n : ℕ) → StopsNear file (Some (fault.TooLong name n)) rest
-long_near None rest name n = tt
-long_near (Some bytes) rest name n = tt
+-- a byte was taken past the limit
+pub long_near : (file now new : Option Bytes) (come n : ℕ) (read piece name : Bytes) (limit : ℕ) → come ≤ MAX_STREAM_BYTES → MAX_STREAM_BYTES ≤ come → n ≤ 1 → (n ≡ 0 → ⊥)
+    → HasTaken file come read now → TakesMore now n piece new → StopsNear file (Some (fault.TooLong name limit)) new
+long_near None now new come n read piece name limit within full few some taken more = tt
+long_near (Some bytes) now new come n read piece name limit within full few some taken more =
+    let took = more_taken (Some bytes) now new come n read piece taken more in
+    let one : n ≡ 1 = single n few some in
+    let same : come + n ≡ MAX_STREAM_BYTES + 1 = omega (arith, within, full, one) in
+    took.2 ∙ ap (λ (k : ℕ). Some (drop k bytes)) same
+  where
+    single : (k : ℕ) → k ≤ 1 → (k ≡ 0 → ⊥) → k ≡ 1
+    single zero h some = absurd (some refl)
+    single (suc zero) h some = refl
+    single (suc (suc k)) h some = absurd (omega (arith, h))
 
 -- why a call is refused, whatever it gives else
 pub same_refusal : (X Y : Type 0) (e : ReadEnd) → read_refused {X = X} (Err e) ≡ read_refused {X = Y} (Err e)
@@ -239,6 +284,28 @@ has_room room piece new some there size =
     let cut = length-take room piece in
     let both = le-min some there in
     omega (arith, size, cut, both)
+
+-- one for a byte takes one at most
+pub one_byte : (piece new : Bytes) (count : ℕ) → length new ≡ length (take 1 piece) → count ≤ length new → count ≤ 1
+one_byte piece new count size bound =
+    let cut = length-take 1 piece in
+    let most = min-le_left 1 (length piece) in
+    omega (arith, size, bound, cut, most)
+
+-- so many bytes have come
+pub piece_size : (count : ℕ) (read piece : Bytes) (come : ℕ) → count ≤ length piece → length read ≡ come → length (read ++ take count piece) ≡ come + count
+piece_size count read piece come bound size =
+    let parts = length-append read (take count piece) in
+    let cut = length-take count piece in
+    let all = min-le_same count (length piece) bound in
+    omega (arith, size, parts, cut, all)
+  where
+    min-le_same : (a b : ℕ) → a ≤ b → min a b ≡ a
+    min-le_same a b h =
+        let same : a ≤ a = omega arith in
+        let low = le-min same h in
+        let high = min-le_left a b in
+        omega (arith, low, high)
 
 pub wanted : (most come small room : ℕ) → come < most → 1 ≤ small → room ≡ min (most - come) small → 1 ≤ room
 wanted most come small room below some is =
@@ -269,7 +336,7 @@ reads_both a b c first later =
 module _
     (defect : (bytes : Bytes) (n : ℕ) (why : Why) → stream_of bytes ≡ Err (fault.BadStream n why) → IsFirstDefect bytes n why)
     (most : ℕ) (name : Bytes) (file now new : Option Bytes) (r : Reading) (read piece : Bytes) (come : ℕ)
-    (within : come ≤ most) (taken : HasTaken file come read now) (fed : HasRead r read) (going : GoesOn (after at_start read))
+    (within : come ≤ most) (taken : HasTaken file come read now) (size : length read ≡ come) (fed : HasRead r read) (going : GoesOn (after at_start read))
   where
     goes : (bytes : Bytes) → read ≡ take come bytes → GoesOn (after at_start (take come bytes))
     goes bytes is = subst (λ (x : Bytes). GoesOn (after at_start x)) is going
@@ -287,121 +354,170 @@ module _
                   (reported_stops later.standing later.known later.number later.come later.place f (after at_start (read ++ take n piece)) stops next),
             )
 
-        pub refused_returns : IfSome file (λ bytes. ReturnsOrBreaks {X = List PlainEvent} (λ l. l) (Err (of_read_fault f)) (read_by most name bytes))
+        pub refused_returns : AsTold file (λ bytes. ReturnsOrBreaks {X = List PlainEvent} (λ l. l) (Err (of_read_fault f)) (read_by most name bytes))
         refused_returns = by_file file taken
           where
-            by_file : (o : Option Bytes) → HasTaken o come read now → IfSome o (λ bytes. ReturnsOrBreaks {X = List PlainEvent} (λ l. l) (Err (of_read_fault f)) (read_by most name bytes))
-            by_file None h = tt
+            came : Bytes
+            came = read ++ take n piece
+
+            by_file : (o : Option Bytes) → HasTaken o come read now → AsTold o (λ bytes. ReturnsOrBreaks {X = List PlainEvent} (λ l. l) (Err (of_read_fault f)) (read_by most name bytes))
+            by_file None h =
+                let parts = length-append read (take n piece) in
+                let few = length-take n piece in
+                let cut = min-le_left n (length piece) in (
+                  came,
+                  refused_by most name f (length came) came (omega (arith, parts, few, cut, size, fits)) (omega arith)
+                      (subst (λ (x : Bytes). HasStopped f (after at_start x)) (sym (take_all (length came) came (omega arith)))
+                      (reported_stops later.standing later.known later.number later.come later.place f (after at_start came) stops next)),
+                )
             by_file (Some bytes) h =
                 let done = at_refusal bytes h in
                 refused_by most name f (come + n) bytes fits done.0 done.2
 
-        pub refused_near : (X : Type 0) → StopsNear file (read_refused {X = X} (Err (of_read_fault f))) new
-        refused_near X = subst (λ (o : Option Fault). StopsNear file o new) (same_refusal (List PlainEvent) X (of_read_fault f)) (by_file file taken)
+        pub refused_near : come + n ≤ MAX_STREAM_BYTES → (X : Type 0) → StopsNear file (read_refused {X = X} (Err (of_read_fault f))) new
+        refused_near limited X = subst (λ (o : Option Fault). StopsNear file o new) (same_refusal (List PlainEvent) X (of_read_fault f)) (by_file file taken)
           where
             by_file : (o : Option Bytes) → HasTaken o come read now → StopsNear o (read_refused {X = List PlainEvent} (Err (of_read_fault f))) new
             by_file None h = tt
             by_file (Some bytes) h =
                 let done = at_refusal bytes h in
-                stops_near defect (Err (of_read_fault f)) bytes new come (come + n) (omega (arith, small)) done.1 (goes bytes h.0) (refused_whole f (come + n) bytes done.0 done.2)
+                stops_near defect (Err (of_read_fault f)) bytes new come (come + n) (omega (arith, small)) limited done.1 (goes bytes h.0) (stream_cause (List PlainEvent) f)
+                (refused_whole f (come + n) bytes done.0 done.2)
 
     -- where a byte is past the limit
-    pub long_returns : (n : ℕ) → TakesMore now n piece new → (n ≡ 0 → ⊥) → most ≤ come → IfSome file (λ bytes. read_by most name bytes ≡ Err (fault.TooLong name MAX_STREAM_BYTES))
+    pub long_returns : (n : ℕ) → TakesMore now n piece new → (n ≡ 0 → ⊥) → most ≤ come → AsTold file (λ bytes. read_by most name bytes ≡ Err (fault.TooLong name MAX_STREAM_BYTES))
     long_returns n more some full = by_file file taken
       where
         positive : (k : ℕ) → (k ≡ 0 → ⊥) → 1 ≤ k
         positive zero h = absurd (h refl)
         positive (suc k) h = omega arith
 
-        by_file : (o : Option Bytes) → HasTaken o come read now → IfSome o (λ bytes. read_by most name bytes ≡ Err (fault.TooLong name MAX_STREAM_BYTES))
-        by_file None h = tt
+        full_now : come ≡ most
+        full_now = omega (arith, within, full)
+
+        by_file : (o : Option Bytes) → HasTaken o come read now → AsTold o (λ bytes. read_by most name bytes ≡ Err (fault.TooLong name MAX_STREAM_BYTES))
+        by_file None h =
+            let parts = length-append read (0 ∷ []) in
+            let front : take most (read ++ 0 ∷ []) ≡ read = ap (λ (k : ℕ). take k (read ++ 0 ∷ [])) (sym (size ∙ full_now)) ∙ take-append_seam read (0 ∷ []) in (
+              read ++ 0 ∷ [],
+              long_by most name (read ++ 0 ∷ []) (omega (arith, parts, size, full_now)) (subst (λ (x : Bytes). GoesOn (after at_start x)) (sym front) going),
+            )
         by_file (Some bytes) (is, before, left) =
             let took = subst (λ (o : Option Bytes). TakesMore o n piece new) left more in
-            let size = length-drop come bytes in
+            let room = length-drop come bytes in
             let there = took.0 in
-            let full_now : come ≡ most = omega (arith, within, full) in
             let one : 1 ≤ n = positive n some in
-            long_by most name bytes (omega (arith, size, there, one, full_now, before)) (subst (λ (k : ℕ). GoesOn (after at_start (take k bytes))) full_now (goes bytes is))
+            long_by most name bytes (omega (arith, room, there, one, full_now, before)) (subst (λ (k : ℕ). GoesOn (after at_start (take k bytes))) full_now (goes bytes is))
 
 -- ---- a file that was taken whole
 
 -- a call of `read` with room for a byte took none
-pub whole : (file now new : Option Bytes) (r : Reading) (read piece : Bytes) (come : ℕ) → come ≤ MAX_STREAM_BYTES → HasTaken file come read now → HasRead r read
+pub whole : (file now new : Option Bytes) (r : Reading) (read piece : Bytes) (come : ℕ) → come ≤ MAX_STREAM_BYTES → HasTaken file come read now → length read ≡ come → HasRead r read
     → GoesOn (after at_start read) → TakesMore now 0 piece new → 0 < length piece → IsWhole file r new
-whole file now new r read piece come within taken fed going more room = (read, fed, going, by_file file taken)
+whole file now new r read piece come within taken size fed going more room = (read, fed, going, omega (arith, within, size), by_file file taken)
   where
-    by_file : (o : Option Bytes) → HasTaken o come read now → IfSome o (λ bytes. (read ≡ bytes) × (length bytes ≤ MAX_STREAM_BYTES) × (new ≡ Some []))
+    by_file : (o : Option Bytes) → HasTaken o come read now → IfSome o (λ bytes. (read ≡ bytes) × (new ≡ Some []))
     by_file None h = tt
     by_file (Some bytes) (is, before, left) =
         let took = subst (λ (o : Option Bytes). TakesMore o 0 piece new) left more in
         let none : drop come bytes ≡ [] = took.3 refl room in
         let empty : length (drop come bytes) ≡ 0 = ap length none in
-        let size = length-drop come bytes in
-        let all : length bytes ≤ come = omega (arith, empty, size) in
-        (is ∙ take_all come bytes all, omega (arith, all, within), took.2 ∙ ap Some none)
+        let left_of = length-drop come bytes in
+        let all : length bytes ≤ come = omega (arith, empty, left_of) in
+        (is ∙ take_all come bytes all, took.2 ∙ ap Some none)
 
 module _
     (name : Bytes) (file rest : Option Bytes) (r : Reading) (result : Result (List PlainEvent) ReadEnd) (is : IsWhole file r rest)
     (gives : (bytes : Bytes) → HasRead r bytes → ReturnsOrBreaks (λ (l : List PlainEvent). l) result (stream_of bytes))
   where
-    pub whole_returns : IfSome file (λ bytes. ReturnsOrBreaks (λ (l : List PlainEvent). l) result (read_of name (Some bytes)))
-    whole_returns = by_file file is.3
+    pub whole_returns : AsTold file (λ bytes. ReturnsOrBreaks (λ (l : List PlainEvent). l) result (read_of name (Some bytes)))
+    whole_returns = by_file file is.4
       where
-        by_file : (o : Option Bytes) → IfSome o (λ bytes. (is.0 ≡ bytes) × (length bytes ≤ MAX_STREAM_BYTES) × (rest ≡ Some []))
-            → IfSome o (λ bytes. ReturnsOrBreaks (λ (l : List PlainEvent). l) result (read_of name (Some bytes)))
-        by_file None h = tt
-        by_file (Some bytes) (same, few, left) = whole_by MAX_STREAM_BYTES name result bytes few (gives bytes (subst (HasRead r) same is.1))
+        came : ReturnsOrBreaks (λ (l : List PlainEvent). l) result (read_of name (Some is.0))
+        came = whole_by MAX_STREAM_BYTES name result is.0 is.3 (gives is.0 is.1)
+
+        by_file : (o : Option Bytes) → IfSome o (λ bytes. (is.0 ≡ bytes) × (rest ≡ Some []))
+            → AsTold o (λ bytes. ReturnsOrBreaks (λ (l : List PlainEvent). l) result (read_of name (Some bytes)))
+        by_file None h = (is.0, came)
+        by_file (Some bytes) (same, left) = subst (λ (x : Bytes). ReturnsOrBreaks (λ (l : List PlainEvent). l) result (read_of name (Some x))) same came
 
     pub whole_near : ((bytes : Bytes) (n : ℕ) (why : Why) → stream_of bytes ≡ Err (fault.BadStream n why) → IsFirstDefect bytes n why)
-        → StopsNear file (read_refused result) rest
-    whole_near defect = by_file file is.3
+        → IfSome (read_refused result) (λ f. IsStreamFault f) → StopsNear file (read_refused result) rest
+    whole_near defect cause = by_file file is.4
       where
-        by_file : (o : Option Bytes) → IfSome o (λ bytes. (is.0 ≡ bytes) × (length bytes ≤ MAX_STREAM_BYTES) × (rest ≡ Some []))
+        by_file : (o : Option Bytes) → IfSome o (λ bytes. (is.0 ≡ bytes) × (rest ≡ Some []))
             → StopsNear o (read_refused result) rest
         by_file None h = tt
-        by_file (Some bytes) (same, few, left) =
-            stops_near defect result bytes rest (length bytes) (length bytes) (omega arith) (left ∙ ap Some (sym (drop-length bytes)))
-            (subst (λ (x : Bytes). GoesOn (after at_start x)) (same ∙ sym (take_all (length bytes) bytes (omega arith))) is.2) (gives bytes (subst (HasRead r) same is.1))
+        by_file (Some bytes) (same, left) =
+            let few : length bytes ≤ MAX_STREAM_BYTES = subst (λ (x : Bytes). length x ≤ MAX_STREAM_BYTES) same is.3 in
+            stops_near defect result bytes rest (length bytes) (length bytes) (omega arith) few (left ∙ ap Some (sym (drop-length bytes)))
+            (subst (λ (x : Bytes). GoesOn (after at_start x)) (same ∙ sym (take_all (length bytes) bytes (omega arith))) is.2) cause (gives bytes (subst (HasRead r) same is.1))
+
+    pub whole_leaves : LeavesNothing file rest
+    whole_leaves = IfSome_then file is.4 (λ bytes h. (subst (λ (x : Bytes). length x ≤ MAX_STREAM_BYTES) h.0 is.3, h.1))
 
 -- ---- the history of a file
+
+-- no file is there
+abbrev pub no_files : Files
+no_files = empty
+
+-- one file is
+abbrev one_file : Bytes → Bytes → Files
+one_file name bytes = insert no_files name bytes
+
+found_alone : (name bytes : Bytes) → get (one_file name bytes) name ≡ Some bytes
+found_alone name bytes = get-insert nat_list_cmp_total no_files name bytes name ∙ ap (λ b. cond b (Some bytes) (get no_files name)) ((eq_by_cmp_equiv nat_list_cmp_total).refl name)
 
 module _ {X : Type 0} (view : X → List PlainEvent) (name : Bytes) (files : Option Files) where
   -- a file that isn't opened is missing, or its reading breaks off
   pub not_opened : (r : Result X ReadEnd) (e : ReadEnd) → IsErrAnd r (λ x. x ≡ e)
       → ((why : Fault) → ◌≡◌ {A = Result (Unit {0}) ReadEnd} (Err e) (Err (ended.Refused why)) → (why ≡ fault.Absent name) × IfSome files (λ f. get f name ≡ None))
-      → IfSome files (λ f. ReturnsOrBreaks view r (loaded f name))
+      → AsTold files (λ f. ReturnsOrBreaks view r (loaded f name))
   unfolding loaded
   not_opened (Ok x) e is missing = absurd is
-  not_opened (Err y) e is missing = subst (λ (z : ReadEnd). IfSome files (λ f. ReturnsOrBreaks view (Err z) (loaded f name))) (sym is) (by_end e missing)
+  not_opened (Err y) e is missing = subst (λ (z : ReadEnd). AsTold files (λ f. ReturnsOrBreaks view (Err z) (loaded f name))) (sym is) (by_end e missing)
     where
+      absent : (why : Fault) (o : Option Files) → why ≡ fault.Absent name → IfSome o (λ f. get f name ≡ None) → AsTold o (λ f. loaded f name ≡ Err why)
+      absent why None is none = (no_files, ap (read_of name) (get-empty name_cmp name) ∙ ap Err (sym is))
+      absent why (Some f) is none = ap (read_of name) none ∙ ap Err (sym is)
+
       by_end : (z : ReadEnd) → ((why : Fault) → ◌≡◌ {A = Result (Unit {0}) ReadEnd} (Err z) (Err (ended.Refused why)) → (why ≡ fault.Absent name) × IfSome files (λ f. get f name ≡ None))
-          → IfSome files (λ f. ReturnsOrBreaks view (Err z) (loaded f name))
-      by_end (ended.Refused why) missing =
-          let found = missing why refl in
-          IfSome_then files found.1 (λ f none. ap (read_of name) none ∙ ap Err (sym found.0))
-      by_end ended.SourceFault missing = each_some files (λ f. tt)
-      by_end ended.Memory missing = each_some files (λ f. tt)
+          → AsTold files (λ f. ReturnsOrBreaks view (Err z) (loaded f name))
+      by_end (ended.Refused why) missing = let found = missing why refl in absent why files found.0 found.1
+      by_end ended.SourceFault missing = any_told files no_files (λ f. tt)
+      by_end ended.Memory missing = any_told files no_files (λ f. tt)
 
   -- one that is opened gives what its bytes do
   opened : (P : Result (List PlainEvent) Fault → Type 0) (rest : Option Bytes) → IfSome files (λ f. IsSome (get f name) × (rest ≡ get f name))
-      → IfSome rest (λ bytes. P (read_of name (Some bytes))) → IfSome files (λ f. P (loaded f name))
+      → AsTold rest (λ bytes. P (read_of name (Some bytes))) → AsTold files (λ f. P (loaded f name))
   unfolding loaded
-  opened P rest there of = IfSome_then files there (λ f h. by_found (get f name) h.0 h.1)
+  opened P rest there of = by_files files there
     where
       by_found : (o : Option Bytes) → IsSome o → rest ≡ o → P (read_of name o)
       by_found None some is = absurd cc
-      by_found (Some bytes) some is = subst (λ (o : Option Bytes). IfSome o (λ b. P (read_of name (Some b)))) is of
+      by_found (Some bytes) some is = subst (λ (o : Option Bytes). AsTold o (λ b. P (read_of name (Some b)))) is of
+
+      some_bytes : (o : Option Bytes) → AsTold o (λ b. P (read_of name (Some b))) → (bytes : Bytes) × P (read_of name (Some bytes))
+      some_bytes None h = h
+      some_bytes (Some bytes) h = (bytes, h)
+
+      by_files : (o : Option Files) → IfSome o (λ f. IsSome (get f name) × (rest ≡ get f name)) → AsTold o (λ f. P (read_of name (get f name)))
+      by_files None h =
+          let its = some_bytes rest of in
+          (one_file name its.0, subst (λ (o : Option Bytes). P (read_of name o)) (sym (found_alone name its.0)) its.1)
+      by_files (Some f) h = by_found (get f name) h.0 h.1
 
   pub opened_value : (rest : Option Bytes) (list : List PlainEvent) (x : X) → view x ≡ list → IfSome files (λ f. IsSome (get f name) × (rest ≡ get f name))
-      → IfSome rest (λ bytes. read_of name (Some bytes) ≡ Ok list) → IfSome files (λ f. loaded f name ≡ Ok (view x))
-  opened_value rest list x is there of = IfSome_then files (opened (λ g. g ≡ Ok list) rest there of) (λ f e. e ∙ ap Ok (sym is))
+      → AsTold rest (λ bytes. read_of name (Some bytes) ≡ Ok list) → AsTold files (λ f. loaded f name ≡ Ok (view x))
+  opened_value rest list x is there of = told_then files (opened (λ g. g ≡ Ok list) rest there of) (λ f e. e ∙ ap Ok (sym is))
 
   pub opened_breaks : (rest : Option Bytes) (r : Result X ReadEnd) (e : ReadEnd) → IsErrAnd r (λ x. x ≡ e) → IfSome files (λ f. IsSome (get f name) × (rest ≡ get f name))
-      → IfSome rest (λ bytes. ReturnsOrBreaks {X = List PlainEvent} (λ l. l) (Err e) (read_of name (Some bytes))) → IfSome files (λ f. ReturnsOrBreaks view r (loaded f name))
+      → AsTold rest (λ bytes. ReturnsOrBreaks {X = List PlainEvent} (λ l. l) (Err e) (read_of name (Some bytes))) → AsTold files (λ f. ReturnsOrBreaks view r (loaded f name))
   opened_breaks rest (Ok x) e is there of = absurd is
   opened_breaks rest (Err y) e is there of =
-      subst (λ (z : ReadEnd). IfSome files (λ f. ReturnsOrBreaks view (Err z) (loaded f name))) (sym is)
-      (IfSome_then files (opened (λ g. ReturnsOrBreaks {X = List PlainEvent} (λ l. l) (Err e) g) rest there of) (λ f h. by_end e (loaded f name) h))
+      subst (λ (z : ReadEnd). AsTold files (λ f. ReturnsOrBreaks view (Err z) (loaded f name))) (sym is)
+      (told_then files (opened (λ g. ReturnsOrBreaks {X = List PlainEvent} (λ l. l) (Err e) g) rest there of) (λ f h. by_end e (loaded f name) h))
     where
       by_end : (z : ReadEnd) (g : Result (List PlainEvent) Fault) → ReturnsOrBreaks {X = List PlainEvent} (λ l. l) (Err z) g → ReturnsOrBreaks view (Err z) g
       by_end (ended.Refused why) g h = h

@@ -1,6 +1,7 @@
 -- Commands and lines, from what comes before a command's own part: what it speaks of is there or not, a line has an order or not.
-use Rattle.std.proofs.Common.{◌≡◌, ℕ, List, [], Option, Some, None, Result, Ok, Err, append-nil, refl, sym, ap, subst, ◌∙◌}
-use Rattle.std.specs.Prelude.{IfSome}
+use Rattle.std.proofs.Common.{◌≡◌, ℕ, Bool, List, [], ◌++◌, take, Option, Some, None, Result, Ok, Err, refl, sym, ap, subst, ◌∙◌}
+use Rattle.std.specs.Prelude.{IfSome, IsSome}
+use Rattle.std.proofs.lemmas.Option.{IfSome_then}
 use Rattle.std.specs.Result.{IsErrAnd}
 use Rattle.plain_model.specs.Faults.{refusal}
 use Rattle.plain_model.specs.Files.{Files}
@@ -14,28 +15,26 @@ use Rattle.script_reader.specs.declared.command.Command.{Command}
 use Rattle.script_reader.specs.declared.command.Command.TheVariants as command
 use Rattle.script_reader.specs.declared.command.Order.{Order}
 use Rattle.script_lines.specs.declared.script.ScriptLine.TheVariants.{Plain}
-use Rattle.surgeon_store.specs.Outside.{StoreState, SinkState}
-use Rattle.history_machine.specs.Machine.{World, Effect, PartSent, sent, effect_of}
+use Rattle.surgeon_store.specs.Outside.{Puts, PutsSome, StoreState, SinkState}
+use Rattle.history_machine.specs.Machine.{World, Effect, PartSent, effect_of, passes_limit, sent}
 use Rattle.history_machine.specs.Sessions.{Session, Subject, carried, line_step, of_events, ordered, ready, step}
 use Rattle.history_machine.proofs.Steps.{nothing_built}
-use Rattle.surgeon_session.specs.Calls.{world}
-use Rattle.surgeon_session.specs.Commands.{Carries, CarriesOut, Leaves, LineReadsNoFile, OrderReadsNoFile, PartOf, PartOfLine, ReadsNoFile, Steps, no_calls}
+use Rattle.surgeon_session.specs.Calls.{world, world_of}
+use Rattle.surgeon_session.specs.Commands.{Carries, CarriesOut, Leaves, LineReadsNoFile, OrderReadsNoFile, PartOf, PartOfLine, ReadsNoFile, Refuses, Steps, no_calls}
 use Rattle.surgeon_session.specs.Denials.{Under}
 use Rattle.surgeon_session.specs.Ends.{of_halt}
-use Rattle.surgeon_session.specs.Pieces.{StopsNear, bytes_read, refused}
+use Rattle.surgeon_session.specs.Pieces.{CountsMissOf, StopsNear, bytes_read, refused}
 use Rattle.surgeon_session.specs.declared.halted.Halted.{Halted}
 use Rattle.surgeon_session.specs.declared.halted.Halted.TheVariants as halted
 use Rattle.surgeon_session.proofs.Halting.{halted_alone}
-use Rattle.surgeon_session.proofs.Rounds.{mapped, no_part, same_later, same_world}
+use Rattle.surgeon_session.proofs.Pieces.{any_told, no_files}
+use Rattle.surgeon_session.proofs.Rounds.{mapped, no_part, none_failed, quiet_world, same_later, same_world}
 
 -- that holds under no denial
 pub undenied : (before now : ℕ) (P : Option Denial → Type 0) → P None → Under before now P
 undenied before now P h = (None, λ sized. absurd cc, h)
 
 -- ---- nothing is sent
-
-quiet_world : (w : World) → w ≡ sent None [] w
-quiet_world w = λ i. record { files = w.files; printed = sym (append-nil w.printed) i }
 
 -- what is done without a word to the outside
 pub done_alone : {Y : Type 0} (calls : Y → List Bytes) (s : StoreState) (k : SinkState) (old new : Session) (reads_no_file : Type 0) (specified : Files → Result (Effect Session) Fault) (y : Y)
@@ -46,10 +45,11 @@ done_alone calls s k old new reads_no_file specified y is =
       outcome = record {
         prescribed = same_world (λ w now. Steps calls (Ok y) old w (specified w.files) new now) (world s k)
             (λ w. subst (λ (r : Result (Effect Session) Fault). Carries (calls y) w r new w) (sym (is w.files)) (refl, quiet_world w, refl));
-        caused = tt;
+        caused = none_failed s k;
         later = same_later s k;
       };
-      exact = λ _ files. subst (λ (r : Result (Effect Session) Fault). Leaves r new) (sym (is files)) refl;
+      told = any_told s.files no_files (λ files. subst (λ (r : Result (Effect Session) Fault). Leaves (calls y) r new) (sym (is files)) (refl, refl));
+      exact = λ _ files. subst (λ (r : Result (Effect Session) Fault). Leaves (calls y) r new) (sym (is files)) (refl, refl);
       kept = tt;
     }
 
@@ -119,6 +119,25 @@ module _ (before now : ℕ) where
   not_ready_near files rest s (command.Names to) h r is judged = tt
   not_ready_near files rest s (command.Summary to) h r is judged = tt
 
+  pub not_ready_missed : {A : Type 0} (state : StoreState) (s : Session) (what : Command) (h : Halt) (r : Result A Halted) → IsErrAnd r (λ e. e ≡ of_halt h)
+      → Judges {X = Subject} (λ subject. subject) before now (Err h) (ready s what) → CountsMissOf what (refused r) state state
+  unfolding ready
+  not_ready_missed state s (command.Read file name) h r is judged =
+      subst (λ (o : Option Fault). CountsMissOf (command.Read file name) o state state) (sym (none_refused h r is judged)) tt
+  not_ready_missed state s (command.Write to) h r is judged = tt
+  not_ready_missed state s (command.Choose name) h r is judged = tt
+  not_ready_missed state s command.ShowRepos h r is judged = tt
+  not_ready_missed state s (command.Drop name) h r is judged = tt
+  not_ready_missed state s command.DropChosen h r is judged = tt
+  not_ready_missed state s command.Renumber h r is judged = tt
+  not_ready_missed state s (command.Show selection what to) h r is judged = tt
+  not_ready_missed state s (command.Assign selection name) h r is judged = tt
+  not_ready_missed state s (command.Edit selection edit) h r is judged = tt
+  not_ready_missed state s (command.Expunge words) h r is judged = tt
+  not_ready_missed state s (command.Sample count start) h r is judged = tt
+  not_ready_missed state s (command.Names to) h r is judged = tt
+  not_ready_missed state s (command.Summary to) h r is judged = tt
+
 -- ---- the order of a line
 
 -- a command that isn't done, as a line: nothing is run next
@@ -126,20 +145,26 @@ pub as_line : (s s' : StoreState) (k k' : SinkState) (old new : Session) (reads_
     → CarriesOut {Y = Unit {0}} no_calls s k old reads_no_file specified (Err e) new s' k'
     → CarriesOut {Y = List Bytes} (λ calls. calls) s k old reads_no_file specified (Err e) new s' k'
 as_line s s' k k' old new reads_no_file specified (halted.Refused why) h =
-    record { outcome = record { prescribed = h.outcome.prescribed; caused = h.outcome.caused; later = h.outcome.later }; exact = h.exact; kept = h.kept }
+    record { outcome = record { prescribed = h.outcome.prescribed; caused = h.outcome.caused; later = h.outcome.later }; told = h.told; exact = h.exact; kept = h.kept }
 as_line s s' k k' old new reads_no_file specified halted.SourceFault h =
-    record { outcome = record { prescribed = h.outcome.prescribed; caused = h.outcome.caused; later = h.outcome.later }; exact = h.exact; kept = h.kept }
+    record { outcome = record { prescribed = h.outcome.prescribed; caused = h.outcome.caused; later = h.outcome.later }; told = h.told; exact = h.exact; kept = h.kept }
 as_line s s' k k' old new reads_no_file specified halted.SinkFault h =
-    record { outcome = record { prescribed = h.outcome.prescribed; caused = h.outcome.caused; later = h.outcome.later }; exact = h.exact; kept = h.kept }
+    record { outcome = record { prescribed = h.outcome.prescribed; caused = h.outcome.caused; later = h.outcome.later }; told = h.told; exact = h.exact; kept = h.kept }
 as_line s s' k k' old new reads_no_file specified halted.Memory h =
-    record { outcome = record { prescribed = h.outcome.prescribed; caused = h.outcome.caused; later = h.outcome.later }; exact = h.exact; kept = h.kept }
+    record { outcome = record { prescribed = h.outcome.prescribed; caused = h.outcome.caused; later = h.outcome.later }; told = h.told; exact = h.exact; kept = h.kept }
+
+pub as_broken_line : (s s' : StoreState) (k k' : SinkState) (old new : Session) (reads_no_file : Type 0) (specified : Files → Result (Effect Session) Fault) (e : Halted) (r : Result (List Bytes) Halted)
+    → IsErrAnd r (λ x. x ≡ e) → CarriesOut {Y = Unit {0}} no_calls s k old reads_no_file specified (Err e) new s' k'
+    → CarriesOut {Y = List Bytes} (λ calls. calls) s k old reads_no_file specified r new s' k'
+as_broken_line s s' k k' old new reads_no_file specified e (Ok calls) is h = absurd is
+as_broken_line s s' k k' old new reads_no_file specified e (Err x) is h = rw is (as_line s s' k k' old new reads_no_file specified e h)
 
 -- a command that is done, as a line
 pub as_done_line : (s s' : StoreState) (k k' : SinkState) (old new : Session) (reads_no_file : Type 0) (specified : Files → Result (Effect Session) Fault) (calls : List Bytes) → calls ≡ []
     → CarriesOut {Y = Unit {0}} no_calls s k old reads_no_file specified (Ok tt) new s' k'
     → CarriesOut {Y = List Bytes} (λ calls. calls) s k old reads_no_file specified (Ok calls) new s' k'
 as_done_line s s' k k' old new reads_no_file specified calls none h =
-    rw none (record { outcome = record { prescribed = h.outcome.prescribed; caused = h.outcome.caused; later = h.outcome.later }; exact = h.exact; kept = tt })
+    rw none (record { outcome = record { prescribed = h.outcome.prescribed; caused = h.outcome.caused; later = h.outcome.later }; told = h.told; exact = h.exact; kept = tt })
 
 has_order : (denial : Option Denial) (s : Session) (files : Files) (depth : ℕ) (text : Bytes) (order : Order) → order_of text ≡ Ok order
     → ordered denial s files depth order ≡ line_step denial s files depth (Plain text)
@@ -170,3 +195,51 @@ pub broken_turn : {X : Type 0} (old new : X) (line : ℕ) (specified : Files →
     → IfSome v (λ w. IfSome v' (λ now. (new ≡ old) × PartOf w (specified w.files) now))
     → IfSome v (λ w. IfSome v' (λ now. PartOfLine old w line (specified w.files) new now))
 broken_turn old new line specified v v' h = mapped v v' (λ w now part. (part.0, broken_part old w now line (specified w.files) part.1)) h
+
+-- ---- a line that is refused
+
+module _
+    {X : Type 0} (old new : X) (line : ℕ) (why : Fault) (specified : Files → Result (Effect X) Fault) (s m : StoreState) (k l o : SinkState)
+    (refused : IfSome (world s k) (λ w. IfSome (world m l) (λ now. (specified w.files ≡ Err why) × (new ≡ old) × (now ≡ w))))
+    (reports : IfSome (world s k) (λ w. IsSome (world m l)))
+  where
+    -- what is printed after it
+    module _ (R : World → World → Type 0) (P : Bytes → Bytes → Type 0)
+        (then_so : (w now : World) → (out : Bytes) → (specified w.files ≡ Err why) × (new ≡ old) × (now ≡ w) → P now.printed out → R w (record { files = now.files; printed = out }))
+      where
+        by_parts : (v : Option World) (files : Option Files) (a b : Option Bytes)
+            → IfSome v (λ w. IfSome (world_of files a) (λ now. (specified w.files ≡ Err why) × (new ≡ old) × (now ≡ w)))
+            → IfSome v (λ w. IsSome (world_of files a)) → IfSome a (λ before. (out : Bytes) × P before out × (b ≡ Some out))
+            → IfSome v (λ w. IfSome (world_of files b) (λ now. R w now))
+        by_parts None files a b h there put = tt
+        by_parts (Some w) None a b h there put = tt
+        by_parts (Some w) (Some f) None b h there put = absurd cc
+        by_parts (Some w) (Some f) (Some x) b h there (out, p, is) =
+            subst (λ (y : Option Bytes). IfSome (world_of (Some f) y) (λ now. R w now)) (sym is) (then_so w (record { files = f; printed = x }) out h p)
+
+    refusal_is : (w now : World) → specified w.files ≡ Err why → now ≡ w → (is_last : Bool) → is_last ≡ passes_limit why
+        → Refuses w line is_last (specified w.files) (record { files = now.files; printed = now.printed ++ refusal line why })
+    refusal_is w now e same is_last last =
+        subst (λ (r : Result (Effect X) Fault). Refuses w line is_last r (record { files = now.files; printed = now.printed ++ refusal line why })) (sym e)
+        (last, ap (λ (x : World). record { files = x.files; printed = x.printed ++ refusal line why }) same)
+
+    part_is : (w now : World) (n : ℕ) → specified w.files ≡ Err why → now ≡ w
+        → PartSent (effect_of old line (specified w.files)).to (effect_of old line (specified w.files)).bytes w (record { files = now.files; printed = now.printed ++ take n (refusal line why) })
+    part_is w now n e same =
+        subst (λ (r : Result (Effect X) Fault). PartSent (effect_of old line r).to (effect_of old line r).bytes w (record { files = now.files; printed = now.printed ++ take n (refusal line why) })) (sym e)
+        (n, ap (λ (x : World). record { files = x.files; printed = x.printed ++ take n (refusal line why) }) same)
+
+    -- its line is printed
+    pub refusal_printed : (is_last : Bool) → is_last ≡ passes_limit why → Puts l (refusal line why) o
+        → IfSome (world s k) (λ w. IfSome (world m o) (λ now. (new ≡ old) × Refuses w line is_last (specified w.files) now))
+    refusal_printed is_last last put =
+        by_parts (λ w now. (new ≡ old) × Refuses w line is_last (specified w.files) now) (λ before out. out ≡ before ++ refusal line why)
+        (λ w now out h is. subst (λ (x : Bytes). (new ≡ old) × Refuses w line is_last (specified w.files) (record { files = now.files; printed = x })) (sym is) (h.1, refusal_is w now h.0 h.2 is_last last))
+        (world s k) m.files l.written o.written refused reports (IfSome_then l.written put (λ before is. (before ++ refusal line why, refl, is)))
+
+    -- or a first part of it
+    pub refusal_broken : PutsSome l (refusal line why) o → IfSome (world s k) (λ w. IfSome (world m o) (λ now. PartOfLine old w line (specified w.files) new now))
+    refusal_broken put =
+        by_parts (λ w now. PartOfLine old w line (specified w.files) new now) (λ before out. (n : ℕ) × (out ≡ before ++ take n (refusal line why)))
+        (λ w now out h is. subst (λ (x : Bytes). PartOfLine old w line (specified w.files) new (record { files = now.files; printed = x })) (sym is.1) (h.1, part_is w now is.0 h.0 h.2))
+        (world s k) m.files l.written o.written refused reports (IfSome_then l.written put (λ before is. (before ++ take is.0 (refusal line why), (is.0, refl), is.1)))

@@ -1,12 +1,13 @@
 -- One command of a run, and what stands after it.
-use Rattle.std.proofs.Common.{inl, inr, ℕ, zero, List, Option, Some, None, ◌≢◌, append-nil, refl, sym, arith}
+use Rattle.std.proofs.Common.{◌≡◌, ◌≤◌, inl, inr, ℕ, zero, List, [], Option, Some, None, ◌≢◌, append-nil, ◌++◌, take, subst, refl, sym, ◌∙◌, arith}
 use Rattle.std.specs.Prelude.{IfSome, IsSome}
-use Rattle.history_machine.specs.Machine.{World, Run, PartSent, EndsAs, Completes}
+use Rattle.history_machine.specs.Machine.{World, Run, PartSent, EndsAs, Completes, sent}
 use Rattle.plain_model.specs.declared.status.Status.{Status}
 use Rattle.plain_model.specs.declared.status.Status.TheVariants as status
 use Rattle.plain_model.proofs.Counts.{rose_before}
-use Rattle.surgeon_store.specs.Outside.{StoreState, SinkState, Reads}
-use Rattle.surgeon_session.specs.Calls.{world, Later, Caused, NoFaults}
+use Rattle.plain_model.specs.Files.{Files}
+use Rattle.surgeon_store.specs.Outside.{CountsNoFault, PutsSome, StoreState, SinkState, Reads}
+use Rattle.surgeon_session.specs.Calls.{world, world_of, Later, Caused, NoFaults, NoneFailed}
 
 -- what holds of two worlds, and of the second and a third
 pub joined : {P Q R : World → World → Type 0} (v0 v v' : Option World)
@@ -25,18 +26,30 @@ mapped None v' f h = tt
 mapped (Some a) None f h = tt
 mapped (Some a) (Some b) f h = f a b h
 
-pub caused_later : (s m n : StoreState) (k l o : SinkState) (r : Status) → Later s k m l → Caused m l r n o → Caused s k r n o
-caused_later s m n k l o status.SourceFault later h = rose_before s.read_faults m.read_faults n.read_faults later.read_faults h
-caused_later s m n k l o status.SinkFault later h = elim h [
+-- nothing was called
+pub none_failed : (s : StoreState) (k : SinkState) → NoneFailed s k s k
+none_failed s k = record { store = record { read_faults = refl; write_faults = refl }; faults = refl }
+
+pub none_counted : (a b c : StoreState) → CountsNoFault a b → CountsNoFault b c → CountsNoFault a c
+none_counted a b c first later = record { read_faults = later.read_faults ∙ first.read_faults; write_faults = later.write_faults ∙ first.write_faults }
+
+-- nor failed later
+pub none_failed_later : (s m n : StoreState) (k l o : SinkState) → NoneFailed s k m l → NoneFailed m l n o → NoneFailed s k n o
+none_failed_later s m n k l o a b = record { store = none_counted s m n a.store b.store; faults = b.faults ∙ a.faults }
+
+-- after calls of which none failed, and that counted no fewer misses
+pub caused_later : (s m n : StoreState) (k l o : SinkState) (r : Status) → NoneFailed s k m l → Later s k m l → Caused m l r n o → Caused s k r n o
+caused_later s m n k l o status.SourceFault well later h = rose_before s.read_faults m.read_faults n.read_faults later.read_faults h
+caused_later s m n k l o status.SinkFault well later h = elim h [
   | inl x ↦ inl (rose_before s.write_faults m.write_faults n.write_faults later.write_faults x)
   | inr x ↦ inr (rose_before k.faults l.faults o.faults later.faults x)
 ]
-caused_later s m n k l o status.NoScript later h = rose_before s.misses m.misses n.misses later.misses h
-caused_later s m n k l o status.Done later h = tt
-caused_later s m n k l o status.Refused later h = tt
-caused_later s m n k l o status.Usage later h = tt
-caused_later s m n k l o status.BadScript later h = tt
-caused_later s m n k l o status.Memory later h = tt
+caused_later s m n k l o status.NoScript well later h = (rose_before s.misses m.misses n.misses later.misses h.0, none_failed_later s m n k l o well h.1)
+caused_later s m n k l o status.Done well later h = none_failed_later s m n k l o well h
+caused_later s m n k l o status.Refused well later h = none_failed_later s m n k l o well h
+caused_later s m n k l o status.Usage well later h = none_failed_later s m n k l o well h
+caused_later s m n k l o status.BadScript well later h = none_failed_later s m n k l o well h
+caused_later s m n k l o status.Memory well later h = tt
 
 reports_later : (v w u : Option World) → IfSome v (λ x. IsSome w) → IfSome w (λ x. IsSome u) → IfSome v (λ x. IsSome u)
 reports_later None w u a b = tt
@@ -72,6 +85,10 @@ all_completes run s s' k k' r caused quiet enough h = mapped (world s k) (world 
 
 -- ---- worlds that stay
 
+-- nothing is sent
+pub quiet_world : (w : World) → w ≡ sent None [] w
+quiet_world w = λ i. record { files = w.files; printed = sym (append-nil w.printed) i }
+
 -- nothing of the bytes is sent
 pub no_part : (to : Option (List ℕ)) (bytes : List ℕ) (w : World) → PartSent to bytes w w
 no_part None bytes w = (zero, λ i. record { files = w.files; printed = sym (append-nil w.printed) i })
@@ -105,3 +122,19 @@ same_later s k = record {
   reports = still (world s k);
   finished = λ none. none;
 }
+
+-- what is printed only adds to the count of a sink
+pub printed_later : (s : StoreState) (k l : SinkState) (bytes : List ℕ) → PutsSome k bytes l → k.faults ≤ l.faults → Later s k s l
+printed_later s k l bytes put later = record {
+  read_faults = omega arith;
+  write_faults = omega arith;
+  misses = omega arith;
+  faults = later;
+  reports = by_parts s.files k.written l.written put;
+  finished = λ none. none;
+}
+  where
+    by_parts : (files : Option Files) (a b : Option (List ℕ)) → IfSome a (λ before. (n : ℕ) × (b ≡ Some (before ++ take n bytes))) → IfSome (world_of files a) (λ w. IsSome (world_of files b))
+    by_parts None a b h = tt
+    by_parts (Some f) None b h = tt
+    by_parts (Some f) (Some x) b (n, is) = subst (λ (y : Option (List ℕ)). IsSome (world_of (Some f) y)) (sym is) refl

@@ -1,9 +1,10 @@
 -- One line of a run over a session, and what is after it.
-use Rattle.std.proofs.Common.{◌≡◌, ℕ, zero, suc, ◌+◌, ◌≤◌, List, [], ◌∷◌, ◌++◌, Bool, true, false, Option, Result, Ok, Err, refl, sym, subst, arith}
+use Rattle.std.proofs.Common.{◌≡◌, ℕ, zero, suc, ◌+◌, ◌≤◌, List, [], ◌∷◌, ◌++◌, Bool, true, false, Option, None, Result, Ok, Err, refl, sym, subst, arith}
 use Rattle.std.specs.Prelude.{◌&&◌, ◌||◌, not, map, if◌then◌else◌}
+use Rattle.plain_model.specs.Faults.{refusal}
 use Rattle.plain_model.specs.Files.{Files}
 use Rattle.plain_model.specs.Paths.{Bytes}
-use Rattle.history_machine.specs.Machine.{World, Effect, Run, after, BreaksAfter, PartSent, SessionBreaks, SessionEndsAs, called_by, ended, passes_limit, effect_of, goes_on, status_after, with_first, run_on, files_after}
+use Rattle.history_machine.specs.Machine.{World, Effect, Run, after, BreaksAfter, PartSent, SessionBreaks, SessionEndsAs, called_by, ended, passes_limit, past, effect_of, goes_on, sent, status_after, with_first, run_on, files_after}
 use Rattle.history_machine.specs.declared.waiting.Waiting.{Waiting}
 use Rattle.plain_model.specs.declared.fault.Fault.{Fault}
 use Rattle.plain_model.specs.declared.status.Status.{Status}
@@ -12,12 +13,13 @@ use Rattle.script_lines.specs.declared.script.ScriptItem.{ScriptItem}
 use Rattle.script_lines.specs.declared.script.ScriptLine.{ScriptLine}
 use Rattle.history_machine.specs.Whole.{waiting_of}
 use Rattle.history_machine.proofs.Runs.{IsBreak}
-use Rattle.surgeon_session.specs.Calls.{Caused}
-use Rattle.surgeon_session.specs.Commands.{Carries, Refuses, status_of_line}
+use Rattle.surgeon_session.specs.Calls.{Caused, NoneFailed}
+use Rattle.surgeon_session.specs.Commands.{Carries, EndsLine, LineAgrees, LineReadsNoFile, ReadNoFile, Refuses, status_of_line}
 use Rattle.surgeon_session.specs.declared.line_end.Broken.{Broken}
 use Rattle.surgeon_session.specs.declared.line_end.Broken.TheVariants as broken
+use Rattle.surgeon_session.specs.declared.line_end.LineEnd.{LineEnd}
 use Rattle.surgeon_session.specs.declared.line_end.LineEnd.TheVariants as line_end
-use Rattle.surgeon_session.specs.Waits.{AreWithin, EndsPast}
+use Rattle.surgeon_session.specs.Waits.{AreWithin, EndsPast, IsPastEnd}
 use Rattle.surgeon_session.proofs.Rounds.{no_part}
 use Rattle.surgeon_store.specs.Outside.{StoreState, SinkState}
 
@@ -64,15 +66,15 @@ IsQuiet status.Usage = ⊥
 IsQuiet status.NoScript = ⊥
 IsQuiet status.BadScript = ⊥
 
-pub caused_quiet : (s s' : StoreState) (k k' : SinkState) (r : Status) → IsQuiet r → Caused s k r s' k'
-caused_quiet s s' k k' status.Done q = tt
-caused_quiet s s' k k' status.Refused q = tt
-caused_quiet s s' k k' status.SourceFault q = absurd q
-caused_quiet s s' k k' status.SinkFault q = absurd q
-caused_quiet s s' k k' status.Memory q = absurd q
-caused_quiet s s' k k' status.Usage q = absurd q
-caused_quiet s s' k k' status.NoScript q = absurd q
-caused_quiet s s' k k' status.BadScript q = absurd q
+pub caused_quiet : (s s' : StoreState) (k k' : SinkState) (r : Status) → IsQuiet r → NoneFailed s k s' k' → Caused s k r s' k'
+caused_quiet s s' k k' status.Done q well = well
+caused_quiet s s' k k' status.Refused q well = well
+caused_quiet s s' k k' status.SourceFault q well = absurd q
+caused_quiet s s' k k' status.SinkFault q well = absurd q
+caused_quiet s s' k k' status.Memory q well = absurd q
+caused_quiet s s' k k' status.Usage q well = absurd q
+caused_quiet s s' k k' status.NoScript q well = absurd q
+caused_quiet s s' k k' status.BadScript q well = absurd q
 
 -- nothing of what comes next is sent
 pub breaks_here : {X : Type 0} (ts : List (Effect X)) (w : World) → BreaksAfter zero ts w w
@@ -85,6 +87,14 @@ off_refused false limit is_last same stop = refl
 off_refused true true is_last same stop = refl
 off_refused true false true same stop = absurd cc
 off_refused true false false same stop = absurd cc
+
+-- a refusal after which the run goes on
+on_refused : (keep limit is_last : Bool) → (is_last || not keep) ≡ false → is_last ≡ limit → (keep && not limit) ≡ true
+on_refused true false false g e = refl
+on_refused true true false g e = absurd cc
+on_refused true limit true g e = absurd cc
+on_refused false limit true g e = absurd cc
+on_refused false limit false g e = absurd cc
 
 -- A run from here on, of which a first line is taken out to which this comes, where so many more may be run.
 module _ {X C : Type 0} (step : Option C → X → Files → ℕ → ScriptLine → Result (Effect X) Fault) (keep : Bool) (left : ℕ) (here : Option C) (more : List (Option C)) (so_far : Status) (s s' : X) (w now : World)
@@ -128,19 +138,12 @@ module _ {X C : Type 0} (step : Option C → X → Files → ℕ → ScriptLine 
         → SessionEndsAs whole r s w s'' last
     refused_goes_on is_last goes refused r s'' last h = at does refl refused.1
       where
-        on : (k l limit : Bool) → (l || not k) ≡ false → l ≡ limit → (k && not limit) ≡ true
-        on true false false g e = refl
-        on true false true g e = absurd cc
-        on true true limit g e = absurd cc
-        on false true limit g e = absurd cc
-        on false false limit g e = absurd cc
-
         at : (specified : Result (Effect X) Fault) → does ≡ specified → Refuses w next.line is_last specified now → SessionEndsAs whole r s w s'' last
         at (Ok t) e c = absurd c
         at (Err fault) e c =
             let t = effect_of s next.line (Err fault) in
             subst (λ specified. SessionEndsAs (from specified) r s w s'' last) (sym e)
-            (subst (λ b. SessionEndsAs (with_first next.what t (if b then run_on step keep left more status.Refused s w.files lines else ended status.Refused)) r s w s'' last) (sym (on keep is_last (passes_limit fault) goes c.0))
+            (subst (λ b. SessionEndsAs (with_first next.what t (if b then run_on step keep left more status.Refused s w.files lines else ended status.Refused)) r s w s'' last) (sym (on_refused keep (passes_limit fault) is_last goes c.0))
             (session_first next.what t (run_on step keep left more status.Refused s w.files lines) r s s'' w last
             (subst (λ (x : X). SessionEndsAs (run_on step keep left more status.Refused x w.files lines) r x (after w t) s'' last) refused.0
             (subst (λ (v : World). SessionEndsAs (run_on step keep left more status.Refused s' v.files lines) r s' v s'' last) c.1 h))))
@@ -177,6 +180,49 @@ module _ {X C : Type 0} (step : Option C → X → Files → ℕ → ScriptLine 
             )
         at (Err fault) e c = absurd c
 
+    -- ---- where no line reads a file
+
+    -- of such a run this line reads none
+    pub first_reads_none : ReadNoFile whole.ran → LineReadsNoFile next.what
+    first_reads_none none = none.0
+
+    -- nor do those after a line that is done
+    pub done_reads_none : (calls : List Bytes) → Carries calls w does s' now → ReadNoFile whole.ran
+        → ReadNoFile (run_on step keep left more so_far s' now.files (called_by next.line (next.depth + 1) calls ++ lines)).ran
+    done_reads_none calls carried none = at does refl carried none.1
+      where
+        rest : List Bytes → List Waiting
+        rest texts = called_by next.line (next.depth + 1) texts ++ lines
+
+        at : (specified : Result (Effect X) Fault) → does ≡ specified → Carries calls w specified s' now
+            → ReadNoFile (if goes_on keep does then run_on step keep left more (status_after so_far does) (effect_of s next.line does).session (files_after (effect_of s next.line does).to (effect_of s next.line does).bytes w.files)
+            (rest (effect_of s next.line does).calls) else ended status.Refused).ran
+            → ReadNoFile (run_on step keep left more so_far s' now.files (rest calls)).ran
+        at (Ok t) e c h =
+            let here = subst (λ (r : Result (Effect X) Fault). ReadNoFile (if goes_on keep r then run_on step keep left more (status_after so_far r) (effect_of s next.line r).session
+            (files_after (effect_of s next.line r).to (effect_of s next.line r).bytes w.files) (rest (effect_of s next.line r).calls) else ended status.Refused).ran) e h in
+            subst (λ (texts : List Bytes). ReadNoFile (run_on step keep left more so_far s' now.files (rest texts)).ran) c.2
+            (subst (λ (v : World). ReadNoFile (run_on step keep left more so_far s' v.files (rest t.calls)).ran) (sym c.1)
+            (subst (λ (x : X). ReadNoFile (run_on step keep left more so_far x (after w t).files (rest t.calls)).ran) (sym c.0) here))
+        at (Err fault) e c h = absurd c
+
+    -- nor those after a refusal
+    pub refused_reads_none : (is_last : Bool) → (is_last || not keep) ≡ false → (s' ≡ s) × Refuses w next.line is_last does now → ReadNoFile whole.ran
+        → ReadNoFile (run_on step keep left more status.Refused s' now.files lines).ran
+    refused_reads_none is_last goes refused none = at does refl refused.1 none.1
+      where
+        at : (specified : Result (Effect X) Fault) → does ≡ specified → Refuses w next.line is_last specified now
+            → ReadNoFile (if goes_on keep does then run_on step keep left more (status_after so_far does) (effect_of s next.line does).session (files_after (effect_of s next.line does).to (effect_of s next.line does).bytes w.files)
+            (called_by next.line (next.depth + 1) (effect_of s next.line does).calls ++ lines) else ended status.Refused).ran
+            → ReadNoFile (run_on step keep left more status.Refused s' now.files lines).ran
+        at (Ok t) e c h = absurd c
+        at (Err fault) e c h =
+            let here = subst (λ (r : Result (Effect X) Fault). ReadNoFile (if goes_on keep r then run_on step keep left more (status_after so_far r) (effect_of s next.line r).session
+            (files_after (effect_of s next.line r).to (effect_of s next.line r).bytes w.files) (called_by next.line (next.depth + 1) (effect_of s next.line r).calls ++ lines) else ended status.Refused).ran) e h in
+            let went = subst (λ b. ReadNoFile (if b then run_on step keep left more status.Refused s w.files lines else ended status.Refused).ran) (on_refused keep (passes_limit fault) is_last goes c.0) here in
+            subst (λ (v : World). ReadNoFile (run_on step keep left more status.Refused s' v.files lines).ran) (sym c.1)
+            (subst (λ (x : X). ReadNoFile (run_on step keep left more status.Refused x w.files lines).ran) (sym refused.0) went)
+
     -- no more lines may be run
     pub past_ends : (r : Status) → EndsPast next.line next.what r w now → SessionEndsAs (run_on step keep zero (here ∷ more) so_far s w.files (next ∷ lines)) r s w s now
     past_ends status.Refused h = (refl, (refl, h))
@@ -193,6 +239,27 @@ pub breaks_run : (how : Broken) → IsBreak (status_of_line (line_end.Broken how
 breaks_run broken.SourceFault = tt
 breaks_run broken.SinkFault = tt
 breaks_run broken.Memory = tt
+
+-- ---- the world that the machine gives
+
+-- a line that agrees with what is specified ends so in any world, with some world after it
+pub ends_in : {X : Type 0} (end : LineEnd) (s s' : X) (w : World) (line : ℕ) (specified : Result (Effect X) Fault) → LineAgrees end specified s s' → (now : World) × EndsLine end s w line specified s' now
+ends_in (line_end.Done calls) s s' w line (Ok t) h = (after w t, (h.0, refl, h.1))
+ends_in (line_end.Done calls) s s' w line (Err fault) h = absurd h
+ends_in (line_end.Refused is_last) s s' w line (Ok t) h = absurd h.1
+ends_in (line_end.Refused is_last) s s' w line (Err fault) h = (sent None (refusal line fault) w, (h.0, (h.1, refl)))
+ends_in (line_end.Broken how) s s' w line specified h = (w, (h, no_part (effect_of s line specified).to (effect_of s line specified).bytes w))
+
+-- the last line isn't run
+pub past_in : (line : ℕ) (what : ScriptLine) (r : Status) (w : World) → IsPastEnd r → (now : World) × EndsPast line what r w now
+past_in line what status.Refused w is = (sent None (refusal line (past what)) w, refl)
+past_in line what status.SinkFault w is = (w, no_part None (refusal line (past what)) w)
+past_in line what status.Memory w is = (w, no_part None (refusal line (past what)) w)
+past_in line what status.SourceFault w is = absurd is
+past_in line what status.Done w is = absurd is
+past_in line what status.Usage w is = absurd is
+past_in line what status.NoScript w is = absurd is
+past_in line what status.BadScript w is = absurd is
 
 -- ---- how deep lines are
 

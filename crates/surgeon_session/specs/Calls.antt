@@ -5,17 +5,34 @@ use Rattle.plain_model.specs.Files.{Files}
 use Rattle.plain_model.specs.Paths.{Bytes}
 use Rattle.plain_model.specs.declared.status.Status.{Status}
 use Rattle.plain_model.specs.declared.status.Status.TheVariants as status
-use Rattle.surgeon_store.specs.Outside.{StoreState, SinkState}
+use Rattle.surgeon_store.specs.Outside.{CountsNoFault, StoreState, SinkState}
 use Rattle.history_machine.specs.Machine.{World}
+
+-- ---- what is told
+
+-- something holds of what is told, and where nothing is told of something that might be
+abbrev pub AsTold : {A : Type 0} → Option A → (A → Type 0) → Type 0
+AsTold (Some x) P = P x
+AsTold {A} None P = (x : A) × P x
 
 -- ---- causes
 
--- a status that tells of the outside is one whose count rose
+-- no call of the store or of the sink failed
+pub record NoneFailed (s : StoreState) (k : SinkState) (s' : StoreState) (k' : SinkState) : Type 0 where
+  pub store : CountsNoFault s s'
+  pub faults : k'.faults ≡ k.faults
+
+-- A status that tells of a fault outside is one whose count rose. With any other, unless memory was out, no count of faults rose: what
+-- was counted is reported.
 abbrev pub Caused : StoreState → SinkState → Status → StoreState → SinkState → Type 0
 Caused s k status.SourceFault s' k' = Rose s.read_faults s'.read_faults
 Caused s k status.SinkFault s' k' = Rose s.write_faults s'.write_faults ⊎ Rose k.faults k'.faults
-Caused s k status.NoScript s' k' = Rose s.misses s'.misses
-Caused s k other s' k' = Unit {0}
+Caused s k status.Memory s' k' = Unit {0}
+Caused s k status.NoScript s' k' = Rose s.misses s'.misses × NoneFailed s k s' k'
+Caused s k status.Done s' k' = NoneFailed s k s' k'
+Caused s k status.Refused s' k' = NoneFailed s k s' k'
+Caused s k status.Usage s' k' = NoneFailed s k s' k'
+Caused s k status.BadScript s' k' = NoneFailed s k s' k'
 
 -- no count of faults rose
 abbrev pub NoFaults : StoreState → SinkState → StoreState → SinkState → Type 0

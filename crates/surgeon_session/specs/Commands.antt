@@ -1,4 +1,5 @@
 -- What one command does to a session and to the outside.
+use Rattle.std.specs.List.{AllByRecursion}
 use Rattle.std.specs.Prelude.{◌≡◌, ℕ, Bool, List, [], Option, None, Result, Ok, Err, OnErr}
 use Rattle.plain_model.specs.Faults.{refusal}
 use Rattle.plain_model.specs.Files.{Files}
@@ -14,9 +15,9 @@ use Rattle.script_lines.specs.declared.script.ScriptLine.{ScriptLine}
 use Rattle.script_lines.specs.declared.script.ScriptLine.TheVariants.{Define, Plain}
 use Rattle.script_reader.specs.Commands.{order_of}
 use Rattle.surgeon_store.specs.Outside.{StoreState, SinkState}
-use Rattle.history_machine.specs.Machine.{World, Effect, PartSent, after, passes_limit, sent, effect_of}
+use Rattle.history_machine.specs.Machine.{World, Effect, PartSent, Run, SessionEndsAs, after, passes_limit, sent, effect_of}
 use Rattle.history_machine.specs.Sessions.{Session}
-use Rattle.surgeon_session.specs.Calls.{Outcome}
+use Rattle.surgeon_session.specs.Calls.{AsTold, Outcome}
 use Rattle.surgeon_session.specs.Ends.{status_of}
 use Rattle.surgeon_session.specs.declared.halted.Halted.{Halted}
 use Rattle.surgeon_session.specs.declared.halted.Halted.TheVariants as halted
@@ -62,23 +63,25 @@ abbrev pub ReadsNoFile : Command → Type 0
 ReadsNoFile (command.Read file name) = ⊥
 ReadsNoFile other = Unit {0}
 
--- what is specified is done, in the session
-abbrev pub Leaves : {X : Type 0} → Result (Effect X) Fault → X → Type 0
-Leaves (Ok t) s' = s' ≡ t.session
-Leaves (Err fault) s' = ⊥
+-- what is specified is done, in the session, and these lines are run next
+abbrev pub Leaves : {X : Type 0} → List Bytes → Result (Effect X) Fault → X → Type 0
+Leaves calls (Ok t) s' = (s' ≡ t.session) × (t.calls ≡ calls)
+Leaves calls (Err fault) s' = ⊥
 
--- a command is done or refused as is specified, whatever is reported of the outside
-abbrev pub Agrees : {X Y : Type 0} → Result Y Halted → Result (Effect X) Fault → X → Type 0
-Agrees (Ok y) specified s' = Leaves specified s'
-Agrees (Err (halted.Refused fault)) specified s' = specified ≡ Err fault
-Agrees (Err other) specified s' = Unit {0}
+-- a command or a line is done or refused as is specified, whatever is reported of the outside
+abbrev pub Agrees : {X Y : Type 0} → (Y → List Bytes) → Result Y Halted → Result (Effect X) Fault → X → Type 0
+Agrees calls (Ok y) specified s' = Leaves (calls y) specified s'
+Agrees calls (Err (halted.Refused fault)) specified s' = specified ≡ Err fault
+Agrees calls (Err other) specified s' = Unit {0}
 
 -- What a command or a line does that ends so, where this is what is specified among files. Where the world is reported: that. Of every
--- store and sink: it is done or refused as is specified, unless it reads a file; and if it isn't done, the session is as it was.
+-- store and sink: it is done or refused as is specified of the files that the store tells, and where it tells none, of some that might be
+-- there; of any, unless it reads a file. If it isn't done, the session is as it was.
 pub record CarriesOut {Y : Type 0} (calls : Y → List Bytes) (s : StoreState) (k : SinkState) (old : Session) (reads_no_file : Type 0) (specified : Files → Result (Effect Session) Fault)
     (result : Result Y Halted) (new : Session) (s' : StoreState) (k' : SinkState) : Type 0 where
   pub outcome : Outcome (λ w now. Steps calls result old w (specified w.files) new now) s k (status_of result) s' k'
-  pub exact : reads_no_file → (files : Files) → Agrees result (specified files) new
+  pub told : AsTold s.files (λ files. Agrees calls result (specified files) new)
+  pub exact : reads_no_file → (files : Files) → Agrees calls result (specified files) new
   pub kept : OnErr result (new ≡ old)
 
 -- ---- one line of a run
@@ -106,6 +109,26 @@ status_of_line (line_end.Broken broken.SourceFault) = status.SourceFault
 status_of_line (line_end.Broken broken.SinkFault) = status.SinkFault
 status_of_line (line_end.Broken broken.Memory) = status.Memory
 
+-- ---- one line of a run, over every store
+
+-- a refusal is specified, and it ends the run whatever was asked for, or not
+abbrev pub RefusesAs : {X : Type 0} → Bool → Result (Effect X) Fault → Type 0
+RefusesAs is_last (Ok t) = ⊥
+RefusesAs is_last (Err fault) = is_last ≡ passes_limit fault
+
+-- a line is done or refused as is specified, and otherwise the session is as it was
+abbrev pub LineAgrees : {X : Type 0} → LineEnd → Result (Effect X) Fault → X → X → Type 0
+LineAgrees (line_end.Done calls) specified s s' = Leaves calls specified s'
+LineAgrees (line_end.Refused is_last) specified s s' = (s' ≡ s) × RefusesAs is_last specified
+LineAgrees (line_end.Broken how) specified s s' = s' ≡ s
+
+-- What a line of a run does that ends so, where this is what is specified among files. Where the world is reported: that. Of every store
+-- and sink: it is done or refused as is specified, unless it reads a file; and if it is broken off, the session is as it was.
+pub record RunsLine (s : StoreState) (k : SinkState) (old : Session) (line : ℕ) (reads_no_file : Type 0) (specified : Files → Result (Effect Session) Fault)
+    (result : LineEnd) (new : Session) (s' : StoreState) (k' : SinkState) : Type 0 where
+  pub outcome : Outcome (λ w now. EndsLine result old w line (specified w.files) new now) s k (status_of_line result) s' k'
+  pub exact : reads_no_file → (files : Files) → LineAgrees result (specified files) old new
+
 -- the command of a line, if it has one, is not `read`
 abbrev pub OrderReadsNoFile : Result Order Fault → Type 0
 OrderReadsNoFile (Ok (order.Step what)) = ReadsNoFile what
@@ -115,3 +138,15 @@ OrderReadsNoFile (Err fault) = Unit {0}
 abbrev pub LineReadsNoFile : ScriptLine → Type 0
 LineReadsNoFile (Plain text) = OrderReadsNoFile (order_of text)
 LineReadsNoFile (Define name body) = Unit {0}
+
+-- ---- a run
+
+abbrev pub ReadNoFile : List ScriptLine → Type 0
+ReadNoFile lines = AllByRecursion LineReadsNoFile lines
+
+-- What a run does that ends so, where this is the machine's among files. Where the world is reported: that. Of every store and sink: the
+-- session is as the machine says of any world, with its status, or after the lines before the one at which the run was broken off;
+-- unless one of its lines reads a file.
+pub record RunsOut (s : StoreState) (k : SinkState) (old : Session) (specified : Files → Run Session) (answer : Status) (new : Session) (s' : StoreState) (k' : SinkState) : Type 0 where
+  pub outcome : Outcome (λ w now. SessionEndsAs (specified w.files) answer old w new now) s k answer s' k'
+  pub exact : (w : World) → ReadNoFile (specified w.files).ran → (now : World) × SessionEndsAs (specified w.files) answer old w new now

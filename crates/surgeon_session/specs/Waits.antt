@@ -12,6 +12,13 @@ use Rattle.history_machine.specs.Machine.{PartSent, World, past, sent}
 abbrev pub AreWithin : ℕ → ℕ → List Waiting → Type 0
 AreWithin all left lines = AllByRecursion (λ w. w.depth + left ≤ all) lines
 
+-- how a run ends at the line that is one too many
+abbrev pub IsPastEnd : Status → Type 0
+IsPastEnd status.Refused = Unit {0}
+IsPastEnd status.SinkFault = Unit {0}
+IsPastEnd status.Memory = Unit {0}
+IsPastEnd other = ⊥
+
 -- the refusal of such a line is printed, or a first part of it
 abbrev pub EndsPast : ℕ → ScriptLine → Status → World → World → Type 0
 EndsPast line what status.Refused w now = now ≡ sent None (refusal line (past what)) w

@@ -3,20 +3,21 @@ ghost use Rattle.std.specs.Prelude.{◌≡◌, ◌||◌, not, ◌≤◌, IfSome,
 ghost use Rattle.plain_model.specs.Counts.{Rose};
 ghost use Rattle.plain_model.specs.Faults.{refusal};
 ghost use Rattle.plain_model.specs.Files.{Files};
-ghost use Rattle.history_machine.specs.Machine.{SessionEndsAs, passes_limit, past, run_on};
+ghost use Rattle.history_machine.specs.Machine.{passes_limit, past, run_on};
 ghost use Rattle.history_machine.specs.Sessions.{line_step, ordered};
 ghost use Rattle.history_machine.specs.Whole.{run_from};
-ghost use Rattle.surgeon_session.specs.Calls.{Caused, Later, Outcome, world};
+ghost use Rattle.surgeon_session.specs.Calls.{Caused, Later, world};
 ghost use Rattle.surgeon_session.specs.Commands.{
   CarriesOut,
   LineReadsNoFile,
   OrderReadsNoFile,
-  EndsLine,
+  RunsLine,
+  RunsOut,
   status_of_line,
 };
 ghost use Rattle.surgeon_session.specs.Denials.{Under, UnderAll};
 ghost use Rattle.surgeon_session.specs.Ends.{IsEnd};
-ghost use Rattle.surgeon_session.specs.Waits.{AreWithin, EndsPast};
+ghost use Rattle.surgeon_session.specs.Waits.{AreWithin, EndsPast, IsPastEnd};
 ghost use Rattle.surgeon_session.specs.declared.line_end.LineEnd.TheVariants as line_end;
 ghost use Rattle.surgeon_store.specs.Outside.{Puts, PutsSome, StoreState};
 
@@ -101,6 +102,7 @@ fn print_refusal<T: Sink>(
     ensures later { (T.state out.old).faults ≤ (T.state out.new).faults }
     ensures failed { IsErrOf result WriteEnd.SinkFault
         → Rose (T.state out.old).faults (T.state out.new).faults }
+    ensures quiet { OnOk result ((T.state out.new).faults ≡ (T.state out.old).faults) }
 {
     match fault.refusal(alloc, line) {
         Ok(text) => write_all(out, text.as_slice()),
@@ -128,12 +130,11 @@ fn run_line<S: Store, T: Sink, P: Patterns>(
     patterns: &mut P,
 ) -> LineEnd
     requires { next.depth ≤ MAX_COMMANDS }
-    ensures outcome { Under (P.sizes patterns.old) (P.sizes patterns.new)
-        (λ denial. Outcome
-        (λ w now. EndsLine result session.old w next.line
-        (line_step denial session.old w.files next.depth next.what) session.new now)
-        (S.state store.old) (T.state out.old) (status_of_line result)
-        (S.state store.new) (T.state out.new)) }
+    ensures runs { Under (P.sizes patterns.old) (P.sizes patterns.new)
+        (λ denial. RunsLine (S.state store.old) (T.state out.old) session.old next.line
+        (LineReadsNoFile next.what)
+        (λ files. line_step denial session.old files next.depth next.what)
+        result session.new (S.state store.new) (T.state out.new)) }
     ensures grows { P.sizes patterns.old ≤ P.sizes patterns.new }
 {
     let line = next.line;
@@ -173,6 +174,7 @@ fn refuse_past<T: Sink>(alloc: Global, out: &mut T, next: &Waiting) -> Status
     ensures caused { (s : StoreState) → Caused s (T.state out.old) result s (T.state out.new) }
     ensures later { (s : StoreState) → Later s (T.state out.old) s (T.state out.new) }
     ensures ends { IsEnd result }
+    ensures past { IsPastEnd result }
 {
     match print_refusal(alloc, out, next.line, &past(&next.what)) {
         Ok(()) => Status::Refused,
@@ -210,12 +212,10 @@ fn run_lines<S: Store, T: Sink, P: Patterns>(
     patterns: &mut P,
 ) -> Status
     requires { AreWithin MAX_COMMANDS MAX_COMMANDS lines }
-    ensures outcome { UnderAll (P.sizes patterns.old) (P.sizes patterns.new)
-        (λ denials. Outcome
-        (λ w now. SessionEndsAs
-        (run_on line_step keep_going MAX_COMMANDS denials Status.Done session.old w.files lines)
-        result session.old w session.new now)
-        (S.state store.old) (T.state out.old) result (S.state store.new) (T.state out.new)) }
+    ensures runs { UnderAll (P.sizes patterns.old) (P.sizes patterns.new)
+        (λ denials. RunsOut (S.state store.old) (T.state out.old) session.old
+        (λ files. run_on line_step keep_going MAX_COMMANDS denials Status.Done session.old files lines)
+        result session.new (S.state store.new) (T.state out.new)) }
     ensures grows { P.sizes patterns.old ≤ P.sizes patterns.new }
     ensures ends { IsEnd result }
 {
@@ -256,11 +256,10 @@ impl Session {
         out: &mut T,
         patterns: &mut P,
     ) -> Status
-        ensures outcome { UnderAll (P.sizes patterns.old) (P.sizes patterns.new)
-            (λ denials. Outcome
-            (λ w now. SessionEndsAs (run_from denials self.old w.files script.now keep_going) result
-            self.old w self.new now)
-            (S.state store.old) (T.state out.old) result (S.state store.new) (T.state out.new)) }
+        ensures runs { UnderAll (P.sizes patterns.old) (P.sizes patterns.new)
+            (λ denials. RunsOut (S.state store.old) (T.state out.old) self.old
+            (λ files. run_from denials self.old files script.now keep_going)
+            result self.new (S.state store.new) (T.state out.new)) }
         ensures grows { P.sizes patterns.old ≤ P.sizes patterns.new }
 
         // A run of a script never ends with Usage, NoScript or BadScript.

@@ -19,7 +19,13 @@ ghost use Rattle.surgeon_session.specs.Denials.{Under};
 ghost use Rattle.plain_model.specs.Faults.{Returns};
 ghost use Rattle.surgeon_session.specs.Entries.{AreLiveIn};
 ghost use Rattle.surgeon_session.specs.LoadLists.{all_in};
-ghost use Rattle.surgeon_session.specs.Pieces.{StopsNear, bytes_read, refused};
+ghost use Rattle.surgeon_session.specs.Pieces.{
+  CountsMissOf,
+  LeavesNothing,
+  StopsNear,
+  bytes_read,
+  refused,
+};
 
 mod loading;
 mod showing;
@@ -186,6 +192,10 @@ impl Session {
             result self.new (S.state store.new) (T.state out.new) }
         ensures near { StopsNear (bytes_read (S.state store.old).files command.now) (refused result)
             (S.state store.new).rest }
+        ensures whole { OnOk result (LeavesNothing (bytes_read (S.state store.old).files command.now)
+            (S.state store.new).rest) }
+        ensures missed { CountsMissOf command.now (refused result) (S.state store.old)
+            (S.state store.new) }
     {
         match command {
             Command::Read { file, name } => Ok(self.read(store, file, name)?),
@@ -222,9 +232,16 @@ impl Session {
             (ReadsNoFile command.now) (λ files. step denial self.old files command.now)
             result self.new (S.state store.new) (T.state out.new)) }
 
-        // A refused `read` takes at most one piece of the file past the line that is refused.
+        // A refused `read` takes at most one piece of the file past the line that is refused, and no byte past the limit but the one
+        // that shows that the file is too long. One that is done takes all of it.
         ensures near { StopsNear (bytes_read (S.state store.old).files command.now) (refused result)
             (S.state store.new).rest }
+        ensures whole { OnOk result (LeavesNothing (bytes_read (S.state store.old).files command.now)
+            (S.state store.new).rest) }
+
+        // A `read` that is refused since its file is missing has looked for it.
+        ensures missed { CountsMissOf command.now (refused result) (S.state store.old)
+            (S.state store.new) }
         ensures grows { P.sizes patterns.old ≤ P.sizes patterns.new }
     {
         let subject = self.ready(command, patterns)?;

@@ -6,12 +6,12 @@ use Rattle.byte_patterns.specs.Judging.{Denial}
 use Rattle.history_machine.specs.Machine.{SessionEndsAs, World, run_on}
 use Rattle.history_machine.specs.Sessions.{Session, line_step}
 use Rattle.surgeon_session.specs.Calls.{world}
-use Rattle.surgeon_session.specs.Commands.{status_of_line}
+use Rattle.surgeon_session.specs.Commands.{ReadNoFile, status_of_line}
 use Rattle.surgeon_session.specs.Waits.{AreWithin}
 use Rattle.surgeon_session.specs.declared.line_end.LineEnd.TheVariants as line_end
-use Rattle.surgeon_session.proofs.Denying.{counted_more, no_more, one_by_one}
-use Rattle.surgeon_session.proofs.Rounds.{caused_later, joined, later_later, mapped, same_later, same_world}
-use Rattle.surgeon_session.proofs.SessionRounds.{breaks_run, caused_quiet, done_goes_on, line_breaks, memory_after, no_lines, past_ends, refused_goes_on, refused_stops, within_after, within_rest}
+use Rattle.surgeon_session.proofs.Denying.{all_at_once, counted_more, no_more, one_by_one, with_none}
+use Rattle.surgeon_session.proofs.Rounds.{caused_later, joined, later_later, none_failed, none_failed_later, mapped, same_later, same_world}
+use Rattle.surgeon_session.proofs.SessionRounds.{breaks_run, caused_quiet, done_goes_on, done_reads_none, ends_in, first_reads_none, line_breaks, memory_after, no_lines, past_ends, past_in, refused_goes_on, refused_reads_none, refused_stops, within_after, within_rest}
 use Rattle.surgeon_session.proofs.run.run_lines.Goals as goal
 
 pub loop-next-init : goal.loop-next-init
@@ -20,25 +20,29 @@ loop-next-init g c =
     let k = g.T.Sink.state c.args.out.now in
     record {
       later = same_later s k;
+      well = none_failed s k;
       grows = omega arith;
       quiet = tt;
       within = c.requires;
-      prescribed = (
+      runs = (
         [],
         tt,
-        same_world (λ w0 w. (more : List (Option Denial)) (r : Status) (after : Session) (now : World)
-            → SessionEndsAs (run_on line_step c.args.keep_going MAX_COMMANDS more status.Done c.args.session.now w.files c.args.lines) r c.args.session.now w after now
-            → SessionEndsAs (run_on line_step c.args.keep_going MAX_COMMANDS more status.Done c.args.session.now w0.files c.args.lines) r c.args.session.now w0 after now)
-            (world s k) (λ w more r after now h. h),
+        (
+          same_world (λ w0 w. (more : List (Option Denial)) (r : Status) (after : Session) (now : World)
+              → SessionEndsAs (run_on line_step c.args.keep_going MAX_COMMANDS more status.Done c.args.session.now w.files c.args.lines) r c.args.session.now w after now
+              → SessionEndsAs (run_on line_step c.args.keep_going MAX_COMMANDS more status.Done c.args.session.now w0.files c.args.lines) r c.args.session.now w0 after now)
+              (world s k) (λ w more r after now h. h),
+          λ w0 more none. (w0, none, λ r after now h. h),
+        ),
       );
     }
 
-pub returns-then-left-eq0-clause-outcome : goal.returns-then-left-eq0-clause-outcome
-returns-then-left-eq0-clause-outcome g c =
+pub returns-then-left-eq0-clause-runs : goal.returns-then-left-eq0-clause-runs
+returns-then-left-eq0-clause-runs g c =
     let s = g.S.Store.state in
     let k = g.T.Sink.state in
     let known = c.loop-next.invariant in
-    let p = known.prescribed in
+    let p = known.runs in
     let so_far = c.loop-next.so_far in
     let next = c.in-Some.next in
     let rest = c.take.new.self in
@@ -50,21 +54,30 @@ returns-then-left-eq0-clause-outcome g c =
       p.0 ++ None ∷ [],
       counted_more n n' n' p.0 None known.grows (omega arith) p.1 (λ sized. absurd cc),
       record {
-        prescribed = joined (world (s c.args.store.now) (k c.args.out.now)) (world here (k c.loop-next.out)) (world here (k c.refuse_past.new.out)) known.later.reports p.2 (c.refuse_past.ensures.prescribed here)
-            (λ a b d p q. p (None ∷ []) c.refuse_past.result c.loop-next.session d (rw (cut, none) (past_ends line_step c.args.keep_going 0 None [] so_far c.loop-next.session c.loop-next.session b d next rest c.refuse_past.result q)));
-        caused = caused_later (s c.args.store.now) here here (k c.args.out.now) (k c.loop-next.out) (k c.refuse_past.new.out) c.refuse_past.result known.later (c.refuse_past.ensures.caused here);
-        later = later_later (s c.args.store.now) here here (k c.args.out.now) (k c.loop-next.out) (k c.refuse_past.new.out) known.later (c.refuse_past.ensures.later here);
+        outcome = record {
+          prescribed = joined (world (s c.args.store.now) (k c.args.out.now)) (world here (k c.loop-next.out)) (world here (k c.refuse_past.new.out)) known.later.reports p.2.0 (c.refuse_past.ensures.prescribed here)
+              (λ a b d p q. p (None ∷ []) c.refuse_past.result c.loop-next.session d (rw (cut, none) (past_ends line_step c.args.keep_going 0 None [] so_far c.loop-next.session c.loop-next.session b d next rest c.refuse_past.result q)));
+          caused = caused_later (s c.args.store.now) here here (k c.args.out.now) (k c.loop-next.out) (k c.refuse_past.new.out) c.refuse_past.result known.well known.later (c.refuse_past.ensures.caused here);
+          later = later_later (s c.args.store.now) here here (k c.args.out.now) (k c.loop-next.out) (k c.refuse_past.new.out) known.later (c.refuse_past.ensures.later here);
+        };
+        exact = λ w0 reads.
+            let at = p.2.1 w0 (None ∷ []) reads in
+            let last = past_in next.line next.what c.refuse_past.result at.0 c.refuse_past.ensures.past in (
+              last.0,
+              at.2 c.refuse_past.result c.loop-next.session last.0
+                  (rw (cut, none) (past_ends line_step c.args.keep_going 0 None [] so_far c.loop-next.session c.loop-next.session at.0 last.0 next rest c.refuse_past.result last.1)),
+            );
       },
     )
 
-pub returns-in-Err-clause-outcome : goal.returns-in-Err-clause-outcome
-returns-in-Err-clause-outcome g c =
+pub returns-in-Err-clause-runs : goal.returns-in-Err-clause-runs
+returns-in-Err-clause-runs g c =
     let s = g.S.Store.state in
     let k = g.T.Sink.state in
     let n = g.P.Patterns.sizes in
     let known = c.loop-next.invariant in
-    let p = known.prescribed in
-    let q = c.in-Done.ensures.outcome in
+    let p = known.runs in
+    let q = c.in-Done.ensures.runs in
     let so_far = c.loop-next.so_far in
     let next = c.in-Some.next in
     let rest = c.take.new.self in
@@ -76,15 +89,22 @@ returns-in-Err-clause-outcome g c =
     let v0 = world (s c.args.store.now) (k c.args.out.now) in
     let v1 = world (s c.loop-next.store) (k c.loop-next.out) in
     let v2 = world (s c.run_line.new.store) (k c.run_line.new.out) in
-    let later = later_later (s c.args.store.now) (s c.loop-next.store) (s c.run_line.new.store) (k c.args.out.now) (k c.loop-next.out) (k c.run_line.new.out) known.later q.2.later in
+    let later = later_later (s c.args.store.now) (s c.loop-next.store) (s c.run_line.new.store) (k c.args.out.now) (k c.loop-next.out) (k c.run_line.new.out) known.later q.2.outcome.later in
     let counted = counted_more (n c.args.patterns.now) (n c.loop-next.patterns) (n c.run_line.new.patterns) p.0 q.0 known.grows c.run_line.ensures.grows p.1 q.1 in (
       p.0 ++ q.0 ∷ [],
       counted,
       record {
-        prescribed = joined v0 v1 v2 known.later.reports p.2 q.2.prescribed
-            (λ a b d before here. before (q.0 ∷ []) status.Memory new d (rw (cut, more) (memory_after line_step keep (c.loop-next.left - 1) q.0 [] so_far old new b d next rest c.in-Done.calls here)));
-        caused = tt;
-        later = later;
+        outcome = record {
+          prescribed = joined v0 v1 v2 known.later.reports p.2.0 q.2.outcome.prescribed
+              (λ a b d before here. before (q.0 ∷ []) status.Memory new d (rw (cut, more) (memory_after line_step keep (c.loop-next.left - 1) q.0 [] so_far old new b d next rest c.in-Done.calls here)));
+          caused = tt;
+          later = later;
+        };
+        exact = λ w0 none.
+            let at = rw (cut, more) at (p.2.1 w0 (q.0 ∷ []) none) in
+            let here = at.1 in
+            let line = ends_in (line_end.Done c.in-Done.calls) old new at.0 next.line (line_step q.0 old at.0.files next.depth next.what) (q.2.exact (first_reads_none line_step keep (c.loop-next.left - 1) q.0 [] so_far old new at.0 at.0 next rest here) at.0.files) in
+            (line.0, at.2 status.Memory new line.0 (memory_after line_step keep (c.loop-next.left - 1) q.0 [] so_far old new at.0 line.0 next rest c.in-Done.calls line.1));
       },
     )
 
@@ -94,8 +114,8 @@ loop-next-preserved-in-Ok g c =
     let k = g.T.Sink.state in
     let n = g.P.Patterns.sizes in
     let known = c.loop-next.invariant in
-    let p = known.prescribed in
-    let q = c.in-Done.ensures.outcome in
+    let p = known.runs in
+    let q = c.in-Done.ensures.runs in
     let so_far = c.loop-next.so_far in
     let next = c.in-Some.next in
     let rest = c.take.new.self in
@@ -107,31 +127,44 @@ loop-next-preserved-in-Ok g c =
     let v0 = world (s c.args.store.now) (k c.args.out.now) in
     let v1 = world (s c.loop-next.store) (k c.loop-next.out) in
     let v2 = world (s c.run_line.new.store) (k c.run_line.new.out) in
-    let later = later_later (s c.args.store.now) (s c.loop-next.store) (s c.run_line.new.store) (k c.args.out.now) (k c.loop-next.out) (k c.run_line.new.out) known.later q.2.later in
+    let later = later_later (s c.args.store.now) (s c.loop-next.store) (s c.run_line.new.store) (k c.args.out.now) (k c.loop-next.out) (k c.run_line.new.out) known.later q.2.outcome.later in
     let counted = counted_more (n c.args.patterns.now) (n c.loop-next.patterns) (n c.run_line.new.patterns) p.0 q.0 known.grows c.run_line.ensures.grows p.1 q.1 in
     record {
       later = later;
+      well = none_failed_later (s c.args.store.now) (s c.loop-next.store) (s c.run_line.new.store) (k c.args.out.now) (k c.loop-next.out) (k c.run_line.new.out) known.well q.2.outcome.caused;
       grows = omega (arith, known.grows, c.run_line.ensures.grows);
       quiet = known.quiet;
       within = rw c.in-Ok.ensures (within_after MAX_COMMANDS (c.loop-next.left - 1) next c.in-Done.calls rest (subst (λ n. AreWithin MAX_COMMANDS n (next ∷ rest)) more (subst (AreWithin MAX_COMMANDS c.loop-next.left) cut known.within)));
-      prescribed = (
+      runs = (
         p.0 ++ q.0 ∷ [],
         counted,
-        joined v0 v1 v2 known.later.reports p.2 q.2.prescribed
-            (λ a b d before here others r after now h.
-            one_by_one (λ denials. SessionEndsAs (run_on line_step keep MAX_COMMANDS denials status.Done c.args.session.now a.files c.args.lines) r c.args.session.now a after now) p.0 q.0 others
-            (before (q.0 ∷ others) r after now (rw (cut, more) (done_goes_on line_step keep (c.loop-next.left - 1) q.0 others so_far old new b d next rest c.in-Done.calls here r after now (rw c.in-Ok.ensures at h))))),
+        (
+          joined v0 v1 v2 known.later.reports p.2.0 q.2.outcome.prescribed
+              (λ a b d before here others r after now h.
+              one_by_one (λ denials. SessionEndsAs (run_on line_step keep MAX_COMMANDS denials status.Done c.args.session.now a.files c.args.lines) r c.args.session.now a after now) p.0 q.0 others
+              (before (q.0 ∷ others) r after now (rw (cut, more) (done_goes_on line_step keep (c.loop-next.left - 1) q.0 others so_far old new b d next rest c.in-Done.calls here r after now (rw c.in-Ok.ensures at h))))),
+          λ w0 others none.
+              let at = p.2.1 w0 (q.0 ∷ others) (all_at_once (λ denials. ReadNoFile (run_on line_step keep MAX_COMMANDS denials status.Done c.args.session.now w0.files c.args.lines).ran) p.0 q.0 others none) in
+              let here = rw (cut, more) at at.1 in
+              let line = ends_in (line_end.Done c.in-Done.calls) old new at.0 next.line (line_step q.0 old at.0.files next.depth next.what) (q.2.exact (first_reads_none line_step keep (c.loop-next.left - 1) q.0 others so_far old new at.0 at.0 next rest here) at.0.files) in (
+                line.0,
+                rw c.in-Ok.ensures (done_reads_none line_step keep (c.loop-next.left - 1) q.0 others so_far old new at.0 line.0 next rest c.in-Done.calls line.1 here),
+                λ r after now h.
+                    one_by_one (λ denials. SessionEndsAs (run_on line_step keep MAX_COMMANDS denials status.Done c.args.session.now w0.files c.args.lines) r c.args.session.now w0 after now) p.0 q.0 others
+                    (at.2 r after now (rw (cut, more) (done_goes_on line_step keep (c.loop-next.left - 1) q.0 others so_far old new at.0 line.0 next rest c.in-Done.calls line.1 r after now (rw c.in-Ok.ensures at h)))),
+              ),
+        ),
       );
     }
 
-pub returns-then-is_stop-clause-outcome : goal.returns-then-is_stop-clause-outcome
-returns-then-is_stop-clause-outcome g c =
+pub returns-then-is_stop-clause-runs : goal.returns-then-is_stop-clause-runs
+returns-then-is_stop-clause-runs g c =
     let s = g.S.Store.state in
     let k = g.T.Sink.state in
     let n = g.P.Patterns.sizes in
     let known = c.loop-next.invariant in
-    let p = known.prescribed in
-    let q = c.in-Refused.ensures.outcome in
+    let p = known.runs in
+    let q = c.in-Refused.ensures.runs in
     let so_far = c.loop-next.so_far in
     let next = c.in-Some.next in
     let rest = c.take.new.self in
@@ -143,16 +176,23 @@ returns-then-is_stop-clause-outcome g c =
     let v0 = world (s c.args.store.now) (k c.args.out.now) in
     let v1 = world (s c.loop-next.store) (k c.loop-next.out) in
     let v2 = world (s c.run_line.new.store) (k c.run_line.new.out) in
-    let later = later_later (s c.args.store.now) (s c.loop-next.store) (s c.run_line.new.store) (k c.args.out.now) (k c.loop-next.out) (k c.run_line.new.out) known.later q.2.later in
+    let later = later_later (s c.args.store.now) (s c.loop-next.store) (s c.run_line.new.store) (k c.args.out.now) (k c.loop-next.out) (k c.run_line.new.out) known.later q.2.outcome.later in
     let counted = counted_more (n c.args.patterns.now) (n c.loop-next.patterns) (n c.run_line.new.patterns) p.0 q.0 known.grows c.run_line.ensures.grows p.1 q.1 in
     let stop : (c.in-Refused.is_last || not keep) ≡ true = sym c.is_stop.ensures ∙ c.if-is_stop.true in (
       p.0 ++ q.0 ∷ [],
       counted,
       record {
-        prescribed = joined v0 v1 v2 known.later.reports p.2 q.2.prescribed
-            (λ a b d before here. before (q.0 ∷ []) status.Refused new d (rw (cut, more) (refused_stops line_step keep (c.loop-next.left - 1) q.0 [] so_far old new b d next rest c.in-Refused.is_last stop here)));
-        caused = tt;
-        later = later;
+        outcome = record {
+          prescribed = joined v0 v1 v2 known.later.reports p.2.0 q.2.outcome.prescribed
+              (λ a b d before here. before (q.0 ∷ []) status.Refused new d (rw (cut, more) (refused_stops line_step keep (c.loop-next.left - 1) q.0 [] so_far old new b d next rest c.in-Refused.is_last stop here)));
+          caused = none_failed_later (s c.args.store.now) (s c.loop-next.store) (s c.run_line.new.store) (k c.args.out.now) (k c.loop-next.out) (k c.run_line.new.out) known.well q.2.outcome.caused;
+          later = later;
+        };
+        exact = λ w0 none.
+            let at = rw (cut, more) at (p.2.1 w0 (q.0 ∷ []) none) in
+            let here = at.1 in
+            let line = ends_in (line_end.Refused c.in-Refused.is_last) old new at.0 next.line (line_step q.0 old at.0.files next.depth next.what) (q.2.exact (first_reads_none line_step keep (c.loop-next.left - 1) q.0 [] so_far old new at.0 at.0 next rest here) at.0.files) in
+            (line.0, at.2 status.Refused new line.0 (refused_stops line_step keep (c.loop-next.left - 1) q.0 [] so_far old new at.0 line.0 next rest c.in-Refused.is_last stop line.1));
       },
     )
 
@@ -162,8 +202,8 @@ loop-next-preserved g c =
     let k = g.T.Sink.state in
     let n = g.P.Patterns.sizes in
     let known = c.loop-next.invariant in
-    let p = known.prescribed in
-    let q = c.in-Refused.ensures.outcome in
+    let p = known.runs in
+    let q = c.in-Refused.ensures.runs in
     let so_far = c.loop-next.so_far in
     let next = c.in-Some.next in
     let rest = c.take.new.self in
@@ -175,32 +215,45 @@ loop-next-preserved g c =
     let v0 = world (s c.args.store.now) (k c.args.out.now) in
     let v1 = world (s c.loop-next.store) (k c.loop-next.out) in
     let v2 = world (s c.run_line.new.store) (k c.run_line.new.out) in
-    let later = later_later (s c.args.store.now) (s c.loop-next.store) (s c.run_line.new.store) (k c.args.out.now) (k c.loop-next.out) (k c.run_line.new.out) known.later q.2.later in
+    let later = later_later (s c.args.store.now) (s c.loop-next.store) (s c.run_line.new.store) (k c.args.out.now) (k c.loop-next.out) (k c.run_line.new.out) known.later q.2.outcome.later in
     let counted = counted_more (n c.args.patterns.now) (n c.loop-next.patterns) (n c.run_line.new.patterns) p.0 q.0 known.grows c.run_line.ensures.grows p.1 q.1 in
     let goes : (c.in-Refused.is_last || not keep) ≡ false = sym c.is_stop.ensures ∙ c.if-is_stop.false in
     record {
       later = later;
+      well = none_failed_later (s c.args.store.now) (s c.loop-next.store) (s c.run_line.new.store) (k c.args.out.now) (k c.loop-next.out) (k c.run_line.new.out) known.well q.2.outcome.caused;
       grows = omega (arith, known.grows, c.run_line.ensures.grows);
       quiet = tt;
       within = within_rest MAX_COMMANDS (c.loop-next.left - 1) next rest (subst (λ n. AreWithin MAX_COMMANDS n (next ∷ rest)) more (subst (AreWithin MAX_COMMANDS c.loop-next.left) cut known.within));
-      prescribed = (
+      runs = (
         p.0 ++ q.0 ∷ [],
         counted,
-        joined v0 v1 v2 known.later.reports p.2 q.2.prescribed
-            (λ a b d before here others r after now h.
-            one_by_one (λ denials. SessionEndsAs (run_on line_step keep MAX_COMMANDS denials status.Done c.args.session.now a.files c.args.lines) r c.args.session.now a after now) p.0 q.0 others
-            (before (q.0 ∷ others) r after now (rw (cut, more) (refused_goes_on line_step keep (c.loop-next.left - 1) q.0 others so_far old new b d next rest c.in-Refused.is_last goes here r after now h)))),
+        (
+          joined v0 v1 v2 known.later.reports p.2.0 q.2.outcome.prescribed
+              (λ a b d before here others r after now h.
+              one_by_one (λ denials. SessionEndsAs (run_on line_step keep MAX_COMMANDS denials status.Done c.args.session.now a.files c.args.lines) r c.args.session.now a after now) p.0 q.0 others
+              (before (q.0 ∷ others) r after now (rw (cut, more) (refused_goes_on line_step keep (c.loop-next.left - 1) q.0 others so_far old new b d next rest c.in-Refused.is_last goes here r after now h)))),
+          λ w0 others none.
+              let at = p.2.1 w0 (q.0 ∷ others) (all_at_once (λ denials. ReadNoFile (run_on line_step keep MAX_COMMANDS denials status.Done c.args.session.now w0.files c.args.lines).ran) p.0 q.0 others none) in
+              let here = rw (cut, more) at at.1 in
+              let line = ends_in (line_end.Refused c.in-Refused.is_last) old new at.0 next.line (line_step q.0 old at.0.files next.depth next.what) (q.2.exact (first_reads_none line_step keep (c.loop-next.left - 1) q.0 others so_far old new at.0 at.0 next rest here) at.0.files) in (
+                line.0,
+                refused_reads_none line_step keep (c.loop-next.left - 1) q.0 others so_far old new at.0 line.0 next rest c.in-Refused.is_last goes line.1 here,
+                λ r after now h.
+                    one_by_one (λ denials. SessionEndsAs (run_on line_step keep MAX_COMMANDS denials status.Done c.args.session.now w0.files c.args.lines) r c.args.session.now w0 after now) p.0 q.0 others
+                    (at.2 r after now (rw (cut, more) (refused_goes_on line_step keep (c.loop-next.left - 1) q.0 others so_far old new at.0 line.0 next rest c.in-Refused.is_last goes line.1 r after now h))),
+              ),
+        ),
       );
     }
 
-pub returns-in-Broken-clause-outcome : goal.returns-in-Broken-clause-outcome
-returns-in-Broken-clause-outcome g c =
+pub returns-in-Broken-clause-runs : goal.returns-in-Broken-clause-runs
+returns-in-Broken-clause-runs g c =
     let s = g.S.Store.state in
     let k = g.T.Sink.state in
     let n = g.P.Patterns.sizes in
     let known = c.loop-next.invariant in
-    let p = known.prescribed in
-    let q = c.in-Broken.ensures.outcome in
+    let p = known.runs in
+    let q = c.in-Broken.ensures.runs in
     let so_far = c.loop-next.so_far in
     let next = c.in-Some.next in
     let rest = c.take.new.self in
@@ -212,34 +265,49 @@ returns-in-Broken-clause-outcome g c =
     let v0 = world (s c.args.store.now) (k c.args.out.now) in
     let v1 = world (s c.loop-next.store) (k c.loop-next.out) in
     let v2 = world (s c.run_line.new.store) (k c.run_line.new.out) in
-    let later = later_later (s c.args.store.now) (s c.loop-next.store) (s c.run_line.new.store) (k c.args.out.now) (k c.loop-next.out) (k c.run_line.new.out) known.later q.2.later in
+    let later = later_later (s c.args.store.now) (s c.loop-next.store) (s c.run_line.new.store) (k c.args.out.now) (k c.loop-next.out) (k c.run_line.new.out) known.later q.2.outcome.later in
     let counted = counted_more (n c.args.patterns.now) (n c.loop-next.patterns) (n c.run_line.new.patterns) p.0 q.0 known.grows c.run_line.ensures.grows p.1 q.1 in
     let how = c.in-Broken.how in
     rw c.broken_status.ensures (
       p.0 ++ q.0 ∷ [],
       counted,
       record {
-        prescribed = joined v0 v1 v2 known.later.reports p.2 q.2.prescribed
-            (λ a b d before here. before (q.0 ∷ []) (status_of_line (line_end.Broken how)) new d (rw (cut, more) (line_breaks line_step keep (c.loop-next.left - 1) q.0 [] so_far old new b d next rest (status_of_line (line_end.Broken how)) (breaks_run how) here)));
-        caused = caused_later (s c.args.store.now) (s c.loop-next.store) (s c.run_line.new.store) (k c.args.out.now) (k c.loop-next.out) (k c.run_line.new.out) (status_of_line (line_end.Broken how)) known.later q.2.caused;
-        later = later;
+        outcome = record {
+          prescribed = joined v0 v1 v2 known.later.reports p.2.0 q.2.outcome.prescribed
+              (λ a b d before here. before (q.0 ∷ []) (status_of_line (line_end.Broken how)) new d (rw (cut, more) (line_breaks line_step keep (c.loop-next.left - 1) q.0 [] so_far old new b d next rest (status_of_line (line_end.Broken how)) (breaks_run how) here)));
+          caused = caused_later (s c.args.store.now) (s c.loop-next.store) (s c.run_line.new.store) (k c.args.out.now) (k c.loop-next.out) (k c.run_line.new.out) (status_of_line (line_end.Broken how)) known.well known.later q.2.outcome.caused;
+          later = later;
+        };
+        exact = λ w0 none.
+            let at = rw (cut, more) at (p.2.1 w0 (q.0 ∷ []) none) in
+            let here = at.1 in
+            let line = ends_in (line_end.Broken how) old new at.0 next.line (line_step q.0 old at.0.files next.depth next.what) (q.2.exact (first_reads_none line_step keep (c.loop-next.left - 1) q.0 [] so_far old new at.0 at.0 next rest here) at.0.files) in
+            (line.0, at.2 (status_of_line (line_end.Broken how)) new line.0 (line_breaks line_step keep (c.loop-next.left - 1) q.0 [] so_far old new at.0 line.0 next rest (status_of_line (line_end.Broken how)) (breaks_run how) line.1));
       },
     )
 
-pub returns-clause-outcome : goal.returns-clause-outcome
-returns-clause-outcome g c =
+pub returns-clause-runs : goal.returns-clause-runs
+returns-clause-runs g c =
     let s = g.S.Store.state in
     let k = g.T.Sink.state in
     let known = c.loop-next.invariant in
-    let p = known.prescribed in
+    let p = known.runs in
     let so_far = c.loop-next.so_far in (
       p.0,
       p.1,
       record {
-        prescribed = mapped (world (s c.args.store.now) (k c.args.out.now)) (world (s c.loop-next.store) (k c.loop-next.out))
-            (λ a b before. no_more (λ denials. SessionEndsAs (run_on line_step c.args.keep_going MAX_COMMANDS denials status.Done c.args.session.now a.files c.args.lines) so_far c.args.session.now a c.loop-next.session b) p.0
-            (before [] so_far c.loop-next.session b (rw c.in_default.ensures (no_lines so_far c.loop-next.session b)))) p.2;
-        caused = caused_quiet (s c.args.store.now) (s c.loop-next.store) (k c.args.out.now) (k c.loop-next.out) so_far known.quiet;
-        later = known.later;
+        outcome = record {
+          prescribed = mapped (world (s c.args.store.now) (k c.args.out.now)) (world (s c.loop-next.store) (k c.loop-next.out))
+              (λ a b before. no_more (λ denials. SessionEndsAs (run_on line_step c.args.keep_going MAX_COMMANDS denials status.Done c.args.session.now a.files c.args.lines) so_far c.args.session.now a c.loop-next.session b) p.0
+              (before [] so_far c.loop-next.session b (rw c.in_default.ensures (no_lines so_far c.loop-next.session b)))) p.2.0;
+          caused = caused_quiet (s c.args.store.now) (s c.loop-next.store) (k c.args.out.now) (k c.loop-next.out) so_far known.quiet known.well;
+          later = known.later;
+        };
+        exact = λ w0 none.
+            let at = p.2.1 w0 [] (with_none (λ denials. ReadNoFile (run_on line_step c.args.keep_going MAX_COMMANDS denials status.Done c.args.session.now w0.files c.args.lines).ran) p.0 none) in (
+              at.0,
+              no_more (λ denials. SessionEndsAs (run_on line_step c.args.keep_going MAX_COMMANDS denials status.Done c.args.session.now w0.files c.args.lines) so_far c.args.session.now w0 c.loop-next.session at.0) p.0
+                  (at.2 so_far c.loop-next.session at.0 (rw c.in_default.ensures (no_lines so_far c.loop-next.session at.0))),
+            );
       },
     )

@@ -1,6 +1,8 @@
-use Rattle.history_machine.specs.Sessions.{Session, after_assign, after_choose, after_drop, after_drop_chosen, after_edit, after_renumber, carried, chosen, remade, without_paths}
+use Rattle.history_machine.specs.Sessions.{Session, after_assign, after_choose, after_drop, after_drop_chosen, after_edit, after_renumber, carried, changes, chosen, remade, without_paths}
 use Rattle.surgeon_session.specs.Commands.{no_calls}
-use Rattle.surgeon_session.proofs.Halting.{halted_alone, halted_read, halts_after, returned}
+use Rattle.std.proofs.Common.{ap}
+use Rattle.surgeon_session.proofs.Halting.{done_read, halted_alone, halted_read, halts_after, returned}
+use Rattle.surgeon_session.proofs.Readying.{done_alone}
 use Rattle.surgeon_session.proofs.ListChanges.{list_changed}
 use Rattle.surgeon_session.proofs.session.Session.carry.Goals as goal
 
@@ -9,7 +11,7 @@ unfolding carried
 returns-in_err-read-in-Read-clause-carries g c =
     let failed = c.in_err-read-in-Read in
     rw c.in-Read.is
-    (halted_read _ _ _ c.args.self.now c.read.new.self _ _ failed.ensures.kept failed.ensures.frame failed.field-0.0 c.from_residual.result c.from_residual.ensures.1 failed.ensures.returns failed.ensures.failed)
+    (halted_read _ _ _ c.args.self.now c.read.new.self _ _ failed.ensures.frame failed.ensures.kept failed.field-0.0 c.from_residual.result c.from_residual.ensures.1 failed.ensures.returns failed.ensures.failed failed.ensures.quiet)
 
 pub returns-in-Choose-clause-carries : goal.returns-in-Choose-clause-carries
 unfolding carried
@@ -74,21 +76,32 @@ returns-in_err-sample-in-Sample-clause-carries g c =
 
 pub returns-in-Write-clause-carries : goal.returns-in-Write-clause-carries
 unfolding carried
-returns-in-Write-clause-carries g c = rw c.in-Write.is (record { outcome = c.write.ensures.outcome; exact = c.write.ensures.exact; kept = c.write.ensures.kept })
+returns-in-Write-clause-carries g c = rw c.in-Write.is (record { outcome = c.write.ensures.outcome; told = c.write.ensures.told; exact = c.write.ensures.exact; kept = c.write.ensures.kept })
 
 pub returns-in-ShowRepos-clause-carries : goal.returns-in-ShowRepos-clause-carries
 unfolding carried
-returns-in-ShowRepos-clause-carries g c = rw c.in-ShowRepos.is (record { outcome = c.show_repositories.ensures.outcome; exact = c.show_repositories.ensures.exact; kept = c.show_repositories.ensures.kept })
+returns-in-ShowRepos-clause-carries g c = rw c.in-ShowRepos.is (record { outcome = c.show_repositories.ensures.outcome; told = c.show_repositories.ensures.told; exact = c.show_repositories.ensures.exact; kept = c.show_repositories.ensures.kept })
 
 pub returns-in-Show-clause-carries : goal.returns-in-Show-clause-carries
 unfolding carried
 returns-in-Show-clause-carries g c =
-    rw c.in-Show.is (record { outcome = rw c.ids.ensures at c.show.ensures.outcome; exact = rw c.ids.ensures at c.show.ensures.exact; kept = c.show.ensures.kept })
+    rw c.in-Show.is (record { outcome = rw c.ids.ensures at c.show.ensures.outcome; told = rw c.ids.ensures at c.show.ensures.told; exact = rw c.ids.ensures at c.show.ensures.exact; kept = c.show.ensures.kept })
 
 pub returns-in-Names-clause-carries : goal.returns-in-Names-clause-carries
 unfolding carried
-returns-in-Names-clause-carries g c = rw c.in-Names.is (record { outcome = c.names.ensures.outcome; exact = c.names.ensures.exact; kept = c.names.ensures.kept })
+returns-in-Names-clause-carries g c = rw c.in-Names.is (record { outcome = c.names.ensures.outcome; told = c.names.ensures.told; exact = c.names.ensures.exact; kept = c.names.ensures.kept })
 
 pub returns-in-Summary-clause-carries : goal.returns-in-Summary-clause-carries
 unfolding carried
-returns-in-Summary-clause-carries g c = rw c.in-Summary.is (record { outcome = c.summary.ensures.outcome; exact = c.summary.ensures.exact; kept = c.summary.ensures.kept })
+returns-in-Summary-clause-carries g c = rw c.in-Summary.is (record { outcome = c.summary.ensures.outcome; told = c.summary.ensures.told; exact = c.summary.ensures.exact; kept = c.summary.ensures.kept })
+
+pub returns-in_ok-read-in-Read-clause-carries : goal.returns-in_ok-read-in-Read-clause-carries
+unfolding carried
+returns-in_ok-read-in-Read-clause-carries g c =
+    let done = c.in_ok-read-in-Read in
+    rw c.in-Read.is (done_read _ _ _ c.args.self.now c.read.new.self _ _ done.ensures.frame done.ensures.returns done.ensures.quiet)
+
+pub returns-in_ok-sample-in-Sample-clause-carries : goal.returns-in_ok-sample-in-Sample-clause-carries
+unfolding carried
+returns-in_ok-sample-in-Sample-clause-carries g c =
+    rw c.in-Sample.is (done_alone no_calls _ _ c.args.self.now c.sample.new.self _ _ tt (λ files. ap changes c.in_ok-sample-in-Sample.ensures.returns))

@@ -11,17 +11,23 @@ use Rattle.surgeon_session.proofs.session.Session.run.Goals as goal
 pub run_lines-requires : goal.run_lines-requires
 run_lines-requires g c = rw c.in-Ok.ensures (items_within MAX_COMMANDS c.args.script.now)
 
-pub returns-in-Err-clause-outcome : goal.returns-in-Err-clause-outcome
-returns-in-Err-clause-outcome g c =
+pub returns-in-Err-clause-runs : goal.returns-in-Err-clause-runs
+returns-in-Err-clause-runs g c =
     let s = g.S.Store.state c.args.store.now in
     let k = g.T.Sink.state c.args.out.now in
     let session = c.args.self.now in (
       [],
       tt,
       record {
-        prescribed = same_world (λ w now. SessionEndsAs (run_from [] session w.files c.args.script.now c.args.keep_going) status.Memory session w session now) (world s k)
-            (λ w. (zero, refl, breaks_here (run_from [] session w.files c.args.script.now c.args.keep_going).effects w));
-        caused = tt;
-        later = same_later s k;
+        outcome = record {
+          prescribed = same_world (λ w now. SessionEndsAs (run_from [] session w.files c.args.script.now c.args.keep_going) status.Memory session w session now) (world s k)
+              (λ w. (zero, refl, breaks_here (run_from [] session w.files c.args.script.now c.args.keep_going).effects w));
+          caused = tt;
+          later = same_later s k;
+        };
+        exact = λ w none. (w, (zero, refl, breaks_here (run_from [] session w.files c.args.script.now c.args.keep_going).effects w));
       },
     )
+
+pub returns-in-Ok-clause-runs : goal.returns-in-Ok-clause-runs
+returns-in-Ok-clause-runs g c = rw c.in-Ok.ensures at c.run_lines.ensures.runs

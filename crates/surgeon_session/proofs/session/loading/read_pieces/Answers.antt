@@ -9,4 +9,4 @@ returns-in-Ok-clause-returns g c =
 pub returns-in-Ok-clause-near : goal.returns-in-Ok-clause-near
 returns-in-Ok-clause-near g c =
     whole_near c.args.name.now (g.S.Store.state c.args.store.now).rest (g.S.Store.state c.feed_pieces.new.store).rest c.feed_pieces.new.reader c.finish.result c.in-Ok.ensures.tells
-    c.finish.ensures.gives c.limits_refuse_nothing_else.ensures.defect
+    c.finish.ensures.gives c.limits_refuse_nothing_else.ensures.defect c.finish.ensures.causes
