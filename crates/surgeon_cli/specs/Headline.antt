@@ -1,5 +1,5 @@
 -- What the top call promises, over a store that tells its files and a sink that tells what was written.
-use Rattle.std.specs.Prelude.{◌≡◌, ◌≢◌, ℕ, false, List, ◌∷◌, None, Result, Ok, IfSome}
+use Rattle.std.specs.Prelude.{◌≡◌, ◌≢◌, ℕ, ◌+◌, false, List, ◌∷◌, drop, Option, Some, None, Result, Ok, Err, IfSome}
 use Rattle.std.specs.List.{AllByRecursion}
 use Rattle.plain_model.specs.declared.status.Status.{Status}
 use Rattle.plain_model.specs.declared.status.Status.TheVariants as status
@@ -11,18 +11,21 @@ use Rattle.plain_model.specs.Text.{text}
 use Rattle.shown_laws.specs.Showing.{IsShownBy}
 use Rattle.surgeon_store.specs.Outside.{StoreState, SinkState}
 use Rattle.plain_model.specs.declared.fault.Fault.{Fault}
+use Rattle.plain_model.specs.declared.limit.TheConstants.{MAX_SCRIPT_BYTES}
 use Rattle.script_reader.specs.Commands.{order_of}
 use Rattle.script_reader.specs.declared.command.Order.{Order}
 use Rattle.script_reader.specs.declared.command.Order.TheVariants as order
 use Rattle.script_reader.specs.declared.command.Command.TheVariants as command
+use Rattle.script_lines.specs.declared.script.ScriptItem.{ScriptItem}
 use Rattle.script_lines.specs.declared.script.ScriptLine.{ScriptLine}
 use Rattle.script_lines.specs.declared.script.ScriptLine.TheVariants.{Define, Plain}
 use Rattle.history_machine.specs.Sessions.{Repo, Session, chosen}
 use Rattle.history_machine.specs.Machine.{Completes, EndsAs, Effect}
-use Rattle.history_machine.specs.Whole.{Denials, run}
+use Rattle.history_machine.specs.Whole.{Denials, run, script_in, unread_status}
 use Rattle.history_machine.specs.Words.{asked}
 use Rattle.surgeon_session.specs.Calls.{NoFaults, world}
 use Rattle.surgeon_session.specs.Denials.{UnderAll}
+use Rattle.surgeon_session.specs.Pieces.{bytes_in}
 
 -- Files and output are those of the machine's run of these words, where of no command a pattern is refused that the grammar reads, or
 -- one of each: at its end, with its status, or where a fault of the outside or out of memory broke it off. A size was refused only where
@@ -83,3 +86,43 @@ IsUsageEnd other = ⊥
 pub record AnswersWords (words : List Bytes) (answer : Status) : Type 0 where
   pub prescribed : asked words ≡ None → IsUsageEnd answer
   pub only : answer ≡ status.Usage → asked words ≡ None
+
+-- ---- the script
+
+-- how a run ends whose script isn't read: so, or a fault of printing or out of memory broke it off
+abbrev pub IsUnreadEnd : Fault → Status → Type 0
+IsUnreadEnd why status.NoScript = unread_status why ≡ status.NoScript
+IsUnreadEnd why status.BadScript = unread_status why ≡ status.BadScript
+IsUnreadEnd why status.SinkFault = Unit {0}
+IsUnreadEnd why status.Memory = Unit {0}
+IsUnreadEnd why other = ⊥
+
+-- That there is no script, or none that can be read, is answered exactly where that is so; but a fault outside or out of memory may come
+-- in its place.
+abbrev pub AnswersScript : Result (List ScriptItem) Fault → Status → Type 0
+AnswersScript (Ok script) status.NoScript = ⊥
+AnswersScript (Ok script) status.BadScript = ⊥
+AnswersScript (Ok script) other = Unit {0}
+AnswersScript (Err why) status.SourceFault = Unit {0}
+AnswersScript (Err why) other = IsUnreadEnd why other
+
+-- the same of the script that the words ask for, where the files are told
+abbrev pub AnswersAsked : List Bytes → Option Files → Status → Type 0
+AnswersAsked words files answer = IfSome (asked words) (λ what. IfSome files (λ f. AnswersScript (script_in f what.script) answer))
+
+-- of a file that is no script, one byte past the limit is taken at most
+abbrev pub StopsPastLimit : Option Bytes → Status → Option Bytes → Type 0
+StopsPastLimit file status.BadScript rest = IfSome file (λ bytes. rest ≡ Some (drop (MAX_SCRIPT_BYTES + 1) bytes))
+StopsPastLimit file other rest = Unit {0}
+
+-- the same of the script that the words ask for
+abbrev pub StopsAsked : List Bytes → StoreState → Status → StoreState → Type 0
+StopsAsked words s answer s' = IfSome (asked words) (λ what. StopsPastLimit (bytes_in s.files what.script) answer s'.rest)
+
+-- ---- what is printed
+
+-- a call that only prints: a fault of printing is one whose count rose, and with any other status, unless memory was out, none rose
+abbrev pub CausedByPrinting : SinkState → Status → SinkState → Type 0
+CausedByPrinting k status.SinkFault k' = Rose k.faults k'.faults
+CausedByPrinting k status.Memory k' = Unit {0}
+CausedByPrinting k other k' = k'.faults ≡ k.faults

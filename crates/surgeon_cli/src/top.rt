@@ -1,6 +1,7 @@
 //! The run that a command line names.
 ghost use Rattle.std.specs.Prelude.{
   ◌≡◌,
+  ◌+◌,
   ◌++◌,
   ◌∷◌,
   [],
@@ -31,15 +32,24 @@ ghost use Rattle.history_machine.specs.Whole.{
   unread_status,
   usage,
 };
-ghost use Rattle.surgeon_store.specs.WholeFiles.{ReturnsOrBreaks};
+ghost use Rattle.std.specs.FinMap.{get};
+ghost use Rattle.surgeon_store.specs.WholeFiles.{IsQuiet, LeavesAfter, ReturnsOrBreaks};
 ghost use Rattle.surgeon_session.specs.Calls.{Caused, Later, Outcome, world};
 ghost use Rattle.surgeon_session.specs.Denials.{UnderAll};
+ghost use Rattle.surgeon_session.specs.Ends.{IsEnd};
+ghost use Rattle.surgeon_session.specs.Pieces.{bytes_in};
 ghost use Rattle.surgeon_cli.specs.Headline.{
+  AnswersAsked,
+  AnswersScript,
   AnswersWords,
   AsPrescribed,
+  CausedByPrinting,
+  IsUnreadEnd,
   IsUsageEnd,
   ShowsHistories,
   ShowsWrites,
+  StopsAsked,
+  StopsPastLimit,
   Succeeds,
 };
 ghost use Rattle.plain_model.specs.Files.{Files};
@@ -93,6 +103,7 @@ fn print_line<T: Sink>(out: &mut T, mut line: Text) -> Result<(), WriteEnd>
     ensures later { (T.state out.old).faults ≤ (T.state out.new).faults }
     ensures failed { IsErrOf result WriteEnd.SinkFault
         → Rose (T.state out.old).faults (T.state out.new).faults }
+    ensures quiet { OnOk result ((T.state out.new).faults ≡ (T.state out.old).faults) }
 {
     match line.push(b'\n') {
         Ok(()) => write_all(out, line.as_slice()),
@@ -105,11 +116,8 @@ fn unread_script<T: Sink>(alloc: Global, name: &[u8], why: &Fault, out: &mut T) 
     ensures prescribed { (s : StoreState) → IfSome (world s (T.state out.old))
         (λ w. IfSome (world s (T.state out.new))
         (λ now. EndsAs (unread name.now why.now) result w now)) }
-    ensures failed { result ≡ Status.SinkFault
-        → Rose (T.state out.old).faults (T.state out.new).faults }
-    ensures source { result ≢ Status.SourceFault }
-    ensures words { result ≢ Status.Usage }
-    ensures absent { result ≡ Status.NoScript → unread_status why.now ≡ Status.NoScript }
+    ensures caused { CausedByPrinting (T.state out.old) result (T.state out.new) }
+    ensures ends { IsUnreadEnd why.now result }
     ensures later { (s : StoreState) → Later s (T.state out.old) s (T.state out.new) }
 {
     let ends = status_of(why);
@@ -136,8 +144,7 @@ fn print_usage<T: Sink>(alloc: Global, out: &mut T) -> Status
     ensures prescribed { (s : StoreState) → IfSome (world s (T.state out.old))
         (λ w. IfSome (world s (T.state out.new))
         (λ now. EndsAs (only_prints Status.Usage usage) result w now)) }
-    ensures failed { result ≡ Status.SinkFault
-        → Rose (T.state out.old).faults (T.state out.new).faults }
+    ensures caused { CausedByPrinting (T.state out.old) result (T.state out.new) }
     ensures ends { IsUsageEnd result }
     ensures later { (s : StoreState) → Later s (T.state out.old) s (T.state out.new) }
 {
@@ -156,10 +163,14 @@ fn print_usage<T: Sink>(alloc: Global, out: &mut T) -> Status
 fn script_in<S: Store>(alloc: Global, store: &mut S, name: &str) -> Result<Script, ReadEnd>
     ensures returns { IfSome (S.state store.old).files
         (λ files. ReturnsOrBreaks (λ script. script) result (script_in files name.now)) }
+    ensures taken { IfSome (S.state store.old).files
+        (λ files. IfSome (get files name.now)
+        (λ bytes. LeavesAfter (MAX_SCRIPT_BYTES + 1) bytes result (S.state store.new))) }
     ensures missed { (name : _) → result ≡ Err (ReadEnd.Refused (Fault.Absent name))
         → Rose (S.state store.old).misses (S.state store.new).misses }
     ensures failed { IsErrOf result ReadEnd.SourceFault
         → Rose (S.state store.old).read_faults (S.state store.new).read_faults }
+    ensures quiet { IsQuiet result (S.state store.old) (S.state store.new) }
     ensures frame { Reads (S.state store.old) (S.state store.new) }
 {
     a_script_is_never_absent();
@@ -187,7 +198,7 @@ fn run_script<S: Store, T: Sink, P: Patterns>(
         (λ w now. EndsAs (run_from denials empty_session w.files script.now keep_going) result w now)
         (S.state store.old) (T.state out.old) result (S.state store.new) (T.state out.new)) }
     ensures grows { P.sizes patterns.old ≤ P.sizes patterns.new }
-    ensures words { result ≢ Status.Usage }
+    ensures ends { IsEnd result }
 {
     match Session::new(alloc) {
         Ok(mut session) => {
@@ -216,6 +227,10 @@ fn run_file<S: Store, T: Sink, P: Patterns>(
         (S.state store.old) (T.state out.old) result (S.state store.new) (T.state out.new)) }
     ensures grows { P.sizes patterns.old ≤ P.sizes patterns.new }
     ensures words { result ≢ Status.Usage }
+    ensures script { IfSome (S.state store.old).files
+        (λ files. AnswersScript (script_in files name.now) result) }
+    ensures taken { StopsPastLimit (bytes_in (S.state store.old).files name.now) result
+        (S.state store.new).rest }
 {
     match script_in(alloc, store, name) {
         Ok(script) => run_script(alloc, &script, keep_going, store, out, patterns),
@@ -240,6 +255,9 @@ fn run_words<S: Store, T: Sink, P: Patterns>(
         (S.state store.old) (T.state out.old) result (S.state store.new) (T.state out.new)) }
     ensures grows { P.sizes patterns.old ≤ P.sizes patterns.new }
     ensures words { AnswersWords (map string_bytes words.now) result }
+    ensures script { AnswersAsked (map string_bytes words.now) (S.state store.old).files result }
+    ensures taken { StopsAsked (map string_bytes words.now) (S.state store.old) result
+        (S.state store.new) }
 {
     match asked_in(alloc, words) {
         Ok(Some(asked)) => run_file(alloc, asked.script, asked.keep_going, store, out, patterns),
@@ -261,7 +279,8 @@ pub fn surgeon<S: Store, T: Sink, P: Patterns>(
     ensures prescribed { AsPrescribed (map string_bytes words.now) (S.state store.old) (T.state out.old)
         (P.sizes patterns.old) result (S.state store.new) (T.state out.new) (P.sizes patterns.new) }
 
-    // A status that tells of the outside is one whose count rose, and without them the run comes to its end.
+    // A status that tells of the outside is one whose count rose; with any other, unless memory was out, no count of faults did. Without
+    // faults and with memory the run comes to its end.
     ensures caused { Caused (S.state store.old) (T.state out.old) result
         (S.state store.new) (T.state out.new) }
     ensures complete { Succeeds (map string_bytes words.now) (S.state store.old) (T.state out.old)
@@ -273,6 +292,12 @@ pub fn surgeon<S: Store, T: Sink, P: Patterns>(
     // Usage comes exactly where the words aren't right, whatever the store says; but a fault of printing or
     // out of memory may come in its place.
     ensures words { AnswersWords (map string_bytes words.now) result }
+
+    // NoScript and BadScript come exactly where the script isn't there or is none, over a store that tells its files, whatever the
+    // output does; but a fault outside or out of memory may come in their place. At most one byte past a script's limit is taken.
+    ensures script { AnswersAsked (map string_bytes words.now) (S.state store.old).files result }
+    ensures taken { StopsAsked (map string_bytes words.now) (S.state store.old) result
+        (S.state store.new) }
 
     // Each history that the run holds, and so each that it writes, is shown by its text: that is a stream by the productions,
     // whose history is written as the same bytes, and a replay by plain maps shows what that history shows.

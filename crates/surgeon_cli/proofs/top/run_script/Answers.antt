@@ -24,14 +24,14 @@ pub returns-in-Ok-clause-outcome : goal.returns-in-Ok-clause-outcome
 returns-in-Ok-clause-outcome g c =
     let s = g.S.Store.state in
     let k = g.T.Sink.state in
-    let ran = c.run-status.ensures.outcome in
+    let ran = c.run-status.ensures.runs in
     rw (← c.in-Ok.ensures) (
       ran.0,
       ran.1,
       record {
         prescribed = mapped (world (s c.args.store.now) (k c.args.out.now)) (world (s c.run-status.new.store) (k c.run-status.new.out))
-            (λ w now h. session_aside (run_from ran.0 c.in-Ok.session w.files c.args.script.now c.args.keep_going) c.run-status.result c.in-Ok.session c.run-status.new.self w now h) ran.2.prescribed;
-        caused = ran.2.caused;
-        later = ran.2.later;
+            (λ w now h. session_aside (run_from ran.0 c.in-Ok.session w.files c.args.script.now c.args.keep_going) c.run-status.result c.in-Ok.session c.run-status.new.self w now h) ran.2.outcome.prescribed;
+        caused = ran.2.outcome.caused;
+        later = ran.2.outcome.later;
       },
     )
