@@ -125,7 +125,7 @@ fn turn(kept: &mut Trees, plan: &Plan, known: &mut Option<Known>)
     }
 }
 
-/// Keeps the trees of the commits whose line is the same before and after, and no others. A line is looked at down
+/// Keeps the trees of the commits whose line is the same before and after. A line is looked at down
 /// to the commit that was looked at before, so where the trees of one line were used from its root on, each commit
 /// of it is looked at once.
 pub fn follow(kept: &mut Trees, plan: &Plan)

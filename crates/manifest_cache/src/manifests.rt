@@ -107,7 +107,7 @@ impl Manifests {
     }
 
     /// Keeps the trees of the commits whose line of first parents has the same commits with the same operations after
-    /// the plan as before it, and no others. It takes no memory. (own)
+    /// the plan as before it. Each tree that is kept then was kept before. It takes no memory. (own)
     pub fn follow(&mut self, plan: &Plan)
         requires { AgreesWith plan.now.before self.old }
         ensures { Follows plan.now.before plan.now.after self.old self.new }
