@@ -122,15 +122,15 @@ zone_read seconds text minus offset z =
         ∙ some_then (number_within 9999 z.digits) (λ offset. Some (record { seconds = seconds; minus = sign == 45; offset = offset })) offset (Some (made (sign == 45))) (within_read 9999 z.digits offset z.numeral small) refl
 
 -- seconds and a zone
-record IsWhen (text : Bytes) (w : When) : Type 0 where
-  digits : Bytes
-  zone : Bytes
-  is : text ≡ digits ++ 32 ∷ zone
-  seconds : IsNumeral digits w.seconds
-  in_time : w.seconds ≤ MAX_SECONDS
-  offset : IsZone zone w.minus w.offset
+pub record IsWhen (text : Bytes) (w : When) : Type 0 where
+  pub digits : Bytes
+  pub zone : Bytes
+  pub is : text ≡ digits ++ 32 ∷ zone
+  pub seconds : IsNumeral digits w.seconds
+  pub in_time : w.seconds ≤ MAX_SECONDS
+  pub offset : IsZone zone w.minus w.offset
 
-when_is : (text : Bytes) (w : When) → when_of text ≡ Some w → IsWhen text w
+pub when_is : (text : Bytes) (w : When) → when_of text ≡ Some w → IsWhen text w
 unfolding when_of
 when_is text w e =
     let c = bind_some (cut_at 32 text) (λ c. number_within MAX_SECONDS c.0 >>= λ seconds. zone_of seconds c.1) w e in
@@ -156,7 +156,7 @@ all_pass p q more (x ∷ xs) h =
 pub digit_isnt : (b : ℕ) → is_digit b ≡ true → not (b == 32) ≡ true
 digit_isnt b h = ap not (ne_eqb b 32 (λ e. absurd (omega (arith, leb-true 48 b (and_parts (nat_le 48 b) (nat_le b 57) h).0))))
 
-when_read : (text : Bytes) (w : When) → IsWhen text w → when_of text ≡ Some w
+pub when_read : (text : Bytes) (w : When) → IsWhen text w → when_of text ≡ Some w
 unfolding when_of
 when_read text w h =
     some_then (cut_at 32 text) (λ c. number_within MAX_SECONDS c.0 >>= λ seconds. zone_of seconds c.1) (h.digits, h.zone) (Some w)
@@ -166,12 +166,12 @@ when_read text w h =
 
 -- ---- who
 
-record IsPerson (text name email tail : Bytes) : Type 0 where
-  part : Bytes
-  is : text ≡ part ++ 60 ∷ (email ++ 62 ∷ tail)
-  named : IsNamePart part name
-  clean_name : is_clean name ≡ true
-  clean_email : is_clean email ≡ true
+pub record IsPerson (text name email tail : Bytes) : Type 0 where
+  pub part : Bytes
+  pub is : text ≡ part ++ 60 ∷ (email ++ 62 ∷ tail)
+  pub named : IsNamePart part name
+  pub clean_name : is_clean name ≡ true
+  pub clean_email : is_clean email ≡ true
 
 person_is : (text : Bytes) (p : Bytes × Bytes × Bytes) → person_parts text ≡ Some p → IsPerson text p.0 p.1 p.2
 unfolding person_parts
@@ -190,7 +190,7 @@ person_is text p e =
     } in
     subst (λ (q : Bytes × Bytes × Bytes). IsPerson text q.0 q.1 q.2) c.1 own
 
-clean_parts : (b : ℕ) → is_clean_byte b ≡ true → (not (b == 60) ≡ true) × (not (b == 62) ≡ true)
+pub clean_parts : (b : ℕ) → is_clean_byte b ≡ true → (not (b == 60) ≡ true) × (not (b == 62) ≡ true)
 clean_parts b h =
     let p = and_parts (not (b == 60) && not (b == 62)) (not (b == 0)) h in
     and_parts (not (b == 60)) (not (b == 62)) p.0
@@ -201,7 +201,7 @@ part_is_clean part name (inr e) h =
     ap (list_all (λ b. not (b == 60))) e ∙ list_all-append (λ b. not (b == 60)) name (32 ∷ [])
     ∙ and_from (list_all (λ b. not (b == 60)) name) true (all_pass is_clean_byte (λ b. not (b == 60)) (λ b c. (clean_parts b c).0) name h) refl
 
-person_read : (text name email tail : Bytes) → IsPerson text name email tail → person_parts text ≡ Some (name, email, tail)
+pub person_read : (text name email tail : Bytes) → IsPerson text name email tail → person_parts text ≡ Some (name, email, tail)
 unfolding person_parts
 person_read text name email tail h =
     let all : Bytes × Bytes × Bytes = (name, email, tail) in

@@ -41,7 +41,7 @@ pub plain_parts : (a b : Bytes) → has_no_lf (a ++ b) ≡ true → (has_no_lf a
 plain_parts a b h = and_parts (has_no_lf a) (has_no_lf b) (sym (list_all-append (λ c. not (c == 10)) a b) ∙ h)
 
 -- a greater byte is no LF
-greater_plain : (b : ℕ) → 11 ≤ b → not (b == 10) ≡ true
+pub greater_plain : (b : ℕ) → 11 ≤ b → not (b == 10) ≡ true
 greater_plain b h = ap not (ne_eqb b 10 (λ e. absurd (omega arith)))
 
 -- digits have no LF
@@ -84,7 +84,7 @@ pub record SignedFits (who : Signed) : Type 0 where
   pub four_digits : who.when.offset ≤ 9999
 
 -- the text of a zone
-abbrev zone_text : Bool → ℕ → Bytes
+abbrev pub zone_text : Bool → ℕ → Bytes
 zone_text minus offset = cond minus (codes "-") (codes "+") ++ zone offset
 
 -- four digits that are written say the number
@@ -99,7 +99,7 @@ zone_digits n h = record {
 }
 
 -- a sign and four digits
-zone_written : (minus : Bool) (offset : ℕ) → offset ≤ 9999 → IsZone (zone_text minus offset) minus offset
+pub zone_written : (minus : Bool) (offset : ℕ) → offset ≤ 9999 → IsZone (zone_text minus offset) minus offset
 zone_written true offset h = record { sign = 45; digits = zone offset; is = refl; signed = inr (refl, refl); four = refl; numeral = zone_digits offset h }
 zone_written false offset h = record { sign = 43; digits = zone offset; is = refl; signed = inl (refl, refl); four = refl; numeral = zone_digits offset h }
 

@@ -28,8 +28,8 @@ pub fn push_mark(mark: u64, into: &mut Text) -> Result<(), NoMemory>
     into.push_number(mark)
 }
 
-// The comment up to its first LF.
-fn first_line(comment: &[u8]) -> &[u8]
+/// The comment up to its first LF.
+pub fn first_line(comment: &[u8]) -> &[u8]
     ensures { result.now ≡ first_line comment.now }
 {
     match memchr::memchr(b'\n', comment) {

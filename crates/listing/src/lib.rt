@@ -10,7 +10,8 @@ mod summaries;
 mod trees;
 mod worked;
 
-pub use finding::all;
+pub use fields::{first_line, push_mark};
+pub use finding::{all, mark_of};
 pub use lists::{index, list, names};
 pub use stamps::stamp;
 pub use summaries::{resolve, summary};

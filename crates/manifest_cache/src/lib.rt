@@ -14,5 +14,6 @@ mod manifests;
 mod using;
 mod walk;
 
+pub use equal_ops::same_ops;
 pub use laws::a_used_tree_is_kept;
 pub use manifests::Manifests;

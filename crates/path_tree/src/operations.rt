@@ -7,7 +7,7 @@ ghost use Rattle.plain_model.specs.Trees.{put_all, subtree, within_paths, withou
 ghost use Rattle.plain_model.specs.Trees.Change.{Put};
 ghost use Rattle.path_tree.specs.Answers.{IsAnswer, TellsOf, moves};
 ghost use Rattle.path_tree.specs.Folders.{longest, prefixed};
-ghost use Rattle.path_tree.specs.Inside.{member_of};
+ghost use Rattle.path_tree.specs.Inside.{bounded, member_of};
 ghost use Rattle.path_tree.specs.PathMaps.{IsInOrder};
 ghost use Rattle.path_tree.specs.Setting.{ends_with_slash, suffixes, Finds, FitsNode};
 ghost use Rattle.history_laws.specs.SoundTrees.{AllPaths};
@@ -275,4 +275,25 @@ pub(crate) fn listed_below(alloc: Global, root: &Folder, path: &Path) -> Result<
 {
     let node = node_at(alloc, root, path.as_bytes())?;
     node_list(alloc, path, &node)
+}
+
+/// How many paths are at or below the path that the node is.
+fn node_count(node: &Option<Node>) -> u64
+    requires { FitsNode (option_map member_of node.now) }
+    ensures { result ≡ bounded (length (suffixes (option_map member_of node.now))) }
+{
+    match node {
+        None => 0,
+        Some(Node::File(_)) => 1,
+        Some(Node::Subfolder(folder)) => folder.count(),
+    }
+}
+
+/// How many paths are at or below the path.
+pub(crate) fn counted_below(alloc: Global, root: &Folder, path: &Path) -> Result<u64, NoMemory>
+    requires { IsTree root.now }
+    ensures { IfOk result (λ count. count ≡ bounded (length (subtree path.now root.now))) }
+{
+    let node = node_at(alloc, root, path.as_bytes())?;
+    Ok(node_count(&node))
 }

@@ -5,7 +5,7 @@ ghost use Rattle.path_tree.specs.Answers.{TellsOf};
 
 use crate::fault::ApplyFault;
 use crate::folder::Folder;
-use crate::operations::{applied, listed_below};
+use crate::operations::{applied, counted_below, listed_below};
 use history_laws::operations_keep_trees;
 use plain_model::{Entry, EntryList, FileOp, Items, NoMemory, Path, Steps};
 use std::alloc::Global;
@@ -83,6 +83,14 @@ impl PathTree {
         ensures { IfOk result (λ list. list ≡ subtree path.now self.now) }
     {
         listed_below(self.alloc, &self.root, path)
+    }
+
+    /// How many paths are at or below the path. It costs a look-up, however many there are.
+    pub fn len_below(&self, path: &Path) -> Result<usize, NoMemory>
+        ensures { IfOk result (λ count. count ≡ length (subtree path.now self.now)) }
+    {
+        let count = counted_below(self.alloc, &self.root, path)?;
+        Ok(count as usize)
     }
 
     /// An equal tree. What is applied to the one leaves the other.

@@ -56,9 +56,9 @@ fn with_zone(seconds: u64, text: &[u8]) -> Option<When>
     }
 }
 
-// Seconds, a sign and four digits.
+/// When: seconds, a space, a sign and four digits. (git-fast-import, `<when>`.)
 #[tactic(auto, unfolding(plain_model::specs::Parts::when_of))]
-fn moment(text: &[u8]) -> Option<When>
+pub fn moment(text: &[u8]) -> Option<When>
     ensures { result ≡ when_of text.now }
 {
     let (seconds, rest) = cut(b' ', text)?;
@@ -74,9 +74,9 @@ fn moment_after(tail: &[u8]) -> Option<When>
     moment(strip(b" ", tail)?)
 }
 
-// A name, an email, and what follows the email.
+/// A name, an email in `<` and `>`, and what follows the email.
 #[tactic(auto, unfolding(plain_model::specs::Parts::person_parts))]
-fn parts_of_person(text: &[u8]) -> Option<(&[u8], &[u8], &[u8])>
+pub fn parts_of_person(text: &[u8]) -> Option<(&[u8], &[u8], &[u8])>
     ensures { option_map (λ x. (x.0.now, x.1.now, x.2.now)) result ≡ person_parts text.now }
 {
     let (front, rest) = cut(b'<', text)?;

@@ -26,9 +26,10 @@ ghost use Rattle.plain_model.specs.Fields.{
 ghost use Rattle.plain_model.specs.Soundness.{IsFormedSigned};
 ghost use Rattle.plain_model.specs.Numbers.{decimal_of};
 ghost use Rattle.plain_model.specs.Text.{marked, person, path_text, raw_op_text, data_block};
+ghost use Rattle.stream_fields.specs.Written.{date};
 
-use crate::written_parts::{push_data, push_marked, push_op, push_path, push_person};
-use plain_model::{Mark, NoMemory, Path, Place, RawOp, Signed, Text};
+use crate::written_parts::{push_data, push_date, push_marked, push_op, push_path, push_person};
+use plain_model::{Mark, NoMemory, Path, Place, RawOp, Signed, Text, When};
 
 // What was put after so many bytes goes again where memory ran out.
 fn whole_or_none(into: &mut Text, before: usize, put: Result<(), NoMemory>) -> Result<(), NoMemory>
@@ -65,6 +66,16 @@ pub fn write_person(signed: &Signed, into: &mut Text) -> Result<(), NoMemory>
 {
     let before = into.as_slice().len();
     let put = push_person(into, signed);
+    whole_or_none(into, before, put)
+}
+
+/// Puts when: the seconds without leading zeros, the sign and four digits of the zone. (git-fast-import, `<when>`.)
+pub fn write_when(when: &When, into: &mut Text) -> Result<(), NoMemory>
+    ensures ok { OnOk result (into.new ≡ into.old ++ date when.now) }
+    ensures err { OnErr result (into.new ≡ into.old) }
+{
+    let before = into.as_slice().len();
+    let put = push_date(into, when);
     whole_or_none(into, before, put)
 }
 

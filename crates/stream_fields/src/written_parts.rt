@@ -92,7 +92,7 @@ fn sign(minus: bool) -> &'static [u8]
 }
 
 #[tactic(auto, using(crate::proofs::Fronts::fronts))]
-fn push_date(out: &mut Text, when: &When) -> Result<(), NoMemory>
+pub fn push_date(out: &mut Text, when: &When) -> Result<(), NoMemory>
     ensures text { OnOk result (out.new ≡ out.old ++ date when.now) }
     ensures front { take (length out.old) out.new ≡ out.old }
 {
