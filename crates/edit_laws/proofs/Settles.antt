@@ -26,11 +26,12 @@ use Rattle.edit_laws.proofs.Trees.{trees_solve}
 -- ---- a sound history
 
 -- what is ready after some events is ready after more
-more_ready : (xs ys : List PlainEvent) (e : PlainEvent) → is_ready xs e ≡ true → is_ready (xs ++ ys) e ≡ true
+pub more_ready : (xs ys : List PlainEvent) (e : PlainEvent) → is_ready xs e ≡ true → is_ready (xs ++ ys) e ≡ true
 more_ready xs ys e h = true_all (has_id (xs ++ ys)) (referents_of e)
     (all_imply (λ r. has_id xs r ≡ true) (λ r. has_id (xs ++ ys) r ≡ true) (λ r k. has_id_append xs ys r ∙ ap (λ b. b || has_id ys r) k) (referents_of e) (all_true (has_id xs) (referents_of e) h))
 
-complete : (earlier events : List PlainEvent) → AreInOrder earlier events →
+-- in order, all that events refer to is there
+pub complete : (earlier events : List PlainEvent) → AreInOrder earlier events →
     AllByRecursion (λ e. IsTrue (is_ready (earlier ++ events) e)) events
 complete earlier [] s = tt
 complete earlier (e ∷ es) s = (

@@ -49,7 +49,7 @@ module _ (Q : FileOp → Type 0) where
 
   -- ---- trees
 
-  all_where : (test : Bytes → Bool) (t : Tree) → AllPut t → AllPut (where_path test t)
+  pub all_where : (test : Bytes → Bool) (t : Tree) → AllPut t → AllPut (where_path test t)
   all_where test [] a = tt
   all_where test (e ∷ es) a =
       let rest = all_where test es a.1 in
@@ -64,7 +64,7 @@ module _ (Q : FileOp → Type 0) where
       go Equal is rest = (subst (λ (q : Bytes). Q (Modify v.mode v.content q)) (same_path p e.0 (ap is_eq is)) h, a.1)
       go Greater is rest = (a.0, rest)
 
-  all_put_all : (es base : Tree) → AllPut es → AllPut base → AllPut (put_all es base)
+  pub all_put_all : (es base : Tree) → AllPut es → AllPut base → AllPut (put_all es base)
   all_put_all [] base a b = b
   all_put_all (e ∷ es) base a b = all_put e.0 e.1 (put_all es base) a.0 (all_put_all es base a.1 b)
 
@@ -139,11 +139,11 @@ module _ (Q : FileOp → Type 0) where
 
     -- ---- operations
 
-    all_deletes : (t : Tree) → AllPut t → AllByRecursion Q (deletes_of t)
+    pub all_deletes : (t : Tree) → AllPut t → AllByRecursion Q (deletes_of t)
     all_deletes [] a = tt
     all_deletes (e ∷ es) a = (carries.deleting e.1.mode e.1.content e.0 a.0, all_deletes es a.1)
 
-    all_puts : (t : Tree) → AllPut t → AllByRecursion Q (puts_of t)
+    pub all_puts : (t : Tree) → AllPut t → AllByRecursion Q (puts_of t)
     all_puts [] a = tt
     all_puts (e ∷ es) a = (a.0, all_puts es a.1)
 

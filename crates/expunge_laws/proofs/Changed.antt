@@ -39,7 +39,7 @@ use Rattle.expunge_laws.proofs.TreesLeft.{fits_left, left_of_tree, tree_is}
 still_there : (xs : List PlainEvent) (e : PlainEvent) (id : AnyId) → There xs id → There (xs ++ e ∷ []) id
 still_there xs e id h = has_id_append xs (e ∷ []) id ∙ or_left (has_id xs id) (has_id (e ∷ []) id) h
 
-fine_more : (xs : List PlainEvent) (e : PlainEvent) (op : FileOp) → IsFine xs op → IsFine (xs ++ e ∷ []) op
+pub fine_more : (xs : List PlainEvent) (e : PlainEvent) (op : FileOp) → IsFine xs op → IsFine (xs ++ e ∷ []) op
 fine_more xs e op h = (h.0, h.1, all_imply (There xs) (There (xs ++ e ∷ [])) (still_there xs e) (op_blobs op) h.2)
 
 module _ (matched : Bytes → Bool) (events : List PlainEvent) where
@@ -143,7 +143,7 @@ module _ (matched : Bytes → Bool) (events : List PlainEvent) where
   own_fine xs (Reset id branch target) l f r = tt
   own_fine xs (Pass id line) l f r = tt
 
-  fine_carries : (xs : List PlainEvent) → Carries (IsFine xs)
+  pub fine_carries : (xs : List PlainEvent) → Carries (IsFine xs)
   fine_carries xs = record {
     deleting = λ mode content p h. (tt, h.1.1, tt);
     copying = λ source target c q below short mode content h.

@@ -126,12 +126,12 @@ is_same_content (Object a) (Object b) h = ap (λ x. Object x) ((bytes_decides a 
 is_same_content (Blob a) (Object b) h = absurd (true≢false (sym h))
 is_same_content (Object a) (Blob b) h = absurd (true≢false (sym h))
 
-is_same_entry : (a b : Entry) → same_entry a b ≡ true → a ≡ b
+pub is_same_entry : (a b : Entry) → same_entry a b ≡ true → a ≡ b
 is_same_entry a b h =
     let parts = and_parts (mode_number a.mode == mode_number b.mode) (same_content a.content b.content) h in
     λ i. record { mode = same_mode a.mode b.mode parts.0 i; content = is_same_content a.content b.content parts.1 i }
 
-is_there : (o : Option Entry) (e : Entry) → has_entry o e ≡ true → o ≡ Some e
+pub is_there : (o : Option Entry) (e : Entry) → has_entry o e ≡ true → o ≡ Some e
 is_there None e h = absurd (true≢false (sym h))
 is_there (Some f) e h = ap (λ x. Some x) (is_same_entry f e h)
 
@@ -303,7 +303,7 @@ module _ (matched : Bytes → Bool) where
 
   -- ---- C and R, written out
 
-  rewritten_step : (old new : Tree) → IsTree old → IsTree new → length new ≤ MAX_PATHS → apply_all (rewritten matched old new) (restricted matched old) ≡ Ok (restricted matched new)
+  pub rewritten_step : (old new : Tree) → IsTree old → IsTree new → length new ≤ MAX_PATHS → apply_all (rewritten matched old new) (restricted matched old) ≡ Ok (restricted matched new)
   rewritten_step old new t u few =
       apply_more (deletes_of (where_path (λ p. not (has new p)) (restricted matched old))) (puts_of coming) (restricted matched old)
       ∙ ap (λ (r : Result Tree Refusal). r >>= apply_all (puts_of coming)) (deleted (λ p. not (has new p)) (restricted matched old) (restricted_tree old t))

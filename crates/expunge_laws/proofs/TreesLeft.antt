@@ -37,7 +37,7 @@ ok_of (Ok u) t h = let is : u ≡ t = cc in ap (λ (x : Tree). Ok x) is
 ok_of (Err e) t h = absurd cc
 
 -- what a fold that gave a tree began with, and that nothing was refused
-begun_with : (ops : List FileOp) (o : Option Tree) (t : Tree) → folded ops o ≡ Some t → (u : Tree) × (o ≡ Some u) × (apply_all ops u ≡ Ok t)
+pub begun_with : (ops : List FileOp) (o : Option Tree) (t : Tree) → folded ops o ≡ Some t → (u : Tree) × (o ≡ Some u) × (apply_all ops u ≡ Ok t)
 begun_with ops None t e = absurd cc
 begun_with ops (Some u) t e = (u, refl, ok_of (apply_all ops u) t e)
 

@@ -76,7 +76,7 @@ names_more events named j d old new at f a = record {
 -- ---- what is left over
 
 -- of what an event refers to, operations name the blobs
-named_by_op : (b : ℕ) (e : PlainEvent) → is_listed (any.Blob b) (referents_of e) ≡ is_listed (any.Blob b) (event_blobs e)
+pub named_by_op : (b : ℕ) (e : PlainEvent) → is_listed (any.Blob b) (referents_of e) ≡ is_listed (any.Blob b) (event_blobs e)
 named_by_op b (Commit id mark branch author committer encoding comment parents ops aliases) = go parents
   where
     go : (ps : List ℕ) → is_listed (any.Blob b) (map any.Commit ps ++ flat_map op_blobs ops) ≡ is_listed (any.Blob b) (flat_map op_blobs ops)
@@ -88,7 +88,7 @@ named_by_op b (Reset id branch (Some target)) = refl
 named_by_op b (Reset id branch None) = refl
 named_by_op b (Pass id line) = refl
 
-named_by_ops : (b : ℕ) (es : List PlainEvent) → is_named es b ≡ list_any (λ d. is_listed (any.Blob b) (event_blobs d)) es
+pub named_by_ops : (b : ℕ) (es : List PlainEvent) → is_named es b ≡ list_any (λ d. is_listed (any.Blob b) (event_blobs d)) es
 named_by_ops b [] = refl
 named_by_ops b (e ∷ es) =
     ap (λ x. x || is_named es b) (named_by_op b e) ∙ ap (λ x. is_listed (any.Blob b) (event_blobs e) || x) (named_by_ops b es)

@@ -41,8 +41,8 @@ fn blob_of(op: &FileOp) -> Option<AnyId>
     }
 }
 
-// Flags the blobs that operations name, where the list after has them.
-fn flag_blobs(plan: &Plan, ops: &[FileOp], flags: &mut [bool])
+/// Flags the blobs that operations name, where the list after has them.
+pub fn flag_blobs(plan: &Plan, ops: &[FileOp], flags: &mut [bool])
     requires { length flags.old ≡ length plan.now.after }
     ensures { FlagsAdd plan.now.after (flat_map op_blobs ops.now) flags.old flags.new }
 {

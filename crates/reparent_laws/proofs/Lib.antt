@@ -6,6 +6,7 @@ pub mod Cycles
 pub mod ListOrder
 pub mod Merged
 mod OneCommit
+pub mod Onto
 pub mod Operated
 pub mod Puts
 pub mod ReparentDone

@@ -1,17 +1,14 @@
 -- Other parents, none of which descends from the commit: what is left can be settled, and with the tree written out each
 -- commit has the tree that it had.
-use Rattle.std.proofs.Common.{◌≡◌, ℕ, suc, ◌+◌, ◌<◌, Bool, true, false, cond, List, [], ◌∷◌, ◌++◌, find, refl, sym, ap, subst, ◌∙◌, inl, inr, arith, true≢false, Option, Some, None, Ok}
-use Rattle.std.specs.Prelude.{◌&&◌, ◌==◌, IsSome, unwrap_or, if◌then◌else◌}
+use Rattle.std.proofs.Common.{◌≡◌, ℕ, suc, ◌+◌, ◌<◌, Bool, true, false, cond, List, [], ◌∷◌, find, refl, sym, ap, subst, ◌∙◌, inl, inr, arith, Some, None, Ok}
+use Rattle.std.specs.Prelude.{◌&&◌, ◌==◌, if◌then◌else◌}
 use Rattle.std.specs.List.{AllByRecursion}
 use Rattle.std.proofs.lemmas.Bool.{and_from, cases_Bool, eqb-true, or_left, or_right}
 use Rattle.plain_model.specs.declared.id.AnyId.{AnyId}
 use Rattle.plain_model.specs.declared.operation.FileOp.{FileOp}
 use Rattle.plain_model.specs.declared.event.PlainEvent.{PlainEvent}
-use Rattle.plain_model.specs.Histories.{Node, Past, begun, folded, if_ok, node_at, past, tree}
+use Rattle.plain_model.specs.Histories.{Node, Past, begun, folded, node_at, past, tree}
 use Rattle.plain_model.specs.Soundness.{IsCommitOf, IsSound, are_distinct, has_id}
-use Rattle.plain_model.specs.Trees.{Tree}
-use Rattle.history_laws.proofs.LineLaws.{folded_more}
-use Rattle.history_laws.proofs.Lists.{all_join}
 use Rattle.ancestry_laws.specs.Ancestry.{descends, is_one_of, is_parent_in}
 use Rattle.ancestry_laws.specs.Ancestry.IsPathOfParents.{through}
 use Rattle.ancestry_laws.proofs.Descent.{all_here, child_known, from_itself}
@@ -24,35 +21,13 @@ use Rattle.edit_laws.specs.Settling.{settle}
 use Rattle.edit_laws.proofs.Fine.{IsFine}
 use Rattle.edit_laws.proofs.Lists.{all_among}
 use Rattle.edit_laws.proofs.Settles.{settled_all, settled_ids, settled_sums, settled_trees, settling_ends}
-use Rattle.edit_laws.specs.Puts.{puts_of}
 use Rattle.commit_laws.specs.Rewriting.{rewritten_all}
 use Rattle.commit_laws.proofs.Given.{IsHere, rank}
 use Rattle.commit_laws.proofs.Rewritten.{MayHave, all_fit, bytes_new, can_settle, ids_same}
 use Rattle.reparent_laws.specs.Remaining.{IsRewritten}
-use Rattle.reparent_laws.specs.Reparent.{descendant, have_same_first, ops_onto, reparents}
-use Rattle.reparent_laws.specs.WrittenOut.{begun_tree, written_out}
+use Rattle.reparent_laws.specs.Reparent.{descendant, ops_onto, reparents}
 use Rattle.reparent_laws.proofs.Changed.{adds_nothing, one_of_all}
-use Rattle.reparent_laws.proofs.Merged.{anew}
-use Rattle.reparent_laws.proofs.Puts.{puts_give_tree}
-use Rattle.reparent_laws.proofs.TreeFacts.{puts_fine, tree_sound}
-
--- ---- the tree that a commit begins with
-
--- each operation that writes it out may stand in the history
-begun_fine : (events : List PlainEvent) → IsSound events → (parents : List ℕ) → AllByRecursion (IsFine events) (puts_of (begun_tree events parents))
-begun_fine events h [] = tt
-begun_fine events h (p ∷ parents) = go (tree events p) refl
-  where
-    go : (o : Option Tree) → tree events p ≡ o → AllByRecursion (IsFine events) (puts_of (unwrap_or o []))
-    go None e = tt
-    go (Some t) e = puts_fine events h p t e
-
-onto_fine : (events : List PlainEvent) → IsSound events → (new parents : List ℕ) (ops : List FileOp) → AllByRecursion (IsFine events) ops → AllByRecursion (IsFine events) (ops_onto events new parents ops)
-onto_fine events h new parents ops a =
-    elim (have_same_first parents new) as (λ b. AllByRecursion (IsFine events) (if b then ops else written_out events parents ops)) [
-      | true ↦ a
-      | false ↦ ((tt, tt, tt), all_join (IsFine events) (puts_of (begun_tree events parents)) ops (begun_fine events h parents) a)
-    ]
+use Rattle.reparent_laws.proofs.Onto.{onto_fine, onto_tree}
 
 -- ---- parents and descent
 
@@ -129,42 +104,6 @@ module _ (rebase : Bool) (events : List PlainEvent) (h : IsSound events) (c : �
       go [] a f = tt
       go (p ∷ ps) a f = (one p a.0 f.0, go ps a.1 f.1)
 
-  -- ---- trees
-
-  begun_there : (parents : List ℕ) → AllByRecursion (IsHere events) parents → IsSome (begun (tree events) parents)
-  begun_there [] a = refl
-  begun_there (p ∷ parents) a = h.trees p a.0
-
-  begins : (parents : List ℕ) → AllByRecursion (IsHere events) parents → begun (tree events) parents ≡ Some (begun_tree events parents)
-  begins parents a = go (begun (tree events) parents) (begun_there parents a)
-    where
-      go : (o : Option Tree) → IsSome o → o ≡ Some (unwrap_or o [])
-      go (Some t) s = refl
-      go None s = absurd (true≢false (sym s))
-
-  puts_begun : (parents : List ℕ) → AllByRecursion (IsHere events) parents → folded (puts_of (begun_tree events parents)) (Some []) ≡ begun (tree events) parents
-  puts_begun [] a = refl
-  puts_begun (p ∷ parents) a =
-      let is = begins (p ∷ parents) a in
-      let sound = tree_sound events h p (begun_tree events (p ∷ parents)) is in
-      ap if_ok (puts_give_tree (begun_tree events (p ∷ parents)) sound.form sound.few) ∙ sym is
-
-  same_begun : (parents others : List ℕ) → have_same_first parents others ≡ true → begun (tree events) others ≡ begun (tree events) parents
-  same_begun [] [] e = refl
-  same_begun (p ∷ ps) (q ∷ qs) e = ap (tree events) (sym (eqb-true p q e))
-  same_begun [] (q ∷ qs) e = absurd (true≢false (sym e))
-  same_begun (p ∷ ps) [] e = absurd (true≢false (sym e))
-
-  onto_tree : (parents : List ℕ) (ops : List FileOp) → AllByRecursion (IsHere events) parents → folded (ops_onto events new parents ops) (begun (tree events) new) ≡ folded ops (begun (tree events) parents)
-  onto_tree parents ops a = go (have_same_first parents new) refl
-    where
-      go : (b : Bool) → have_same_first parents new ≡ b → folded (if b then ops else written_out events parents ops) (begun (tree events) new) ≡ folded ops (begun (tree events) parents)
-      go true e = ap (folded ops) (same_begun parents new e)
-      go false e =
-          anew (puts_of (begun_tree events parents) ++ ops) (begun (tree events) new) (begun_there new here_new)
-          ∙ folded_more (puts_of (begun_tree events parents)) ops (Some [])
-          ∙ ap (folded ops) (puts_begun parents a)
-
   -- ---- settling
 
   abbrev pub left : List PlainEvent
@@ -208,7 +147,7 @@ module _ (rebase : Bool) (events : List PlainEvent) (h : IsSound events) (c : �
     kept_trees default d k =
         settled_trees (tree events) left after
         (all_fit c (reparents rebase events new) events h
-        (λ id parents ops it a. subst (λ b. folded (if b then ops else ops_onto events new parents ops) (begun (tree events) new) ≡ folded ops (begun (tree events) parents)) (sym default) (onto_tree parents ops a)))
+        (λ id parents ops it a. subst (λ b. folded (if b then ops else ops_onto events new parents ops) (begun (tree events) new) ≡ folded ops (begun (tree events) parents)) (sym default) (onto_tree events h new parents ops here_new a)))
         is d k
 
     pub same_bytes : AllByRecursion (HasBytesOf events) after

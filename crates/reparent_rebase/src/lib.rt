@@ -12,4 +12,5 @@ mod written;
 pub use adding::add_op;
 pub use merging::{merge, unmerge};
 pub use removing::remove_op;
-pub use reparenting::reparent;
+pub use reparenting::{have_same_first, reparent};
+pub use written::written_out;

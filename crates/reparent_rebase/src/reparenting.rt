@@ -81,8 +81,8 @@ fn commit_mark(events: &Events, commit: CommitId) -> Mark
     *mark
 }
 
-// Whether two lists of parents begin with the same one, or are both empty.
-fn have_same_first(parents: &[CommitId], others: &[CommitId]) -> bool
+/// Whether two lists of parents begin with the same one, or are both empty.
+pub fn have_same_first(parents: &[CommitId], others: &[CommitId]) -> bool
     ensures { result ≡ have_same_first parents.now others.now }
 {
     match (parents, others) {
