@@ -25,7 +25,7 @@ pub use redirection::{Direction, redirected};
 pub use repository::RepoName;
 pub use script::{ItemList, LineList, Script, ScriptItem, ScriptLine};
 pub use script_text::ScriptText;
-pub use texts::{name_in, text_before, texts_in};
+pub use texts::{name_in, said_before, text_before, texts_in};
 pub use trimming::trim;
 pub use word::{Word, WordList};
 pub use words::{cut_head, skip_blanks, words_in};

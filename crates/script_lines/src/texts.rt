@@ -22,9 +22,13 @@ pub fn name_in(word: &Word) -> Option<&ScriptText>
     }
 }
 
-/// A word as a text, before such others. Only the last word can be a redirection.
-pub fn text_before(alloc: Global, others: &[Word], word: &Word) -> Result<ScriptText, Halt>
-    ensures { Returns (λ text. text) result
+/// The text that a word is, before such others. Only the last word can be a redirection.
+pub fn said_before<'a>(
+    alloc: Global,
+    others: &[Word],
+    word: &'a Word,
+) -> Result<&'a ScriptText, Halt>
+    ensures { Returns (λ text. text.now) result
         (or_at_fault word.now (text_before others.now word.now)) }
 {
     let text = if others.is_empty() {
@@ -33,9 +37,18 @@ pub fn text_before(alloc: Global, others: &[Word], word: &Word) -> Result<Script
         word.whole()
     };
     match text {
-        Some(text) => Ok(text.copied(alloc)?),
+        Some(text) => Ok(text),
         None => Err(at_fault(alloc, word)),
     }
+}
+
+/// The same, copied.
+pub fn text_before(alloc: Global, others: &[Word], word: &Word) -> Result<ScriptText, Halt>
+    ensures { Returns (λ text. text) result
+        (or_at_fault word.now (text_before others.now word.now)) }
+{
+    let text = said_before(alloc, others, word)?;
+    Ok(text.copied(alloc)?)
 }
 
 /// All words as texts.

@@ -1,9 +1,11 @@
 -- Names with their lists, as the entries of a map.
-use Rattle.std.proofs.Common.{Vec, ◌≡◌, ℕ, zero, suc, ◌≤◌, Bool, true, false, inl, inr, List, [], ◌∷◌, ◌++◌, Option, Some, None, refl, ap, subst, nat_eq, arith}
-use Rattle.std.specs.Prelude.{option_map, slice_get, map, length, is_some}
+use Rattle.std.proofs.Common.{Vec, ◌≡◌, ◌∙◌, ℕ, zero, suc, ◌≤◌, Bool, true, false, inl, inr, List, [], ◌∷◌, ◌++◌, Option, Some, None, refl, ap, subst, sym, take, nat_eq, arith, true≢false}
+use Rattle.std.specs.List.{AllByRecursion, IsDistinct}
+use Rattle.std.specs.Prelude.{bytes_eq, option_map, slice_get, map, length, is_some}
 use Rattle.std.specs.Cmp.Lexicographic.{pointwise}
-use Rattle.std.specs.Map.{lookup, values_of}
-use Rattle.std.proofs.lemmas.Bool.{cases_Bool}
+use Rattle.std.specs.Map.{keys_of, lookup, values_of}
+use Rattle.std.proofs.lemmas.Bool.{cases_Bool, false_from_ne_true}
+use Rattle.std.proofs.lemmas.Slice.Eq.{bytes_eq-Decides}
 use Rattle.indexmap.specs.IndexMap.{insert_entry, set_value_at}
 use Rattle.plain_model.specs.Lookups.{id_of, place_of, same_id}
 use Rattle.plain_model.specs.Paths.{Bytes}
@@ -79,3 +81,39 @@ all_live events [] (suc n) h = refl
 all_live events (e ∷ names) zero h = absurd (omega arith)
 all_live events (e ∷ names) (suc n) h =
     ap (λ (l : Names). (e.0, live events e.1) ∷ l) (all_live events names n (omega arith))
+
+-- ---- copies
+
+turned : (a b : Bytes) → bytes_eq a b ≡ false → bytes_eq b a ≡ false
+turned a b differ = false_from_ne_true (bytes_eq b a) (λ same. true≢false (sym ((bytes_eq-Decides a b).1 (sym ((bytes_eq-Decides b a).0 same))) ∙ differ))
+
+module _ {A : Type 0} where
+  abbrev eq : Vec ℕ A → Vec ℕ A → Bool
+  eq a b = pointwise nat_eq a.items b.items
+
+  -- no list before that one has its name
+  pub absent_before : (es : List (Vec ℕ A × Vec AnyId A)) (p : ℕ) (e : Vec ℕ A × Vec AnyId A) → slice_get es p ≡ Some e → IsDistinct eq (keys_of es)
+      → assigned e.0.items (names_of (take p es)) ≡ None
+  unfolding IsDistinct
+  absent_before [] p e at once = absurd cc
+  absent_before (x ∷ es) zero e at once = refl
+  absent_before (x ∷ es) (suc p) e at once =
+      let other : bytes_eq e.0.items x.0.items ≡ false = turned x.0.items e.0.items (apart es p at once.0) in
+      rw other (absent_before es p e at once.1)
+    where
+      apart : (es : List (Vec ℕ A × Vec AnyId A)) (p : ℕ) → slice_get es p ≡ Some e → AllByRecursion (λ y. eq x.0 y ≡ false) (keys_of es) → eq x.0 e.0 ≡ false
+      apart [] p at a = absurd cc
+      apart (y ∷ es) zero at a = let same : y ≡ e = cc in subst (λ (z : Vec ℕ A × Vec AnyId A). eq x.0 z.0 ≡ false) same a.0
+      apart (y ∷ es) (suc p) at a = apart es p at a.1
+
+  -- one more is copied
+  pub copied_more : (es : List (Vec ℕ A × Vec AnyId A)) (p : ℕ) (e : Vec ℕ A × Vec AnyId A) → slice_get es p ≡ Some e → names_of (take (suc p) es) ≡ names_of (take p es) ++ (e.0.items, e.1.items) ∷ []
+  copied_more [] p e at = absurd cc
+  copied_more (x ∷ es) zero e at = let same : x ≡ e = cc in ap (λ (z : Vec ℕ A × Vec AnyId A). (z.0.items, z.1.items) ∷ []) same
+  copied_more (x ∷ es) (suc p) e at = ap (λ (l : Names). (x.0.items, x.1.items) ∷ l) (copied_more es p e at)
+
+  pub all_copied : (es : List (Vec ℕ A × Vec AnyId A)) (n : ℕ) → length es ≤ n → names_of (take n es) ≡ names_of es
+  all_copied [] zero h = refl
+  all_copied [] (suc n) h = refl
+  all_copied (x ∷ es) zero h = absurd (omega arith)
+  all_copied (x ∷ es) (suc n) h = ap (λ (l : Names). (x.0.items, x.1.items) ∷ l) (all_copied es n (omega arith))

@@ -1,11 +1,11 @@
 //! Names that are assigned to lists of events.
-ghost use Rattle.std.specs.Prelude.{◌≡◌, ◌++◌, ◌∷◌, [], None, option_map, OnErr, OnOk};
+ghost use Rattle.std.specs.Prelude.{◌≡◌, ◌++◌, ◌∷◌, [], None, option_map, IfOk, OnErr, OnOk};
 ghost use Rattle.event_sets.specs.Sets.{is_live, live};
 ghost use Rattle.selection_eval.specs.Names.{assigned, live_names};
 
 use event_arena::Events;
 use indexmap::IndexMap;
-use plain_model::{AnyId, IdList, NoMemory, Text};
+use plain_model::{AnyId, IdList, Items, NoMemory, Text};
 use std::alloc::Global;
 use std::marker::Model;
 
@@ -69,6 +69,21 @@ impl Names {
             Some(list) => Some(list.as_slice()),
             None => None,
         }
+    }
+
+    /// Names with the same lists, but that each has only ids that are events of a history.
+    pub fn live_copy(&self, alloc: Global, events: &Events) -> Result<Names, NoMemory>
+        ensures { IfOk result (λ made. made ≡ live_names events.now.list self.now) }
+    {
+        let mut made = Names::new(alloc);
+        for place in 0..self.by_name.len() {
+            let (name, list) = self.by_name.get_index(place).unwrap();
+            let name = Items::of(alloc, name.as_slice())?;
+            let list = Items::of(alloc, list.as_slice())?;
+            made.assign(name, list)?;
+        }
+        made.keep_live(events);
+        Ok(made)
     }
 
     /// Takes away the ids that are no events of a history, from each list. It takes no memory.
