@@ -1,0 +1,10 @@
+pub mod AgeLemmas
+pub mod AppendLemmas
+pub mod DateLemmas
+pub mod GraftLemmas
+pub mod ItemLemmas
+pub mod NameLemmas
+pub mod NumberLemmas
+pub mod PlacedLemmas
+pub mod SlashLemmas
+pub mod UnitingLemmas
