@@ -1,0 +1,4 @@
+pub mod Given
+pub mod Landed
+pub mod Meant
+pub mod Messages

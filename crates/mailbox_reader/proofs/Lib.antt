@@ -1,0 +1,4 @@
+pub mod Colons
+pub mod FirstNames
+pub mod HeadLines
+pub mod Together

@@ -1,0 +1,4 @@
+pub mod FirstTags
+pub mod Judged
+pub mod Lower
+pub mod Reading
