@@ -1,0 +1,4 @@
+pub mod Collisions
+pub mod Commits
+pub mod Pairs
+pub mod Wholes

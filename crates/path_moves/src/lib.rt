@@ -1,0 +1,18 @@
+//! The plan of a move of paths. Read in this order: `images` (where paths and operations go), `written` (what makes one
+//! tree of another), `wholes` (the image of a whole tree, or that it has none), `collisions`, `pairs` (a tree with its
+//! image), `shortcuts`, `moving` (what is in the place of an operation), `kept` (the trees with which commits begin),
+//! `commits`, `path_moving`.
+#![tactic(auto)]
+
+mod collisions;
+mod commits;
+mod images;
+mod kept;
+mod moving;
+mod pairs;
+mod path_moving;
+mod shortcuts;
+mod wholes;
+mod written;
+
+pub use path_moving::map_paths;
