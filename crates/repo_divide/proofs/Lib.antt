@@ -1,0 +1,3 @@
+pub mod DividingLemmas
+pub mod HalvingLemmas
+pub mod WalkLemmas
