@@ -1,5 +1,5 @@
 -- What an edit changes of the chosen history, where trees don't all stay.
-use Rattle.std.specs.Prelude.{◌≡◌, ℕ, ◌+◌, ◌++◌, ◌&&◌, Bool, IsTrue, List, false, ◌∷◌, [], not, Option, Ok, option_map, true}
+use Rattle.std.specs.Prelude.{◌≡◌, ℕ, ◌+◌, ◌++◌, ◌&&◌, Bool, IsTrue, List, false, ◌∷◌, [], map, not, Option, Ok, option_map, true}
 use Rattle.std.specs.List.{AllByRecursion}
 use Rattle.plain_model.specs.declared.event.PlainEvent.{PlainEvent}
 use Rattle.plain_model.specs.declared.id.AnyId.{AnyId}
@@ -26,6 +26,10 @@ use Rattle.event_sets.specs.Sets.{Ids}
 use Rattle.expunge_laws.specs.Expunged.{emptied, is_emptied}
 use Rattle.expunge_laws.specs.Remaining.{LeavesWhere}
 use Rattle.expunge_laws.specs.Replaced.{restricted}
+use Rattle.path_move_laws.specs.Images.{image}
+use Rattle.path_move_laws.specs.Moves.{with_ops_for}
+use Rattle.path_move_laws.specs.PathMaps.{image_of}
+use Rattle.path_move_laws.specs.declared.path_map.PathMap.{PathMap}
 use Rattle.reorder_laws.specs.InOrder.{IsInOrder}
 use Rattle.reparent_laws.specs.declared.removal.Removal.{Removal}
 use Rattle.reparent_laws.specs.declared.removal.Removal.TheVariants.{At}
@@ -194,3 +198,13 @@ pub record Expunges (matched : Bytes → Bool) (ids : Ids) (old : Repo) (made : 
   pub parents : AllByRecursion (HasParentsFor (emptied matched old.history) old.history) (nodes made.history)
   pub trees : (c : ℕ) → IsCommitOf made.history c → shown_tree made.history c ≡ option_map (restricted matched) (shown_tree old.history c)
   pub same : AllByRecursion (Keeping.IsOneOf old.history) made.history
+
+-- ---- a move of paths
+
+-- Without their operations the events are those that they were, in the same order. Each commit has the tree that it had, with each file
+-- where the map puts its path.
+pub record MovesPaths (how : PathMap) (ids : Ids) (old : Repo) (made : Remade) : Type 0 where
+  pub next : made.next ≡ old.next
+  pub events : map (with_ops_for (λ parents ops. [])) made.history ≡ map (with_ops_for (λ parents ops. [])) old.history
+  pub trees : (c : ℕ) → IsCommitOf made.history c → tree made.history c ≡ option_map (image (image_of how)) (tree old.history c)
+  pub shown : (c : ℕ) → IsCommitOf made.history c → shown_tree made.history c ≡ option_map (image (image_of how)) (shown_tree old.history c)

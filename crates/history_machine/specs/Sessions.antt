@@ -17,6 +17,7 @@ use Rattle.listing.specs.Listings.{list_text, index_text, names_text}
 use Rattle.listing.specs.Stamps.{stamp_text}
 use Rattle.listing.specs.Summaries.{resolve_text, summary_text}
 use Rattle.listing.specs.TreeListings.{manifest_text}
+use Rattle.mailbox_laws.specs.Written.{box_of}
 use Rattle.expunge_laws.specs.Matching.{Matches, matched_by}
 use Rattle.renumbering.specs.Renumbered.{renumbered}
 use Rattle.sample_history.specs.Sample.{sample}
@@ -46,6 +47,9 @@ use Rattle.reparent_laws.specs.Merge.{merge_of, unmerge_of}
 use Rattle.reparent_laws.specs.Operations.{add_of, remove_of}
 use Rattle.reparent_laws.specs.Reparent.{reparent_of}
 use Rattle.reparent_laws.specs.declared.removal.Removal.TheVariants.{Index, At}
+use Rattle.path_move_laws.specs.Moves.{paths_moved}
+use Rattle.path_move_laws.specs.PathMaps.{image_of}
+use Rattle.path_move_laws.specs.declared.path_map.PathMap.TheVariants.{Rename, Sub, Sup}
 use Rattle.history_machine.specs.Loading.{loaded}
 use Rattle.history_machine.specs.Machine.{Effect}
 use Rattle.history_machine.specs.PathWords.{matches_of, said_path}
@@ -237,6 +241,9 @@ remade (edit.RemoveAt number) ids next events = with_number next (remove_of (Ind
 remade (edit.Coalesce seconds) ids next events = with_number next (Ok (coalesce_of seconds ids events))
 remade edit.Simplify ids next events = with_number next (simplify_of ids events)
 remade (edit.RemoveBy text) ids next events = said_path text >>= λ path. with_number next (remove_of (At path) ids events)
+remade (edit.PathRename source target) ids next events = said_path source >>= λ from. said_path target >>= λ to. with_number next (paths_moved (image_of (Rename from to)) events)
+remade (edit.PathsSub text) ids next events = said_path text >>= λ folder. with_number next (paths_moved (image_of (Sub folder)) events)
+remade (edit.PathsSup text) ids next events = said_path text >>= λ folder. with_number next (paths_moved (image_of (Sup folder)) events)
 
 -- what an expunge makes of it
 abbrev pub without_paths : List Matches → ℕ → List PlainEvent → Result Remade Fault
@@ -274,6 +281,7 @@ shown listing.Index ids repo = index_text repo.history ids
 shown listing.Stamp ids repo = stamp_text repo.history ids
 shown listing.Resolve ids repo = resolve_text repo.history ids
 shown listing.Manifest ids repo = manifest_text repo.history ids
+shown listing.Messages ids repo = box_of repo.history ids
 
 -- ---- one command
 

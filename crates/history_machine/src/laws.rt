@@ -71,6 +71,7 @@ use expunge_laws::{
     an_expunge_adds_nothing, an_expunge_comes_to_its_end, an_expunge_is_an_edit,
     an_expunge_restricts_trees,
 };
+use path_move_laws::a_move_is_an_edit;
 use renumbering::{a_renumbering_is_an_edit, ids_stay, renumbering_keeps_trees};
 use reorder_laws::a_reorder_is_an_edit;
 use reparent_laws::{
@@ -335,6 +336,7 @@ pub fn every_edit_is_one()
     a_change_is_an_edit();
     a_coalesce_is_an_edit();
     a_simplify_is_an_edit();
+    a_move_is_an_edit();
 }
 
 /// A lawful session, whose histories are lawful and whose names are right, stays one by every command that is done, if a script

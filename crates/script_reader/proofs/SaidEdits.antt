@@ -1,5 +1,5 @@
 -- What the words of each edit say.
-use Rattle.std.proofs.Common.{◌≡◌, ℕ, ◌≤◌, Bool, true, false, List, [], ◌∷◌, map, codes, Option, Some, None, Ok, refl, ap, ◌∙◌}
+use Rattle.std.proofs.Common.{◌≡◌, ℕ, ◌≤◌, Bool, true, false, cond, List, [], ◌∷◌, map, codes, Option, Some, None, Ok, refl, ap, ◌∙◌}
 use Rattle.std.specs.Prelude.{option_and_then}
 use Rattle.plain_model.specs.declared.raw.RawOp.{RawOp}
 use Rattle.plain_model.specs.Numbers.{decimal_of}
@@ -9,15 +9,16 @@ use Rattle.plain_model.specs.declared.policy.Lean.{Lean}
 use Rattle.plain_model.specs.declared.policy.Lean.TheVariants as lean
 use Rattle.plain_model.specs.declared.policy.Push.{Push}
 use Rattle.plain_model.specs.declared.policy.Push.TheVariants as push
-use Rattle.script_lines.specs.Texts.{or_at_fault, text_before, whole_in}
+use Rattle.script_lines.specs.Texts.{at_fault, or_at_fault, text_before, whole_in}
 use Rattle.script_lines.specs.declared.word.Word.{Word}
 use Rattle.script_reader.specs.Cuts.{cut_of}
-use Rattle.script_reader.specs.Edits.{CanBeSaid, IsSpelledEdit, add_words, added, asked_by, coalesce_words, cut_form, edit_texts, edit_word, op_by, own_word, remove_words, removal_of, reparent_words, reparenting_by, said_of, split_words, squash_words, word_of}
+use Rattle.script_reader.specs.Edits.{CanBeSaid, IsSpelledEdit, add_words, added, asked_by, coalesce_words, cut_form, edit_texts, edit_word, moved_by, op_by, own_word, path_from, path_to, path_words, paths_by, paths_words, remove_words, removal_of, reparent_words, reparenting_by, said_of, says_rename, split_words, squash_words, word_of}
 use Rattle.script_reader.specs.Forms.{alone}
 use Rattle.script_reader.specs.Keywords.{plain_word_of}
 use Rattle.script_reader.specs.Numbers.{index_in, seconds_in}
 use Rattle.script_reader.specs.Options.{IsSaidPolicy, how_texts, nothing_asked, policy_of, policy_texts, reparenting}
 use Rattle.script_reader.specs.Spelled.{IsSpelled, op_texts, whole_op}
+use Rattle.script_reader.specs.Ways.{way_of}
 use Rattle.script_reader.specs.Written.{word_for}
 use Rattle.script_reader.specs.declared.cut.Cut.{Cut}
 use Rattle.script_reader.specs.declared.cut.Cut.TheVariants as cut
@@ -27,6 +28,8 @@ use Rattle.script_reader.specs.declared.edit.EditWord.{EditWord}
 use Rattle.script_reader.specs.declared.edit.EditWord.TheVariants as word
 use Rattle.script_reader.specs.declared.number.TheConstants.{MAX_COALESCE_SECONDS, MAX_INDEX}
 use Rattle.script_reader.specs.declared.spelled.SaidOp.TheVariants.{Nothing}
+use Rattle.script_reader.specs.declared.way.Way.{Way}
+use Rattle.script_reader.specs.declared.way.Way.TheVariants as way
 use Rattle.script_reader.proofs.Answered.{IfAnswered, bound, lone}
 use Rattle.script_reader.proofs.OpWords.{says_add, texts_say}
 use Rattle.script_reader.proofs.SpelledFits.{spelled_fits}
@@ -49,6 +52,8 @@ word_again word.Add = refl
 word_again word.Remove = refl
 word_again word.Coalesce = refl
 word_again word.Simplify = refl
+word_again word.Path = refl
+word_again word.Paths = refl
 
 -- no word of an edit is one that takes no selection
 pub no_plain_word : (it : EditWord) → plain_word_of (edit_word it) ≡ None
@@ -64,6 +69,8 @@ no_plain_word word.Add = refl
 no_plain_word word.Remove = refl
 no_plain_word word.Coalesce = refl
 no_plain_word word.Simplify = refl
+no_plain_word word.Path = refl
+no_plain_word word.Paths = refl
 
 -- each begins with a letter and has no blank
 pub edit_word_text : (it : EditWord) → IsWordText (edit_word it)
@@ -78,6 +85,8 @@ edit_word_text word.Add = refl
 edit_word_text word.Remove = refl
 edit_word_text word.Coalesce = refl
 edit_word_text word.Simplify = refl
+edit_word_text word.Path = refl
+edit_word_text word.Paths = refl
 
 -- ---- what is spelled
 
@@ -129,6 +138,41 @@ coalesce_fits (word ∷ words) =
     bound IsSpelledEdit (or_at_fault word (option_and_then seconds_in (whole_in word))) (λ seconds. alone (edit.Coalesce seconds) words)
     (λ seconds is. lone IsSpelledEdit (edit.Coalesce seconds) words tt)
 
+to_fits : (source : Bytes) (words : List Word) → IfAnswered IsSpelledEdit (path_to source words)
+to_fits source [] = tt
+to_fits source (word ∷ words) =
+    bound IsSpelledEdit (or_at_fault word (text_before words word)) (λ target. alone (edit.PathRename source target) words)
+    (λ target is. lone IsSpelledEdit (edit.PathRename source target) words tt)
+
+from_fits : (words : List Word) → IfAnswered IsSpelledEdit (path_from words)
+from_fits [] = tt
+from_fits (word ∷ words) = bound IsSpelledEdit (or_at_fault word (text_before words word)) (λ source. path_to source words) (λ source is. to_fits source words)
+
+path_fits : (words : List Word) → IfAnswered IsSpelledEdit (path_words words)
+unfolding path_words
+path_fits [] = tt
+path_fits (word ∷ words) = go (says_rename word) (from_fits words)
+  where
+    go : (b : Bool) → IfAnswered IsSpelledEdit (path_from words) → IfAnswered IsSpelledEdit (cond b (path_from words) (at_fault word))
+    go true fits = fits
+    go false fits = tt
+
+moved_fits : (how : Way) (folder : Bytes) → IsSpelledEdit (moved_by how folder)
+moved_fits way.Sub folder = tt
+moved_fits way.Sup folder = tt
+
+by_fits : (how : Way) (words : List Word) → IfAnswered IsSpelledEdit (paths_by how words)
+by_fits how [] = tt
+by_fits how (word ∷ words) =
+    bound IsSpelledEdit (or_at_fault word (text_before words word)) (λ folder. alone (moved_by how folder) words)
+    (λ folder is. lone IsSpelledEdit (moved_by how folder) words (moved_fits how folder))
+
+paths_fits : (words : List Word) → IfAnswered IsSpelledEdit (paths_words words)
+unfolding paths_words
+paths_fits [] = tt
+paths_fits (word ∷ words) = bound IsSpelledEdit (or_at_fault word (option_and_then way_of (whole_in word))) (λ how. paths_by how words)
+    (λ how is. by_fits how words)
+
 -- what the words of an edit say is spelled
 pub said_fits : (word : EditWord) (words : List Word) → IfAnswered IsSpelledEdit (said_of word words)
 said_fits word.Squash words = squash_fits words
@@ -142,6 +186,8 @@ said_fits word.Add words = add_fits words
 said_fits word.Remove words = remove_fits words
 said_fits word.Coalesce words = coalesce_fits words
 said_fits word.Simplify words = lone IsSpelledEdit edit.Simplify words tt
+said_fits word.Path words = path_fits words
+said_fits word.Paths words = paths_fits words
 
 -- ---- edits as they are written
 
@@ -185,6 +231,18 @@ coalesce_again : (seconds : ℕ) → seconds ≤ MAX_COALESCE_SECONDS → coales
 unfolding coalesce_words
 coalesce_again seconds h = rw (whole_again (decimal_of seconds), seconds_again seconds h) refl
 
+path_again : (source target : Bytes) → path_words (map word_for (codes "rename" ∷ source ∷ target ∷ [])) ≡ Ok (edit.PathRename source target)
+unfolding path_words
+path_again source target = rw (whole_again source, name_again target) refl
+
+sub_again : (folder : Bytes) → paths_words (map word_for (codes "sub" ∷ folder ∷ [])) ≡ Ok (edit.PathsSub folder)
+unfolding paths_words
+sub_again folder = rw (name_again folder) refl
+
+sup_again : (folder : Bytes) → paths_words (map word_for (codes "sup" ∷ folder ∷ [])) ≡ Ok (edit.PathsSup folder)
+unfolding paths_words
+sup_again folder = rw (name_again folder) refl
+
 -- what removes an operation, by what its text says
 removed : (text : Bytes) (number : Option ℕ) → index_in text ≡ number → removal_of text ≡ elim number [ Some n ↦ edit.RemoveAt n | None ↦ edit.RemoveBy text ]
 removed text number is = ap (λ (number : Option ℕ). elim number [ Some n ↦ edit.RemoveAt n | None ↦ edit.RemoveBy text ]) is
@@ -203,3 +261,6 @@ edit_again (edit.RemoveAt number) h = remove_again (decimal_of number) ∙ ap (�
 edit_again (edit.RemoveBy text) h = remove_again text ∙ ap (λ (it : Edit). Ok it) (removed text None h)
 edit_again (edit.Coalesce seconds) h = coalesce_again seconds h
 edit_again edit.Simplify h = refl
+edit_again (edit.PathRename source target) h = path_again source target
+edit_again (edit.PathsSub folder) h = sub_again folder
+edit_again (edit.PathsSup folder) h = sup_again folder

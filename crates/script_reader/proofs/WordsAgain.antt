@@ -29,6 +29,7 @@ listing_again listing.Index = refl
 listing_again listing.Stamp = refl
 listing_again listing.Resolve = refl
 listing_again listing.Manifest = refl
+listing_again listing.Messages = refl
 
 pub keyword_again : (word : Keyword) → keyword_of (command_word word) ≡ Some word
 unfolding plain_word_of word_of listing_of other_of

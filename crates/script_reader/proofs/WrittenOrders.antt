@@ -131,7 +131,7 @@ command_again command.Renumber h = ap steps renumber_again
 command_again (command.Show selection what to) h = ap steps (show_again selection what to h)
 command_again (command.Assign selection name) h = ap steps (assign_again selection name h)
 command_again (command.Edit None what) (h, k) = ap steps (edit_of_all what h k)
-command_again (command.Edit (Some selection) what) h = ap steps (edit_of_some selection what h)
+command_again (command.Edit (Some selection) what) (may, h) = ap steps (edit_of_some selection what h)
 command_again (command.Expunge []) h = absurd h
 command_again (command.Expunge (text ∷ texts)) h = ap steps (expunge_again text texts)
 command_again (command.Names to) h = ap steps (names_again to h)
@@ -147,22 +147,23 @@ taken : (selection : Option Bytes) (word : Keyword) → takes_selection word ≡
 taken None word h = refl
 taken (Some selection) word h = ap (λ b. cond b false true) h
 
-not_superfluous : (what : Order) → is_superfluous (parts_of what).selection (parts_of what).word ≡ false
-not_superfluous (order.Do call) = taken call.selection keyword.Do refl
-not_superfluous (order.Step (command.Show selection what to)) = taken selection (keyword.Show what) refl
-not_superfluous (order.Step (command.Assign selection name)) = refl
-not_superfluous (order.Step (command.Edit selection what)) = taken selection (keyword.Edit (own_word what)) refl
-not_superfluous (order.Step (command.Read file name)) = refl
-not_superfluous (order.Step (command.Write to)) = refl
-not_superfluous (order.Step (command.Choose name)) = refl
-not_superfluous (order.Step command.ShowRepos) = refl
-not_superfluous (order.Step (command.Drop name)) = refl
-not_superfluous (order.Step command.DropChosen) = refl
-not_superfluous (order.Step command.Renumber) = refl
-not_superfluous (order.Step (command.Expunge texts)) = refl
-not_superfluous (order.Step (command.Names to)) = refl
-not_superfluous (order.Step (command.Summary to)) = refl
-not_superfluous (order.Step (command.Sample count start)) = refl
+not_superfluous : (what : Order) → IsSayableOrder what → is_superfluous (parts_of what).selection (parts_of what).word ≡ false
+not_superfluous (order.Do call) h = taken call.selection keyword.Do refl
+not_superfluous (order.Step (command.Show selection what to)) h = taken selection (keyword.Show what) refl
+not_superfluous (order.Step (command.Assign selection name)) h = refl
+not_superfluous (order.Step (command.Edit None what)) h = refl
+not_superfluous (order.Step (command.Edit (Some selection) what)) (may, h) = taken (Some selection) (keyword.Edit (own_word what)) may
+not_superfluous (order.Step (command.Read file name)) h = refl
+not_superfluous (order.Step (command.Write to)) h = refl
+not_superfluous (order.Step (command.Choose name)) h = refl
+not_superfluous (order.Step command.ShowRepos) h = refl
+not_superfluous (order.Step (command.Drop name)) h = refl
+not_superfluous (order.Step command.DropChosen) h = refl
+not_superfluous (order.Step command.Renumber) h = refl
+not_superfluous (order.Step (command.Expunge texts)) h = refl
+not_superfluous (order.Step (command.Names to)) h = refl
+not_superfluous (order.Step (command.Summary to)) h = refl
+not_superfluous (order.Step (command.Sample count start)) h = refl
 
 -- ---- a line
 
@@ -182,6 +183,7 @@ word_text (keyword.Show listing.Index) = refl
 word_text (keyword.Show listing.Stamp) = refl
 word_text (keyword.Show listing.Resolve) = refl
 word_text (keyword.Show listing.Manifest) = refl
+word_text (keyword.Show listing.Messages) = refl
 word_text keyword.Assign = refl
 word_text keyword.Do = refl
 word_text keyword.Define = refl
@@ -201,5 +203,5 @@ order_again right what can =
     let parts = parts_of what in
     ap (λ (b : Bool). cond b (Err too_long) (front_of (line_with parts) >>= order_after)) can.short
     ∙ ap (λ r. r >>= order_after) (front_again right parts.selection (command_word parts.word) (spaced parts.words) can.selected (word_text parts.word))
-    ∙ after_again parts (not_superfluous what) parts.words (words_again parts.words can.whole)
+    ∙ after_again parts (not_superfluous what can.said) parts.words (words_again parts.words can.whole)
     ∙ parts_again what can.said

@@ -1,6 +1,7 @@
 -- Edits of the chosen history: the command word of each, whether a selection has to be before it, and what the words after it say. (reposurgeon
 -- manual, of each command word its section; what is at fault: own)
 use Rattle.std.specs.Prelude.{◌≡◌, ◌≤◌, Bool, true, false, List, [], ◌∷◌, Option, Some, None, option_and_then, Result, Ok, Err, bytes_eq, codes, if◌then◌else◌}
+use Rattle.std.specs.Option.{option_map_or}
 use Rattle.plain_model.specs.Numbers.{decimal_of}
 use Rattle.plain_model.specs.Paths.{Bytes}
 use Rattle.plain_model.specs.Policies.{delete_how}
@@ -8,13 +9,14 @@ use Rattle.plain_model.specs.declared.fault.Fault.{Fault}
 use Rattle.plain_model.specs.declared.fault.Fault.TheVariants as fault
 use Rattle.plain_model.specs.declared.raw.RawOp.{RawOp}
 use Rattle.script_lines.specs.Answering.{◌>>=◌}
-use Rattle.script_lines.specs.Texts.{or_at_fault, text_before, whole_in}
+use Rattle.script_lines.specs.Texts.{at_fault, or_at_fault, text_before, whole_in}
 use Rattle.script_lines.specs.declared.word.Word.{Word}
 use Rattle.script_reader.specs.Cuts.{cut_of}
 use Rattle.script_reader.specs.Forms.{alone}
 use Rattle.script_reader.specs.Numbers.{index_in, seconds_in}
 use Rattle.script_reader.specs.Options.{IsSaidPolicy, asked_more, how_texts, nothing_asked, policy_of, policy_texts, reparenting, reparenting_more, squash_option}
 use Rattle.script_reader.specs.Spelled.{IsSpelled, op_more, op_texts, whole_op}
+use Rattle.script_reader.specs.Ways.{way_of}
 use Rattle.script_reader.specs.declared.cut.Cut.{Cut}
 use Rattle.script_reader.specs.declared.cut.Cut.TheVariants as cut
 use Rattle.script_reader.specs.declared.edit.Edit.{Edit}
@@ -27,6 +29,8 @@ use Rattle.script_reader.specs.declared.options.Reparenting.{Reparenting}
 use Rattle.script_reader.specs.declared.options.SquashOption.{SquashOption}
 use Rattle.script_reader.specs.declared.spelled.SaidOp.{SaidOp}
 use Rattle.script_reader.specs.declared.spelled.SaidOp.TheVariants.{Nothing}
+use Rattle.script_reader.specs.declared.way.Way.{Way}
+use Rattle.script_reader.specs.declared.way.Way.TheVariants as way
 
 -- ---- the command words
 
@@ -43,7 +47,9 @@ word_of text =
     if bytes_eq text (codes "add") then Some word.Add else
     if bytes_eq text (codes "remove") then Some word.Remove else
     if bytes_eq text (codes "coalesce") then Some word.Coalesce else
-    if bytes_eq text (codes "simplify") then Some word.Simplify else None
+    if bytes_eq text (codes "simplify") then Some word.Simplify else
+    if bytes_eq text (codes "path") then Some word.Path else
+    if bytes_eq text (codes "paths") then Some word.Paths else None
 
 -- the same as it is written
 abbrev pub edit_word : EditWord → Bytes
@@ -58,6 +64,8 @@ edit_word word.Add = codes "add"
 edit_word word.Remove = codes "remove"
 edit_word word.Coalesce = codes "coalesce"
 edit_word word.Simplify = codes "simplify"
+edit_word word.Path = codes "path"
+edit_word word.Paths = codes "paths"
 
 -- a selection has to be before it
 abbrev pub needs_selection : EditWord → Bool
@@ -72,6 +80,14 @@ needs_selection word.Add = true
 needs_selection word.Remove = true
 needs_selection word.Coalesce = false
 needs_selection word.Simplify = false
+needs_selection word.Path = false
+needs_selection word.Paths = false
+
+-- a selection may be before it
+abbrev pub may_select : EditWord → Bool
+may_select word.Path = false
+may_select word.Paths = false
+may_select other = true
 
 -- ---- the words after them
 
@@ -138,6 +154,40 @@ unfoldable pub coalesce_words : List Word → Result Edit Fault
 coalesce_words [] = Ok (edit.Coalesce USUAL_SECONDS)
 coalesce_words (word ∷ words) = or_at_fault word (option_and_then seconds_in (whole_in word)) >>= λ seconds. alone (edit.Coalesce seconds) words
 
+-- the word is `rename`
+abbrev pub says_rename : Word → Bool
+says_rename word = option_map_or (λ name. bytes_eq name (codes "rename")) (whole_in word) false
+
+-- `path rename SOURCE TARGET`, after SOURCE
+abbrev pub path_to : Bytes → List Word → Result Edit Fault
+path_to source [] = Err (fault.BadWords (codes "path"))
+path_to source (word ∷ words) = or_at_fault word (text_before words word) >>= λ target. alone (edit.PathRename source target) words
+
+-- the same after `rename`
+abbrev pub path_from : List Word → Result Edit Fault
+path_from [] = Err (fault.BadWords (codes "path"))
+path_from (word ∷ words) = or_at_fault word (text_before words word) >>= λ source. path_to source words
+
+-- `path rename SOURCE TARGET`
+unfoldable pub path_words : List Word → Result Edit Fault
+path_words [] = Err (fault.BadWords (codes "path"))
+path_words (word ∷ words) = if says_rename word then path_from words else at_fault word
+
+-- to below a folder, or out of it
+abbrev pub moved_by : Way → Bytes → Edit
+moved_by way.Sub folder = edit.PathsSub folder
+moved_by way.Sup folder = edit.PathsSup folder
+
+-- what is after `sub`, or after `sup`
+abbrev pub paths_by : Way → List Word → Result Edit Fault
+paths_by how [] = Err (fault.BadWords (codes "paths"))
+paths_by how (word ∷ words) = or_at_fault word (text_before words word) >>= λ folder. alone (moved_by how folder) words
+
+-- `paths sub DIR`, `paths sup DIR`
+unfoldable pub paths_words : List Word → Result Edit Fault
+paths_words [] = Err (fault.BadWords (codes "paths"))
+paths_words (word ∷ words) = or_at_fault word (option_and_then way_of (whole_in word)) >>= λ how. paths_by how words
+
 -- the edit that the words after its command word say
 abbrev pub said_of : EditWord → List Word → Result Edit Fault
 said_of word.Squash words = squash_words words
@@ -151,6 +201,8 @@ said_of word.Add words = add_words words
 said_of word.Remove words = remove_words words
 said_of word.Coalesce words = coalesce_words words
 said_of word.Simplify words = alone edit.Simplify words
+said_of word.Path words = path_words words
+said_of word.Paths words = paths_words words
 
 -- ---- what is spelled
 
@@ -168,6 +220,9 @@ IsSpelledEdit (edit.RemoveAt number) = Unit {0}
 IsSpelledEdit (edit.RemoveBy text) = Unit {0}
 IsSpelledEdit (edit.Coalesce seconds) = Unit {0}
 IsSpelledEdit edit.Simplify = Unit {0}
+IsSpelledEdit (edit.PathRename source target) = Unit {0}
+IsSpelledEdit (edit.PathsSub folder) = Unit {0}
+IsSpelledEdit (edit.PathsSup folder) = Unit {0}
 
 -- ---- edits as they are written
 
@@ -185,6 +240,9 @@ own_word (edit.RemoveAt number) = word.Remove
 own_word (edit.RemoveBy text) = word.Remove
 own_word (edit.Coalesce seconds) = word.Coalesce
 own_word edit.Simplify = word.Simplify
+own_word (edit.PathRename source target) = word.Path
+own_word (edit.PathsSub folder) = word.Paths
+own_word (edit.PathsSup folder) = word.Paths
 
 -- the texts after it
 abbrev pub edit_texts : Edit → List Bytes
@@ -200,6 +258,9 @@ edit_texts (edit.RemoveAt number) = decimal_of number ∷ []
 edit_texts (edit.RemoveBy text) = text ∷ []
 edit_texts (edit.Coalesce seconds) = decimal_of seconds ∷ []
 edit_texts edit.Simplify = []
+edit_texts (edit.PathRename source target) = codes "rename" ∷ source ∷ target ∷ []
+edit_texts (edit.PathsSub folder) = codes "sub" ∷ folder ∷ []
+edit_texts (edit.PathsSup folder) = codes "sup" ∷ folder ∷ []
 
 -- texts can say it: numbers are within bounds, and what is removed by its path isn't a number
 abbrev pub CanBeSaid : Edit → Type 0
@@ -215,3 +276,6 @@ CanBeSaid (edit.RemoveAt number) = number ≤ MAX_INDEX
 CanBeSaid (edit.RemoveBy text) = index_in text ≡ None
 CanBeSaid (edit.Coalesce seconds) = seconds ≤ MAX_COALESCE_SECONDS
 CanBeSaid edit.Simplify = Unit {0}
+CanBeSaid (edit.PathRename source target) = Unit {0}
+CanBeSaid (edit.PathsSub folder) = Unit {0}
+CanBeSaid (edit.PathsSup folder) = Unit {0}

@@ -30,7 +30,8 @@ listing_of text =
     if bytes_eq text (codes "index") then Some listing.Index else
     if bytes_eq text (codes "stamp") then Some listing.Stamp else
     if bytes_eq text (codes "resolve") then Some listing.Resolve else
-    if bytes_eq text (codes "manifest") then Some listing.Manifest else None
+    if bytes_eq text (codes "manifest") then Some listing.Manifest else
+    if bytes_eq text (codes "msgout") then Some listing.Messages else None
 
 -- each other command word
 unfoldable pub other_of : Bytes → Option Keyword
@@ -59,6 +60,7 @@ listing_word listing.Index = codes "index"
 listing_word listing.Stamp = codes "stamp"
 listing_word listing.Resolve = codes "resolve"
 listing_word listing.Manifest = codes "manifest"
+listing_word listing.Messages = codes "msgout"
 
 -- a command word that takes no selection
 abbrev pub plain_word : PlainWord → Bytes

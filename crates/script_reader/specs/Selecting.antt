@@ -10,6 +10,7 @@ use Rattle.selection_parser.specs.Views.{plain_of}
 use Rattle.selection_parser.specs.declared.selection.Selection.{Selection}
 use Rattle.script_lines.specs.Names.{is_letter}
 use Rattle.script_lines.specs.Words.{head_of, without_blanks}
+use Rattle.script_reader.specs.Edits.{may_select}
 use Rattle.script_reader.specs.Keywords.{keyword_of}
 use Rattle.script_reader.specs.declared.keyword.Keyword.{Keyword}
 use Rattle.script_reader.specs.declared.keyword.Keyword.TheVariants as keyword
@@ -48,6 +49,7 @@ front_of line =
 abbrev pub takes_selection : Keyword → Bool
 takes_selection (keyword.Plain word) = false
 takes_selection keyword.Define = false
+takes_selection (keyword.Edit word) = may_select word
 takes_selection other = true
 
 -- the same of a command word, if it is one

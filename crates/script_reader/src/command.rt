@@ -89,6 +89,8 @@ pub enum Listing {
     Resolve,
     /// The files of each commit.
     Manifest,
+    /// A message for each commit and tag, as a box that can be edited.
+    Messages,
 }
 
 /// A macro that is to be run, the words for its places, and the selection for those of its lines that take one.

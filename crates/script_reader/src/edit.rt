@@ -10,13 +10,20 @@ ghost use Rattle.script_reader.specs.Edits.{
   coalesce_words,
   cut_form,
   edit_word,
+  may_select,
   needs_selection,
   op_by,
+  path_from,
+  path_to,
+  path_words,
+  paths_by,
+  paths_words,
   removal_of,
   remove_words,
   reparent_words,
   reparenting_by,
   said_of,
+  says_rename,
   split_words,
   squash_words,
   word_of,
@@ -25,12 +32,14 @@ ghost use Rattle.script_reader.specs.Forms.{alone};
 ghost use Rattle.script_reader.specs.Numbers.{index_in, seconds_in};
 ghost use Rattle.script_reader.specs.Options.{asked_more, reparenting_more, squash_option};
 ghost use Rattle.script_reader.specs.Spelled.{op_more};
+ghost use Rattle.script_reader.specs.Ways.{way_of};
 ghost use Rattle.script_reader.specs.declared.edit.Edit.TheVariants as edit;
 
 use crate::cut::Cut;
 use crate::number::{USUAL_SECONDS, index_in, seconds_in};
 use crate::options::{Asked, Reparenting, SquashOption};
 use crate::spelled::{SaidOp, SpelledOp};
+use crate::way::Way;
 use plain_model::{Halt, Lean, Policy, Push};
 use script_lines::{ScriptText, Word, at_fault, bad_words, or_at_fault, text_before};
 use std::alloc::Global;
@@ -62,6 +71,15 @@ pub enum Edit {
     Coalesce(u64),
     /// Drops operations that later ones of the same commit make void.
     Simplify,
+    /// Moves a path, with all below it, to another one.
+    PathRename {
+        source: ScriptText,
+        target: ScriptText,
+    },
+    /// Moves all paths to below a folder.
+    PathsSub(ScriptText),
+    /// Moves what is below a folder out of it.
+    PathsSup(ScriptText),
 }
 
 /// The command word of an edit. (reposurgeon manual)
@@ -78,6 +96,8 @@ pub enum EditWord {
     Remove,
     Coalesce,
     Simplify,
+    Path,
+    Paths,
 }
 
 // An edit after whose command word is no word.
@@ -288,6 +308,86 @@ fn coalesce(alloc: Global, words: &[Word]) -> Result<Edit, Halt>
     }
 }
 
+// Whether a word is `rename`.
+fn says_rename(word: &Word) -> bool
+    ensures { result ≡ says_rename word.now }
+{
+    match word.whole() {
+        Some(text) => text.as_bytes() == b"rename".as_slice(),
+        None => false,
+    }
+}
+
+// `rename SOURCE TARGET`, after SOURCE
+fn path_to(alloc: Global, source: ScriptText, words: &[Word]) -> Result<Edit, Halt>
+    ensures { Returns (λ what. what) result (path_to source words.now) }
+{
+    let [word, others @ ..] = words else {
+        return Err(bad_words(alloc, b"path"));
+    };
+    let target = text_before(alloc, others, word)?;
+    only(alloc, Edit::PathRename { source, target }, others)
+}
+
+// The same after `rename`.
+fn path_from(alloc: Global, words: &[Word]) -> Result<Edit, Halt>
+    ensures { Returns (λ what. what) result (path_from words.now) }
+{
+    let [word, others @ ..] = words else {
+        return Err(bad_words(alloc, b"path"));
+    };
+    let source = text_before(alloc, others, word)?;
+    path_to(alloc, source, others)
+}
+
+// `rename SOURCE TARGET`
+#[tactic(auto, unfolding(crate::specs::Edits::path_words))]
+fn path(alloc: Global, words: &[Word]) -> Result<Edit, Halt>
+    ensures { Returns (λ what. what) result (path_words words.now) }
+{
+    let [word, others @ ..] = words else {
+        return Err(bad_words(alloc, b"path"));
+    };
+    if !says_rename(word) {
+        return Err(at_fault(alloc, word));
+    }
+    path_from(alloc, others)
+}
+
+// The word after `paths`.
+fn way(word: &Word) -> Option<Way>
+    ensures { result ≡ option_and_then way_of (whole_in word.now) }
+{
+    Way::of(word.whole()?.as_bytes())
+}
+
+// What is after `sub`, or after `sup`.
+fn paths_by(alloc: Global, how: Way, words: &[Word]) -> Result<Edit, Halt>
+    ensures { Returns (λ what. what) result (paths_by how words.now) }
+{
+    let [word, others @ ..] = words else {
+        return Err(bad_words(alloc, b"paths"));
+    };
+    let folder = text_before(alloc, others, word)?;
+    let what = match how {
+        Way::Sub => Edit::PathsSub(folder),
+        Way::Sup => Edit::PathsSup(folder),
+    };
+    only(alloc, what, others)
+}
+
+// `sub DIR`, `sup DIR`
+#[tactic(auto, unfolding(crate::specs::Edits::paths_words))]
+fn paths(alloc: Global, words: &[Word]) -> Result<Edit, Halt>
+    ensures { Returns (λ what. what) result (paths_words words.now) }
+{
+    let [word, others @ ..] = words else {
+        return Err(bad_words(alloc, b"paths"));
+    };
+    let how = or_at_fault(alloc, word, way(word))?;
+    paths_by(alloc, how, others)
+}
+
 impl EditWord {
     /// The word of an edit that these bytes are.
     #[tactic(auto, unfolding(crate::specs::Edits::word_of))]
@@ -306,6 +406,8 @@ impl EditWord {
             "remove" => Some(EditWord::Remove),
             "coalesce" => Some(EditWord::Coalesce),
             "simplify" => Some(EditWord::Simplify),
+            "path" => Some(EditWord::Path),
+            "paths" => Some(EditWord::Paths),
             _ => None,
         }
     }
@@ -326,6 +428,8 @@ impl EditWord {
             EditWord::Remove => b"remove",
             EditWord::Coalesce => b"coalesce",
             EditWord::Simplify => b"simplify",
+            EditWord::Path => b"path",
+            EditWord::Paths => b"paths",
         }
     }
 
@@ -345,7 +449,16 @@ impl EditWord {
             EditWord::Remove => true,
             EditWord::Coalesce => false,
             EditWord::Simplify => false,
+            EditWord::Path => false,
+            EditWord::Paths => false,
         }
+    }
+
+    /// Whether a selection may be before it.
+    pub fn may_select(self) -> bool
+        ensures { result ≡ may_select self }
+    {
+        !matches!(self, EditWord::Path | EditWord::Paths)
     }
 
     /// The edit that the words after it say.
@@ -364,6 +477,8 @@ impl EditWord {
             EditWord::Remove => remove(alloc, words),
             EditWord::Coalesce => coalesce(alloc, words),
             EditWord::Simplify => only(alloc, Edit::Simplify, words),
+            EditWord::Path => path(alloc, words),
+            EditWord::Paths => paths(alloc, words),
         }
     }
 }

@@ -72,6 +72,7 @@ impl Listing {
             "stamp" => Some(Listing::Stamp),
             "resolve" => Some(Listing::Resolve),
             "manifest" => Some(Listing::Manifest),
+            "msgout" => Some(Listing::Messages),
             _ => None,
         }
     }
@@ -111,6 +112,10 @@ impl Keyword {
     pub fn takes_selection(self) -> bool
         ensures { result ≡ takes_selection self }
     {
-        !matches!(self, Keyword::Plain(_) | Keyword::Define)
+        match self {
+            Keyword::Plain(_) | Keyword::Define => false,
+            Keyword::Edit(word) => word.may_select(),
+            _ => true,
+        }
     }
 }

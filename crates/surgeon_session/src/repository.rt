@@ -25,8 +25,11 @@ use byte_patterns::Patterns;
 use coalesce_simplify::{coalesce, simplify};
 use event_arena::{Events, Plan};
 use listing::{index, list, manifest, resolve, stamp};
+use mailbox_writer::msgout;
 use manifest_cache::Manifests;
 use path_expunge::{Matcher, expunge};
+use path_move_laws::PathMap;
+use path_moves::map_paths;
 use plain_model::{AnyId, Fault, Halt, IdList, Items, NoMemory, Text};
 use renumbering::renumber;
 use reparent_laws::Removal;
@@ -128,6 +131,7 @@ impl Repository {
             Listing::Stamp => stamp(&self.events, ids, &mut text)?,
             Listing::Resolve => resolve(&self.events, ids, &mut text)?,
             Listing::Manifest => manifest(&self.events, &mut self.manifests, ids, &mut text)?,
+            Listing::Messages => msgout(&self.events, ids, &mut text)?,
         }
         Ok(text)
     }
@@ -219,6 +223,20 @@ impl Repository {
             Edit::RemoveBy(text) => {
                 let what = Removal::At(path_of(self.alloc, text.as_bytes())?);
                 remove_op(self.alloc, &self.events, &mut self.manifests, ids, &what)
+            }
+            Edit::PathRename { source, target } => {
+                let source = path_of(self.alloc, source.as_bytes())?;
+                let target = path_of(self.alloc, target.as_bytes())?;
+                let map = PathMap::Rename { source, target };
+                map_paths(self.alloc, &self.events, &mut self.manifests, &map)
+            }
+            Edit::PathsSub(text) => {
+                let map = PathMap::Sub(path_of(self.alloc, text.as_bytes())?);
+                map_paths(self.alloc, &self.events, &mut self.manifests, &map)
+            }
+            Edit::PathsSup(text) => {
+                let map = PathMap::Sup(path_of(self.alloc, text.as_bytes())?);
+                map_paths(self.alloc, &self.events, &mut self.manifests, &map)
             }
         }
     }

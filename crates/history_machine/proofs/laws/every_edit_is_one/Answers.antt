@@ -6,8 +6,13 @@ use Rattle.script_reader.specs.Edits.{IsSpelledEdit}
 use Rattle.script_reader.specs.declared.edit.Edit.{Edit}
 use Rattle.script_reader.specs.declared.edit.Edit.TheVariants as edit
 use Rattle.split_laws.specs.Split.{split_by_of}
+use Rattle.path_move_laws.specs.Moves.{paths_moved}
+use Rattle.path_move_laws.specs.PathMaps.{image_of}
+use Rattle.path_move_laws.specs.declared.path_map.PathMap.TheVariants.{Rename, Sub, Sup}
+use Rattle.script_lines.specs.Answering.{◌>>=◌}
+use Rattle.history_machine.specs.PathWords.{said_path}
 use Rattle.history_machine.specs.Sessions.{remade}
-use Rattle.history_machine.proofs.Edits.{of_path}
+use Rattle.history_machine.proofs.Edits.{of_fit_path, of_path}
 use Rattle.history_machine.proofs.laws.every_edit_is_one.Goals as goal
 
 pub returns : goal.returns
@@ -26,3 +31,9 @@ returns c = each
     each (edit.RemoveBy text) fits = of_path text (λ path set next events. with_number next (remove_of (At path) set events)) (c.a_change_is_an_edit.ensures.remove (At text))
     each (edit.Coalesce seconds) fits = c.a_coalesce_is_an_edit.ensures seconds
     each edit.Simplify fits = c.a_simplify_is_an_edit.ensures
+    each (edit.PathRename source target) fits =
+        of_fit_path source (λ from set next events. said_path target >>= λ to. with_number next (paths_moved (image_of (Rename from to)) events))
+        (λ source_fits. of_fit_path target (λ to set next events. with_number next (paths_moved (image_of (Rename source to)) events))
+        (λ target_fits. c.a_move_is_an_edit.ensures (Rename source target) (source_fits, target_fits)))
+    each (edit.PathsSub text) fits = of_fit_path text (λ folder set next events. with_number next (paths_moved (image_of (Sub folder)) events)) (c.a_move_is_an_edit.ensures (Sub text))
+    each (edit.PathsSup text) fits = of_fit_path text (λ folder set next events. with_number next (paths_moved (image_of (Sup folder)) events)) (c.a_move_is_an_edit.ensures (Sup text))
