@@ -18,7 +18,9 @@ use Rattle.edit_laws.specs.Parts.{AreComplete}
 use Rattle.commit_laws.specs.Rewriting.{rewritten, rewritten_all}
 use Rattle.reparent_laws.specs.Reparent.{have_same_first, ops_onto}
 use Rattle.reparent_laws.specs.WrittenOut.{written_out}
-use Rattle.plan_limits.proofs.Counting.{count_more, count_passed, ops_counted, own_ops}
+use Rattle.std.proofs.lemmas.Bool.Decides.{nat_tests}
+use Rattle.edit_laws.proofs.Tallies.{ops_counted, own_ops}
+use Rattle.plan_steps.proofs.Counting.{tally_item, tally_less}
 use Rattle.divide_laws.specs.Divide.{cut_link, divide_at, divide_of, divided, loses, parted, unless_many, without_parent}
 use Rattle.divide_laws.specs.Links.{is_late}
 use Rattle.divide_laws.specs.Sides.{is_commit_among}
@@ -78,14 +80,25 @@ own_many (Pass id line) = refl
 
 module _ (most : ℕ) (es : List PlainEvent) (k left : ℕ) (so_far : left + ops_in (take k es) ≡ most) where
   module _ (more : ℕ) (e : PlainEvent) (at : slice_get es k ≡ Some e) (own : more ≡ length (event_ops e)) where
-    pub left_less : more ≤ left → (left - more) + ops_in (take (suc k) es) ≡ most
-    left_less low =
-        let all = count_more own_ops ops_in ops_counted most es k (ops_in (take k es)) more e at refl (own ∙ own_many e) in
+    one_more : ops_in (take (suc k) es) ≡ ops_in (take k es) + more
+    one_more =
+        let item = tally_item own_ops es k e at in
+        let before = ops_counted (take k es) in
+        let after = ops_counted (take (suc k) es) in
+        let mine = own ∙ own_many e in
         omega arith
+
+    pub left_less : more ≤ left → (left - more) + ops_in (take (suc k) es) ≡ most
+    left_less low = let next = one_more in omega arith
 
     pub left_passed : left < more → true ≡ nat_lt most (ops_in es)
     left_passed over =
-        count_passed own_ops ops_in ops_counted most es k (ops_in (take k es)) more e at refl (own ∙ own_many e) (omega arith)
+        let next = one_more in
+        let front = ops_counted (take (suc k) es) in
+        let all = ops_counted es in
+        let less = tally_less own_ops es (suc k) in
+        let above : most < ops_in es = omega arith in
+        sym (grind (arith, nat_tests))
 
 -- ---- the halves
 

@@ -27,7 +27,7 @@ returns-then-same-clause-after c =
     let same : have_same_first own.parents (without_parent cut.parent own.parents) ≡ true =
     (λ i. have_same_first (sym old i) (sym (c.as_slice.ensures ∙ left) i)) ∙ sym c.have_same_first-same.ensures ∙ c.if-same.true in
     ap (λ (p : Change). p.after) c.in_ok-give_parents.ensures
-    ∙ (λ i. changed (any.Commit cut.child) (with_parents (left i)) (c.in_ok-plan.ensures.after i))
+    ∙ (λ i. changed (any.Commit cut.child) (with_parents (left i)) (ap (λ (p : Change). p.after) c.in_ok-plan.ensures i))
     ∙ parents_given cut.child (loses events cut.parent) events c.count-count.ensures.sound (stays events own.parents (without_parent cut.parent own.parents) own.ops same)
 
 pub returns-clause-after : goal.returns-clause-after
@@ -44,7 +44,7 @@ returns-clause-after c =
     let ops : c.in_ok-ops.ops ≡ ops_onto events fewer own.parents own.ops =
     c.in_ok-ops.ensures.made ∙ (λ i. written_out events (old i) (its i)) ∙ sym (is_written events own.parents fewer own.ops other) in
     let given : c.give_parents.new.plan.after ≡ changed (any.Commit cut.child) (with_parents fewer) events =
-    ap (λ (p : Change). p.after) c.in_ok-give_parents.ensures ∙ (λ i. changed (any.Commit cut.child) (with_parents (left i)) (c.in_ok-plan.ensures.after i)) in
+    ap (λ (p : Change). p.after) c.in_ok-give_parents.ensures ∙ (λ i. changed (any.Commit cut.child) (with_parents (left i)) (ap (λ (p : Change). p.after) c.in_ok-plan.ensures i)) in
     ap (λ (p : Change). p.after) c.in_ok-give_ops.ensures
     ∙ (λ i. changed (any.Commit cut.child) (with_ops (ops i)) (given i))
     ∙ both_given cut.child (loses events cut.parent) events c.count-count.ensures.sound
