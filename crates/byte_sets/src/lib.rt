@@ -1,0 +1,6 @@
+//! Sets of names and paths.
+#![tactic(auto)]
+
+mod set;
+
+pub use set::ByteSet;
