@@ -22,6 +22,10 @@ within name limit (Some bytes) = if nat_lt limit (length bytes) then Err (fault.
 abbrev pub file_within : Files → Bytes → ℕ → Result Bytes Fault
 file_within files name limit = within name limit (get files name)
 
+-- a file isn't read since it isn't there, or has more bytes than a limit
+abbrev pub IsFileFault : Bytes → ℕ → Fault → Type 0
+IsFileFault name limit why = (why ≡ fault.Absent name) ⊎ (why ≡ fault.TooLong name limit)
+
 -- the first bytes of what was found under a name, at most so many
 abbrev pub front : Bytes → ℕ → Option Bytes → Result Bytes Fault
 front name most None = Err (fault.Absent name)

@@ -15,6 +15,7 @@ ghost use Rattle.std.specs.Prelude.{
   Some,
   Err,
   drop,
+  length,
   take,
 };
 ghost use Rattle.std.specs.FinMap.{get, insert};
@@ -23,6 +24,7 @@ ghost use Rattle.surgeon_store.specs.Outside.{CountsNoFault, Misses, Opens, Read
 ghost use Rattle.surgeon_store.specs.WholeFiles.{
   Grows,
   GrowsSome,
+  IsFileFault,
   IsQuiet,
   LeavesAfter,
   PartWritten,
@@ -95,6 +97,7 @@ pub fn open_file<S: Store>(alloc: Global, store: &mut S, name: &str) -> Result<(
 fn rest_up_to<S: Store>(alloc: Global, store: &mut S, most: u64) -> Result<Text, ReadEnd>
     ensures found { IfOk result
         (λ text. IfSome (S.state store.old).rest (λ rest. text ≡ take most rest)) }
+    ensures within { IfOk result (λ text. length text ≤ most) }
     ensures taken { IfOk result
         (λ _. IfSome (S.state store.old).rest
         (λ rest. (S.state store.new).rest ≡ Some (drop most rest))) }
@@ -127,6 +130,9 @@ pub fn read_front<S: Store>(
 ) -> Result<Text, ReadEnd>
     ensures returns { IfSome (S.state store.old).files
         (λ files. ReturnsOrBreaks (λ text. text) result (front_of files name.now most)) }
+    ensures within { IfOk result (λ text. length text ≤ most) }
+    ensures absent { (fault : Fault) → result ≡ Err (ReadEnd.Refused fault)
+        → fault ≡ Fault.Absent name.now }
     ensures taken { IfSome (S.state store.old).files
         (λ files. IfSome (get files name.now)
         (λ bytes. LeavesAfter most bytes result (S.state store.new))) }
@@ -151,6 +157,9 @@ pub fn read_file<S: Store>(
     requires { limit < 2 ^ 63 }
     ensures returns { IfSome (S.state store.old).files
         (λ files. ReturnsOrBreaks (λ text. text) result (file_within files name.now limit)) }
+    ensures within { IfOk result (λ text. length text ≤ limit) }
+    ensures causes { (fault : Fault) → result ≡ Err (ReadEnd.Refused fault)
+        → IsFileFault name.now limit fault }
     ensures taken { IfSome (S.state store.old).files
         (λ files. IfSome (get files name.now)
         (λ bytes. LeavesAfter (limit + 1) bytes result (S.state store.new))) }
