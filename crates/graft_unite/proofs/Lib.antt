@@ -3,8 +3,11 @@ pub mod AppendLemmas
 pub mod DateLemmas
 pub mod GraftLemmas
 pub mod ItemLemmas
+pub mod MarkedParts
 pub mod NameLemmas
 pub mod NumberLemmas
+pub mod OrderLemmas
 pub mod PlacedLemmas
 pub mod SlashLemmas
+pub mod UniteLemmas
 pub mod UnitingLemmas

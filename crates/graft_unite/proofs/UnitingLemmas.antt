@@ -58,7 +58,7 @@ module _ (events part : List PlainEvent) (used own : List Bytes) (dates : List (
 -- ---- the number that comes next
 
 module _ where
-  abbrev above : ℕ → List PlainEvent → ℕ
+  abbrev pub above : ℕ → List PlainEvent → ℕ
   above n events = fold (λ n e. max n (id_number (id_of e) + 1)) n events
 
   placed_next : (k : ℕ) (ys : List PlainEvent) → ArePlaced k ys → above k ys ≡ k + length ys
@@ -81,7 +81,7 @@ placed_marked : (k n : ℕ) (es : List PlainEvent) → ArePlaced k es → ArePla
 placed_marked k n [] p = tt
 placed_marked k n (e ∷ es) p = (ap id_number (id_from n e) ∙ p.0, placed_marked (suc k) (n + length (event_marks e)) es p.1)
 
-marked_count : (n : ℕ) (es : List PlainEvent) → length (marks_of (renumbered_from n es)) ≡ length (marks_of es)
+pub marked_count : (n : ℕ) (es : List PlainEvent) → length (marks_of (renumbered_from n es)) ≡ length (marks_of es)
 marked_count n [] = refl
 marked_count n (e ∷ es) =
     let rest = marked_count (n + length (event_marks e)) es in

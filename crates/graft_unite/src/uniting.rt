@@ -1,218 +1,158 @@
 //! The history that several become.
-ghost use Rattle.std.specs.Prelude.{
-  ◌≡◌,
-  ◌≤◌,
-  ◌+◌,
-  ◌++◌,
-  length,
-  take,
-  IfOk,
-  IsErrOf,
-  OnOk,
-  None,
-  Some,
-};
-ghost use Rattle.graft_laws.specs.Faults.{name_fault};
-ghost use Rattle.graft_laws.specs.Joining.{added, new_names, without_passes};
-ghost use Rattle.graft_laws.specs.Unite.{part_fault};
+ghost use Rattle.std.specs.Prelude.{◌≡◌, ◌<◌, length, map, IfOk};
+ghost use Rattle.std.specs.List.{AllByRecursion};
+ghost use Rattle.graft_laws.specs.Joined.{AreNameBytes, IsPart};
+ghost use Rattle.graft_laws.specs.Unite.{numbered_anew, oldest_place, unite_of, with_parts};
+ghost use Rattle.graft_unite.specs.Ages.{part_at};
 ghost use Rattle.graft_unite.specs.Dates.{AreDatesOf};
-ghost use Rattle.graft_unite.specs.Uniting.{IsKnown, clashing, joining, marked_part};
-ghost use Rattle.graft_unite.specs.Used.{AreNamesOf};
-ghost use Rattle.plain_model.specs.Lookups.{AreIdsBelow, marks_of};
-ghost use Rattle.plain_model.specs.declared.fault.Halt.TheVariants.{Refused};
-ghost use Rattle.plain_model.specs.declared.limit.TheConstants.{MAX_MARK};
-ghost use Rattle.renumbering.specs.Renumbered.{renumbered_from};
+ghost use Rattle.graft_unite.specs.Uniting.{marked};
+ghost use Rattle.plain_model.specs.Faults.{Returns};
+ghost use Rattle.plain_model.specs.Lookups.{next_number};
 
-use crate::appending::append_part;
-use crate::clashes::name_fault;
+use crate::ages::places_by_age;
 use crate::dates::Dates;
-use crate::joining::Join;
-use crate::limits::mark_behind;
+use crate::further::join;
+use crate::limits::{judge, mark_behind};
 use crate::part::Part;
 use crate::used::Names;
 use event_arena::{Events, Plan};
-use plain_model::{Halt, NoMemory, ParentList};
+use graft_laws::a_unite_keeps_soundness;
+use manifest_cache::Manifests;
+use plain_model::{Fault, Halt, NoMemory};
+use renumbering::renumber;
 use std::alloc::Global;
-use std::marker::Model;
 
-// Names that are in use go below one, where neither those nor the part's own may be given; each root is on the latest commit before it.
+/// A history made of several, and the place of the oldest of them, from 0. (own)
 #[derive(Drop)]
-struct Uniting<'a> {
-    prefix: &'a [u8],
-    used: &'a Names,
-    own: &'a Names,
-    dates: &'a Dates,
-    prune: bool,
+pub struct United {
+    pub events: Events,
+    pub base: usize,
 }
 
-impl<'a> Model for Uniting<'a> {
-    ghost use Rattle.graft_unite.specs.Uniting.{Uniting};
-
-    ghost Value = { Uniting };
-
-    ghost view = { λ u. record {
-      prune = u.prune;
-      prefix = u.prefix.now;
-      used = u.used.now;
-      own = u.own.now;
-      dates = u.dates.now;
-    } };
-}
-
-impl<'a> Join for Uniting<'a> {
-    ghost use Rattle.graft_unite.specs.Uniting.{clashing, joining};
-
-    ghost joining = { λ u. joining u };
-
-    ghost clashing = { λ u name. clashing u name };
-
-    fn prefix(&self) -> &[u8] {
-        self.prefix
-    }
-
-    fn is_taken(&self, name: &[u8]) -> bool {
-        self.used.has(name)
-    }
-
-    fn clashes(&self, name: &[u8]) -> bool {
-        self.used.has(name) || self.own.has(name)
-    }
-
-    fn parents(&self, alloc: Global, seconds: u64) -> Result<ParentList, NoMemory> {
-        match self.dates.latest(seconds) {
-            Some(commit) => ParentList::of(alloc, &[commit]),
-            None => ParentList::new(alloc),
-        }
-    }
-
-    fn prunes(&self) -> bool {
-        self.prune
-    }
-}
-
-// How a part is joined to a list of which so much is known.
-fn united_under<'a>(
-    prefix: &'a [u8],
-    used: &'a Names,
-    own: &'a Names,
-    dates: &'a Dates,
-    prune: bool,
-) -> Uniting<'a>
-    ensures { result ≡ record {
-      prune = prune;
-      prefix = prefix.now;
-      used = used.now;
-      own = own.now;
-      dates = dates.now;
-    } }
+// The commits of a history by their seconds.
+fn dates_of(alloc: Global, events: &Events) -> Result<Dates, NoMemory>
+    ensures { IfOk result (AreDatesOf events.now.list) }
 {
-    Uniting {
-        prefix,
-        used,
-        own,
-        dates,
-        prune,
+    let mut dates = Dates::new(alloc);
+    for place in 0..events.count() {
+        dates.note(events.nth(place))?;
     }
+    Ok(dates)
 }
 
-// Puts what is known of the events of a plan from a place on to what is known of those before it.
-fn note_from(
+// The plan of a base behind which the parts at some places are put, in their order. All marks are given anew. Refused by the first
+// new name, part by part, that is in use in the list so far or in the part.
+fn joined_parts(
     alloc: Global,
-    plan: &Plan,
-    from: usize,
-    used: &mut Names,
-    dates: &mut Dates,
-) -> Result<(), NoMemory>
-    requires { from ≤ length plan.now.after }
-    ensures names { OnOk result (AreNamesOf (take from plan.now.after) used.old
-        → AreNamesOf plan.now.after used.new) }
-    ensures dates { OnOk result (AreDatesOf (take from plan.now.after) dates.old
-        → AreDatesOf plan.now.after dates.new) }
+    base: &Events,
+    parts: &[Part],
+    places: &[usize],
+    prune: bool,
+) -> Result<Plan, Halt>
+    requires next { base.now.next_id ≡ next_number base.now.list }
+    requires within { AllByRecursion (λ k. k < length parts.now) places.now }
+    ensures joined { Returns (λ plan. plan.after) result
+        (marked (with_parts prune base.now.list (map (part_at parts.now) places.now))) }
+    ensures before { IfOk result (λ plan. plan.before ≡ base.now.list) }
+    ensures made_at { IfOk result (λ plan. plan.made_at ≡ base.now.next_id) }
+    ensures next { IfOk result (λ plan. plan.next ≡ next_number plan.after) }
 {
-    for place in from..plan.count() {
-        let event = plan.nth(place);
-        used.note(alloc, event)?;
-        dates.note(event)?;
-    }
-    Ok(())
-}
-
-// Puts the events of a part behind a plan, unless a new name may not be given. The answer is the number and the mark that come next.
-fn append_united(
-    alloc: Global,
-    how: &Uniting,
-    part: &Events,
-    next: u64,
-    mark: u64,
-    plan: &mut Plan,
-) -> Result<(u64, u64), Halt>
-    requires next { plan.old.next ≡ next }
-    requires later { plan.old.made_at ≤ plan.old.next }
-    requires low { AreIdsBelow plan.old.next plan.old.after }
-    requires mark { 1 ≤ mark }
-    requires fits { mark ≤ MAX_MARK + 1 }
-    ensures free { OnOk result (name_fault (clashing how.now) (new_names (joining how.now) part.now.list) ≡ None) }
-    ensures plan { OnOk result (plan.new ≡ record plan.old {
-      after = plan.old.after ++ renumbered_from mark (added (joining how.now) next part.now.list);
-      next = next + length (without_passes part.now.list);
-    }) }
-    ensures next { IfOk result (λ come. come.0 ≡ next + length (without_passes part.now.list)) }
-    ensures mark { IfOk result (λ come. come.1 ≡ mark + length (marks_of part.now.list)) }
-    ensures fits { IfOk result (λ come. come.1 ≤ MAX_MARK + 1) }
-    ensures refused { (fault : _) → IsErrOf result (Refused fault)
-        → name_fault (clashing how.now) (new_names (joining how.now) part.now.list) ≡ Some fault }
-{
-    if let Some(fault) = name_fault(alloc, how, part)? {
-        return Err(Halt::Refused(fault));
-    }
-    // No memory holds as many marks and events as there are numbers.
-    let Some(mark_after) = mark_behind(part, mark) else {
+    let mut plan = renumber(alloc, base)?;
+    let mut used = Names::of(alloc, base)?;
+    let mut dates = dates_of(alloc, base)?;
+    // There is one: each mark occurs once.
+    let Some(mark) = mark_behind(base, 1) else {
         return Err(Halt::Memory);
     };
-    let before = plan.count();
-    let count = part.count() as u64;
-    if (1 << 63) <= next || (1 << 63) - next <= count {
-        return Err(Halt::Memory);
+    let mut come = (base.next_id(), mark);
+    for place in places {
+        match join(
+            alloc,
+            &parts[*place],
+            prune,
+            come,
+            &mut plan,
+            &mut used,
+            &mut dates,
+        ) {
+            Ok(after) => come = after,
+            Err(halt) => return Err(halt),
+        }
     }
-    append_part(alloc, how, part, next, mark, plan)?;
-    Ok((next + (plan.count() - before) as u64, mark_after))
+    Ok(plan)
 }
 
-/// Joins a further part of a `unite` to the list that a plan leaves, of which so much is known: the number and the mark that come
-/// next, its names, and its commits by their seconds. The answer is the number and the mark that come then. Refused where a new
-/// name is in use in the list or in the part. (reposurgeon manual, `unite`; the commits of roots: own.)
-pub fn join(
+// The same plan, if no limit is passed and no tree fails.
+fn united_plan(
     alloc: Global,
-    part: &Part,
+    base: &Events,
+    parts: &[Part],
+    places: &[usize],
     prune: bool,
-    come: (u64, u64),
-    plan: &mut Plan,
-    used: &mut Names,
-    dates: &mut Dates,
-) -> Result<(u64, u64), Halt>
-    requires known { IsKnown plan.old.after come.0 come.1 used.old dates.old }
-    requires next { plan.old.next ≡ come.0 }
-    requires later { plan.old.made_at ≤ plan.old.next }
-    requires fits { come.1 ≤ MAX_MARK + 1 }
-    ensures free { OnOk result (part_fault prune plan.old.after part.now ≡ None) }
-    ensures plan { OnOk result (plan.new ≡ record plan.old {
-      after = plan.old.after ++ marked_part prune plan.old.after part.now;
-      next = come.0 + length (without_passes part.now.events);
-    }) }
-    ensures known { IfOk result
-        (λ after. IsKnown plan.new.after after.0 after.1 used.new dates.new) }
-    ensures next { IfOk result (λ after. plan.new.next ≡ after.0) }
-    ensures fits { IfOk result (λ after. after.1 ≤ MAX_MARK + 1) }
-    ensures refused { (fault : _) → IsErrOf result (Refused fault)
-        → part_fault prune plan.old.after part.now ≡ Some fault }
+) -> Result<Plan, Halt>
+    requires next { base.now.next_id ≡ next_number base.now.list }
+    requires within { AllByRecursion (λ k. k < length parts.now) places.now }
+    requires parts { AllByRecursion IsPart parts.now }
+    ensures united { Returns (λ plan. plan.after) result
+        (numbered_anew prune (with_parts prune base.now.list (map (part_at parts.now) places.now))) }
+    ensures before { IfOk result (λ plan. plan.before ≡ base.now.list) }
+    ensures made_at { IfOk result (λ plan. plan.made_at ≡ base.now.next_id) }
+    ensures next { IfOk result (λ plan. plan.next ≡ next_number plan.after) }
 {
-    let from = plan.count();
-    let own = Names::of(alloc, part.events())?;
-    let how = united_under(part.name(), used, &own, dates, prune);
-    match append_united(alloc, &how, part.events(), come.0, come.1, plan) {
-        Ok(after) => {
-            note_from(alloc, plan, from, used, dates)?;
-            Ok(after)
+    let _count = base.count();
+    let mut trees = Manifests::new(alloc)?;
+    match joined_parts(alloc, base, parts, places, prune) {
+        Ok(plan) => match judge(&mut trees, &plan, prune) {
+            Ok(()) => Ok(plan),
+            Err(halt) => Err(halt),
+        },
+        Err(halt) => Err(halt),
+    }
+}
+
+// A history of its own with the same events. There are 2^62 numbers for ids, more than a session can ever give, so that their end
+// counts as that of memory.
+fn copied(alloc: Global, events: &Events) -> Result<Events, NoMemory>
+    ensures list { IfOk result (λ copy. copy.list ≡ events.now.list) }
+    ensures next_id { IfOk result (λ copy. copy.next_id ≡ next_number events.now.list) }
+{
+    let _count = events.count();
+    if (1 << 62) < events.next_id() {
+        return Err(NoMemory);
+    }
+    let list = events.plain()?;
+    Events::from_plain(alloc, list)
+}
+
+/// The history that several become. The oldest is the base: its events come first, with their ids and names. All but lines that
+/// are passed through come behind it, part by part by age, under new ids; names that are in use go below that of the part, and
+/// each root is on the latest commit before it. All marks are given anew. With `prune` such a root begins without files. Refused
+/// where there are fewer than two, by the first new name, part by part, that is in use in the list so far or in the part, by the
+/// first limit that is passed, and without `prune` by the first operation that a tree refuses. (reposurgeon manual, `unite`; the
+/// order, the parents and the marks: own.)
+pub fn unite(alloc: Global, parts: &[Part], prune: bool) -> Result<United, Halt>
+    requires names { AllByRecursion (λ part. AreNameBytes part.name) parts.now }
+    ensures returns { Returns (λ united. united.events.list) result (unite_of prune parts.now) }
+    ensures next { IfOk result
+        (λ united. united.events.next_id ≡ next_number united.events.list) }
+    ensures base { IfOk result
+        (λ united. united.base ≡ oldest_place (λ part. part.events) parts.now) }
+{
+    if parts.len() < 2 {
+        return Err(Halt::Refused(Fault::WrongCount {
+            found: parts.len() as u64,
+        }));
+    }
+    let order = places_by_age(alloc, parts)?;
+    let places = order.as_slice();
+    let base = places[0];
+    let mut events = copied(alloc, parts[base].events())?;
+    match united_plan(alloc, &events, parts, &places[1..], prune) {
+        Ok(plan) => {
+            a_unite_keeps_soundness();
+            events.reserve_for(&plan)?;
+            events.carry_out(plan);
+            Ok(United { events, base })
         }
         Err(halt) => Err(halt),
     }
