@@ -1,5 +1,7 @@
 -- An operation that a line of a script adds is such as one of a stream is.
-use Rattle.std.proofs.Common.{◌≡◌, ℕ, Bool, true, false, cond, List, [], ◌∷◌, Option, Some, None, Result, Ok, Err, refl, subst}
+use Rattle.std.proofs.Common.{◌≡◌, ℕ, Bool, true, false, cond, List, [], ◌∷◌, ◌++◌, Option, Some, None, Result, Ok, Err, refl, subst}
+use Rattle.std.specs.List.{list_any}
+use Rattle.std.specs.Prelude.{bytes_eq, if◌then◌else◌}
 use Rattle.plain_model.specs.declared.fault.Fault.{Fault}
 use Rattle.plain_model.specs.declared.fault.Fault.TheVariants as fault
 use Rattle.plain_model.specs.Paths.{Bytes}
@@ -8,11 +10,11 @@ use Rattle.script_lines.specs.Answering.{◌>>=◌}
 use Rattle.script_lines.specs.Names.{is_repo_name, repo_name}
 use Rattle.script_lines.specs.Redirections.{redirected}
 use Rattle.script_lines.specs.Scripts.{is_long, too_long}
-use Rattle.script_lines.specs.Texts.{or_at_fault, texts_in, whole_in}
+use Rattle.script_lines.specs.Texts.{at_fault, or_at_fault, text_before, texts_in, whole_in}
 use Rattle.script_lines.specs.Words.{after_head, head_of, words_of}
 use Rattle.script_lines.specs.declared.redirection.Direction.TheVariants.{Input}
 use Rattle.script_lines.specs.declared.word.Word.{Word}
-use Rattle.script_reader.specs.Commands.{IsSpelledCommand, assign_form, choose_form, choose_of, do_form, drop_form, drop_of, edit_form, expunge_form, form_of, last_name, names_form, order_after, order_in, order_of, plain_form, read_form, read_of, renumber_form, sample_form, sample_start, show_form, steps, summary_form, write_form}
+use Rattle.script_reader.specs.Commands.{IsSpelledCommand, assign_form, choose_form, choose_of, divide_form, do_form, drop_form, drop_of, edit_form, ends_names, expunge_form, form_of, graft_form, land_form, last_name, names_form, order_after, order_in, order_of, plain_form, prune_within, read_form, read_of, renumber_form, sample_form, sample_start, show_form, steps, summary_form, unite_form, united_with, write_form}
 use Rattle.script_reader.specs.Edits.{IsSpelledEdit, edit_word, needs_selection, said_of}
 use Rattle.script_reader.specs.Forms.{alone, name_within, output_in}
 use Rattle.script_reader.specs.Keywords.{keyword_of}
@@ -125,6 +127,40 @@ unfolding expunge_form
 expunge_fits [] = tt
 expunge_fits (word ∷ words) = bound IsSpelledCommand (texts_in (word ∷ words)) (λ texts. Ok (command.Expunge texts)) (λ texts is. tt)
 
+land_fits : (words : List Word) → IfAnswered IsSpelledCommand (land_form words)
+unfolding land_form
+land_fits [] = tt
+land_fits (word ∷ []) = bound IsSpelledCommand (or_at_fault word (redirected Input word)) (λ file. Ok (command.Land file)) (λ file is. tt)
+land_fits (word ∷ next ∷ words) = tt
+
+graft_fits : (selection : Option Bytes) (words : List Word) → IfAnswered IsSpelledCommand (graft_form selection words)
+graft_fits None words = tt
+graft_fits (Some selection) [] = tt
+graft_fits (Some selection) (word ∷ words) =
+    bound IsSpelledCommand (or_at_fault word (text_before words word)) (λ name. prune_within words >>= λ prune. Ok (command.Graft selection name prune))
+    (λ name is. bound IsSpelledCommand (prune_within words) (λ prune. Ok (command.Graft selection name prune)) (λ prune is. tt))
+
+united_fits : (names : List Bytes) (words : List Word) → IfAnswered IsSpelledCommand (united_with names words)
+united_fits names [] = tt
+united_fits names (word ∷ words) =
+    bound IsSpelledCommand (or_at_fault word (text_before words word))
+    (λ name. if ends_names words name then Ok (command.Unite names true) else if list_any (bytes_eq name) names then at_fault word else united_with (names ++ name ∷ []) words)
+    (λ name is. go name (ends_names words name) (list_any (bytes_eq name) names) (united_fits (names ++ name ∷ []) words))
+  where
+    go : (name : Bytes) (ends again : Bool) → IfAnswered IsSpelledCommand (united_with (names ++ name ∷ []) words)
+        → IfAnswered IsSpelledCommand (if ends then Ok (command.Unite names true) else if again then at_fault word else united_with (names ++ name ∷ []) words)
+    go name true again h = tt
+    go name false true h = tt
+    go name false false h = h
+
+unite_fits : (words : List Word) → IfAnswered IsSpelledCommand (unite_form words)
+unfolding unite_form
+unite_fits words = united_fits [] words
+
+divide_fits : (selection : Option Bytes) (words : List Word) → IfAnswered IsSpelledCommand (divide_form selection words)
+divide_fits None words = tt
+divide_fits (Some selection) words = lone IsSpelledCommand (command.Divide selection) words tt
+
 -- ---- lines
 
 stepped : (r : Result Command Fault) → IfAnswered IsSpelledCommand r → IfAnswered OrderFits (steps r)
@@ -141,12 +177,16 @@ plain_fits plain.Names words = names_fits words
 plain_fits plain.Summary words = summary_fits words
 plain_fits plain.Sample words = sample_fits words
 plain_fits plain.Expunge words = expunge_fits words
+plain_fits plain.Land words = land_fits words
+plain_fits plain.Unite words = unite_fits words
 
 form_fits : (selection : Option Bytes) (word : Keyword) (words : List Word) → IfAnswered OrderFits (form_of selection word words)
 form_fits selection (keyword.Plain word) words = stepped (plain_form word words) (plain_fits word words)
 form_fits selection (keyword.Show what) words = stepped (show_form selection what words) (show_fits selection what words)
 form_fits selection (keyword.Edit word) words = stepped (edit_form word selection words) (edit_fits word selection words)
 form_fits selection keyword.Assign words = stepped (assign_form selection words) (assign_fits selection words)
+form_fits selection keyword.Graft words = stepped (graft_form selection words) (graft_fits selection words)
+form_fits selection keyword.Divide words = stepped (divide_form selection words) (divide_fits selection words)
 form_fits selection keyword.Do words = bound OrderFits (do_form selection words) (λ call. Ok (order.Do call)) (λ call is. tt)
 form_fits selection keyword.Define words = tt
 

@@ -21,6 +21,8 @@ plain_again plain.Names = refl
 plain_again plain.Summary = refl
 plain_again plain.Sample = refl
 plain_again plain.Expunge = refl
+plain_again plain.Land = refl
+plain_again plain.Unite = refl
 
 listing_again : (what : Listing) → keyword_of (listing_word what) ≡ Some (keyword.Show what)
 unfolding plain_word_of word_of listing_of
@@ -37,5 +39,7 @@ keyword_again (keyword.Plain word) = rw (plain_again word) refl
 keyword_again (keyword.Edit word) = rw (no_plain_word word, word_again word) refl
 keyword_again (keyword.Show what) = listing_again what
 keyword_again keyword.Assign = refl
+keyword_again keyword.Graft = refl
+keyword_again keyword.Divide = refl
 keyword_again keyword.Do = refl
 keyword_again keyword.Define = refl

@@ -13,12 +13,12 @@ use Rattle.script_lines.specs.Redirections.{is_target}
 use Rattle.script_lines.specs.Scripts.{too_long}
 use Rattle.script_lines.specs.Words.{words_of}
 use Rattle.script_lines.specs.declared.word.Word.{Word}
-use Rattle.script_reader.specs.Commands.{assign_form, choose_form, do_form, drop_form, edit_form, expunge_form, form_of, names_form, order_after, order_in, order_of, read_form, renumber_form, sample_form, show_form, steps, summary_form, write_form}
+use Rattle.script_reader.specs.Commands.{assign_form, choose_form, divide_form, do_form, drop_form, edit_form, expunge_form, form_of, graft_form, land_form, names_form, order_after, order_in, order_of, read_form, renumber_form, sample_form, show_form, steps, summary_form, unite_form, write_form}
 use Rattle.script_reader.specs.Edits.{CanBeSaid, edit_texts, needs_selection, own_word}
 use Rattle.script_reader.specs.Forms.{output_in}
 use Rattle.script_reader.specs.Keywords.{command_word, keyword_of}
 use Rattle.script_reader.specs.Selecting.{front_of, is_superfluous, takes_selection}
-use Rattle.script_reader.specs.Written.{CanBeWritten, IsSayable, IsSayableOrder, IsTarget, Parts, command_parts, line_with, parts_of, source_word, spaced, target_words, word_for}
+use Rattle.script_reader.specs.Written.{CanBeWritten, IsSayable, IsSayableOrder, IsTarget, Parts, are_apart, command_parts, is_not_last, line_with, parts_of, prune_words, source_word, spaced, target_words, word_for}
 use Rattle.script_reader.specs.declared.command.Call.{Call}
 use Rattle.script_reader.specs.declared.command.Command.{Command}
 use Rattle.script_reader.specs.declared.command.Command.TheVariants as command
@@ -32,6 +32,7 @@ use Rattle.script_reader.specs.declared.keyword.Keyword.TheVariants as keyword
 use Rattle.script_reader.specs.declared.keyword.PlainWord.TheVariants as plain
 use Rattle.script_reader.specs.declared.number.TheConstants.{MAX_START}
 use Rattle.script_reader.proofs.SaidEdits.{edit_again, edit_word_text}
+use Rattle.script_reader.proofs.UnitedNames.{prune_again, united_again, united_pruned_again}
 use Rattle.script_reader.proofs.WordsAgain.{keyword_again}
 use Rattle.script_reader.proofs.WrittenLines.{IsWordText, front_again, head_again, words_again}
 use Rattle.script_reader.proofs.WrittenTexts.{before_again, name_again, number_again, texts_again, whole_again}
@@ -50,6 +51,10 @@ read_again file h k = rw (h, k) refl
 write_again : (to : Option Bytes) → IsTarget to → write_form (target_words to) ≡ Ok (command.Write to)
 unfolding write_form
 write_again to h = rw (output_again to h) refl
+
+land_again : (file : Bytes) → is_target file ≡ true → land_form (source_word file ∷ []) ≡ Ok (command.Land file)
+unfolding land_form
+land_again file h = rw h refl
 
 names_again : (to : Option Bytes) → IsTarget to → names_form (target_words to) ≡ Ok (command.Names to)
 unfolding names_form
@@ -110,6 +115,14 @@ edit_of_some : (selection : Bytes) (what : Edit) → CanBeSaid what
     → edit_form (own_word what) (Some selection) (map word_for (edit_texts what)) ≡ Ok (command.Edit (Some selection) what)
 edit_of_some selection what k = rw (edit_again what k) refl
 
+graft_again : (selection name : Bytes) (prune : Bool) → graft_form (Some selection) (word_for name ∷ prune_words prune) ≡ Ok (command.Graft selection name prune)
+graft_again selection name prune = rw (before_again (prune_words prune) name, prune_again prune) refl
+
+unite_again : (names : List Bytes) (prune : Bool) → IsSayable (command.Unite names prune) → unite_form (map word_for names ++ prune_words prune) ≡ Ok (command.Unite names prune)
+unfolding unite_form
+unite_again names true apart = united_pruned_again names apart
+unite_again names false (apart, ends) = united_again names apart ends
+
 do_again : (call : Call) → do_form call.selection (word_for call.name ∷ map word_for call.words) ≡ Ok call
 unfolding do_form
 do_again call = rw (before_again (map word_for call.words) call.name, texts_again call.words) refl
@@ -134,8 +147,12 @@ command_again (command.Edit None what) (h, k) = ap steps (edit_of_all what h k)
 command_again (command.Edit (Some selection) what) (may, h) = ap steps (edit_of_some selection what h)
 command_again (command.Expunge []) h = absurd h
 command_again (command.Expunge (text ∷ texts)) h = ap steps (expunge_again text texts)
+command_again (command.Land file) h = ap steps (land_again file h)
 command_again (command.Names to) h = ap steps (names_again to h)
 command_again (command.Summary to) h = ap steps (summary_again to h)
+command_again (command.Graft selection name prune) h = ap steps (graft_again selection name prune)
+command_again (command.Unite names prune) h = ap steps (unite_again names prune h)
+command_again (command.Divide selection) h = refl
 command_again (command.Sample count start) (some, many, most) = ap steps (sample_again count start some many most)
 
 parts_again : (what : Order) → IsSayableOrder what → read_by (parts_of what) ≡ Ok what
@@ -161,9 +178,13 @@ not_superfluous (order.Step (command.Drop name)) h = refl
 not_superfluous (order.Step command.DropChosen) h = refl
 not_superfluous (order.Step command.Renumber) h = refl
 not_superfluous (order.Step (command.Expunge texts)) h = refl
+not_superfluous (order.Step (command.Land file)) h = refl
 not_superfluous (order.Step (command.Names to)) h = refl
 not_superfluous (order.Step (command.Summary to)) h = refl
 not_superfluous (order.Step (command.Sample count start)) h = refl
+not_superfluous (order.Step (command.Graft selection name prune)) h = refl
+not_superfluous (order.Step (command.Unite names prune)) h = refl
+not_superfluous (order.Step (command.Divide selection)) h = refl
 
 -- ---- a line
 
@@ -177,6 +198,8 @@ word_text (keyword.Plain plain.Names) = refl
 word_text (keyword.Plain plain.Summary) = refl
 word_text (keyword.Plain plain.Sample) = refl
 word_text (keyword.Plain plain.Expunge) = refl
+word_text (keyword.Plain plain.Land) = refl
+word_text (keyword.Plain plain.Unite) = refl
 word_text (keyword.Edit word) = edit_word_text word
 word_text (keyword.Show listing.List) = refl
 word_text (keyword.Show listing.Index) = refl
@@ -185,6 +208,8 @@ word_text (keyword.Show listing.Resolve) = refl
 word_text (keyword.Show listing.Manifest) = refl
 word_text (keyword.Show listing.Messages) = refl
 word_text keyword.Assign = refl
+word_text keyword.Graft = refl
+word_text keyword.Divide = refl
 word_text keyword.Do = refl
 word_text keyword.Define = refl
 

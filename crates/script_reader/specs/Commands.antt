@@ -1,5 +1,6 @@
 -- What a line orders: a command, or that a macro is run. (reposurgeon manual, of each command word its section; what is at fault: own)
-use Rattle.std.specs.Prelude.{ℕ, IsTrue, List, [], ◌∷◌, Option, Some, None, Result, Ok, Err, codes, if◌then◌else◌}
+use Rattle.std.specs.Prelude.{ℕ, Bool, true, false, IsTrue, List, [], ◌∷◌, ◌++◌, Option, Some, None, Result, Ok, Err, bytes_eq, codes, if◌then◌else◌}
+use Rattle.std.specs.List.{list_any}
 use Rattle.plain_model.specs.Paths.{Bytes}
 use Rattle.plain_model.specs.declared.fault.Fault.{Fault}
 use Rattle.plain_model.specs.declared.fault.Fault.TheVariants as fault
@@ -112,6 +113,55 @@ unfoldable pub expunge_form : List Word → Result Command Fault
 expunge_form [] = Err (fault.BadWords (codes "expunge"))
 expunge_form (word ∷ words) = texts_in (word ∷ words) >>= λ texts. Ok (command.Expunge texts)
 
+-- `msgin <FILE`
+unfoldable pub land_form : List Word → Result Command Fault
+land_form [] = Err (fault.BadWords (codes "msgin"))
+land_form (word ∷ []) = or_at_fault word (redirected Input word) >>= λ file. Ok (command.Land file)
+land_form (word ∷ next ∷ words) = at_fault word
+
+-- `--prune`
+abbrev pub is_prune : Bytes → Bool
+is_prune text = bytes_eq text (codes "--prune")
+
+-- a word is the option, or it doesn't fit
+abbrev pub if_prune : Option Bytes → Option Bool
+if_prune None = None
+if_prune (Some text) = if is_prune text then Some true else None
+
+-- `[--prune]`, as the last word
+abbrev pub prune_within : List Word → Result Bool Fault
+prune_within [] = Ok false
+prune_within (word ∷ words) = or_at_fault word (if_prune (whole_in word)) >>= λ prune. alone prune words
+
+-- `sel graft NAME [--prune]`
+abbrev pub graft_form : Option Bytes → List Word → Result Command Fault
+graft_form None words = Err (fault.BadWords (codes "graft"))
+graft_form (Some selection) [] = Err (fault.BadWords (codes "graft"))
+graft_form (Some selection) (word ∷ words) =
+    or_at_fault word (text_before words word) >>= λ name. prune_within words >>= λ prune. Ok (command.Graft selection name prune)
+
+-- the option as the last word, before such others
+abbrev pub ends_names : List Word → Bytes → Bool
+ends_names [] text = is_prune text
+ends_names (next ∷ words) text = false
+
+-- Names behind such others. The last word may be `--prune`, which is no name then; one that is there already is at fault.
+abbrev pub united_with : List Bytes → List Word → Result Command Fault
+united_with names [] = Ok (command.Unite names false)
+united_with names (word ∷ words) =
+    or_at_fault word (text_before words word) >>= λ name.
+    if ends_names words name then Ok (command.Unite names true) else
+    if list_any (bytes_eq name) names then at_fault word else united_with (names ++ name ∷ []) words
+
+-- `unite [NAME ..] [--prune]`
+unfoldable pub unite_form : List Word → Result Command Fault
+unite_form words = united_with [] words
+
+-- `sel divide`
+abbrev pub divide_form : Option Bytes → List Word → Result Command Fault
+divide_form None words = Err (fault.BadWords (codes "divide"))
+divide_form (Some selection) words = alone (command.Divide selection) words
+
 -- `[sel] do NAME [WORD ..]`
 unfoldable pub do_form : Option Bytes → List Word → Result Call Fault
 do_form selection [] = Err (fault.BadWords (codes "do"))
@@ -138,6 +188,8 @@ plain_form plain.Names words = names_form words
 plain_form plain.Summary words = summary_form words
 plain_form plain.Sample words = sample_form words
 plain_form plain.Expunge words = expunge_form words
+plain_form plain.Land words = land_form words
+plain_form plain.Unite words = unite_form words
 
 -- the order of a command word with the selection before it and the words after it; a `define` that is run is no definition
 abbrev pub form_of : Option Bytes → Keyword → List Word → Result Order Fault
@@ -145,6 +197,8 @@ form_of selection (keyword.Plain word) words = steps (plain_form word words)
 form_of selection (keyword.Show what) words = steps (show_form selection what words)
 form_of selection (keyword.Edit word) words = steps (edit_form word selection words)
 form_of selection keyword.Assign words = steps (assign_form selection words)
+form_of selection keyword.Graft words = steps (graft_form selection words)
+form_of selection keyword.Divide words = steps (divide_form selection words)
 form_of selection keyword.Do words = do_form selection words >>= λ call. Ok (order.Do call)
 form_of selection keyword.Define words = Err (fault.BadWords (codes "define"))
 

@@ -21,7 +21,9 @@ plain_word_of text =
     if bytes_eq text (codes "names") then Some plain.Names else
     if bytes_eq text (codes "summary") then Some plain.Summary else
     if bytes_eq text (codes "sample") then Some plain.Sample else
-    if bytes_eq text (codes "expunge") then Some plain.Expunge else None
+    if bytes_eq text (codes "expunge") then Some plain.Expunge else
+    if bytes_eq text (codes "msgin") then Some plain.Land else
+    if bytes_eq text (codes "unite") then Some plain.Unite else None
 
 -- the command word of a text of events that bytes are
 unfoldable pub listing_of : Bytes → Option Listing
@@ -37,6 +39,8 @@ listing_of text =
 unfoldable pub other_of : Bytes → Option Keyword
 other_of text =
     if bytes_eq text (codes "assign") then Some keyword.Assign else
+    if bytes_eq text (codes "graft") then Some keyword.Graft else
+    if bytes_eq text (codes "divide") then Some keyword.Divide else
     if bytes_eq text (codes "do") then Some keyword.Do else
     if bytes_eq text (codes "define") then Some keyword.Define else None
 
@@ -73,6 +77,8 @@ plain_word plain.Names = codes "names"
 plain_word plain.Summary = codes "summary"
 plain_word plain.Sample = codes "sample"
 plain_word plain.Expunge = codes "expunge"
+plain_word plain.Land = codes "msgin"
+plain_word plain.Unite = codes "unite"
 
 -- each command word
 abbrev pub command_word : Keyword → Bytes
@@ -80,5 +86,7 @@ command_word (keyword.Plain word) = plain_word word
 command_word (keyword.Edit word) = edit_word word
 command_word (keyword.Show what) = listing_word what
 command_word keyword.Assign = codes "assign"
+command_word keyword.Graft = codes "graft"
+command_word keyword.Divide = codes "divide"
 command_word keyword.Do = codes "do"
 command_word keyword.Define = codes "define"

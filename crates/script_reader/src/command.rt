@@ -61,6 +61,10 @@ pub enum Command {
     Expunge {
         words: LineList,
     },
+    /// Puts what the messages of a file say on their events.
+    Land {
+        file: ScriptText,
+    },
     /// Prints a line for each branch and tag.
     Names {
         to: Option<ScriptText>,
@@ -73,6 +77,23 @@ pub enum Command {
     Sample {
         count: u64,
         start: u64,
+    },
+    /// Hangs the history of the repository of that name on the selected commit, and forgets that repository. Where `prune` is set,
+    /// its commits keep their files.
+    Graft {
+        selection: WrittenSelection,
+        name: ScriptText,
+        prune: bool,
+    },
+    /// Makes one repository of those of these names, none of which is there twice. Where `prune` is set, all commits keep their
+    /// files.
+    Unite {
+        names: LineList,
+        prune: bool,
+    },
+    /// Makes two repositories of the chosen one, by the link that is selected.
+    Divide {
+        selection: WrittenSelection,
     },
 }
 

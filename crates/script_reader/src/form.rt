@@ -9,13 +9,19 @@ ghost use Rattle.script_reader.specs.Commands.{
   choose_form,
   do_form,
   drop_form,
+  divide_form,
   edit_form,
+  ends_names,
   expunge_form,
   form_of,
+  graft_form,
   if_given,
+  if_prune,
+  land_form,
   last_name,
   names_form,
   plain_form,
+  prune_within,
   read_form,
   read_of,
   renumber_form,
@@ -24,6 +30,8 @@ ghost use Rattle.script_reader.specs.Commands.{
   show_form,
   steps,
   summary_form,
+  unite_form,
+  united_with,
   write_form,
 };
 ghost use Rattle.script_reader.specs.Forms.{name_within, output_in};
@@ -34,10 +42,11 @@ use crate::edit::EditWord;
 use crate::keyword::{Keyword, PlainWord};
 use crate::number::{MAX_START, number_between};
 use crate::selecting::WrittenSelection;
-use plain_model::{Halt, Items, MAX_SAMPLE_COMMITS, NoMemory, Text};
+use byte_sets::ByteSet;
+use plain_model::{Copied, Halt, Items, MAX_SAMPLE_COMMITS, NoMemory, Text};
 use script_lines::{
     Direction, RepoName, ScriptText, Word, at_fault, bad_words, is_given_name, name_in,
-    or_at_fault, redirected, repo_name, text_before, texts_in,
+    or_at_fault, redirected, repo_name, said_before, text_before, texts_in,
 };
 use std::alloc::Global;
 
@@ -281,6 +290,124 @@ fn expunge(alloc: Global, words: &[Word]) -> Result<Command, Halt>
     Ok(Command::Expunge { words })
 }
 
+// `msgin <FILE`
+#[tactic(auto, unfolding(crate::specs::Commands::land_form))]
+fn land(alloc: Global, words: &[Word]) -> Result<Command, Halt>
+    ensures { Returns (λ command. command) result (land_form words.now) }
+{
+    match words {
+        [] => Err(bad_words(alloc, b"msgin")),
+        [word] => match redirected(Direction::Input, word) {
+            Some(file) => Ok(Command::Land {
+                file: ScriptText::of(alloc, file)?,
+            }),
+            None => Err(at_fault(alloc, word)),
+        },
+        [word, ..] => Err(at_fault(alloc, word)),
+    }
+}
+
+/// The option of commands that take another repository in.
+const PRUNE: &[u8] = b"--prune";
+
+// Whether a word is `--prune`, or it doesn't fit.
+fn prune_in(word: &Word) -> Option<bool>
+    ensures { result ≡ if_prune (whole_in word.now) }
+{
+    if word.whole()?.as_bytes() == PRUNE {
+        Some(true)
+    } else {
+        None
+    }
+}
+
+// `[--prune]`
+fn prune_within(alloc: Global, words: &[Word]) -> Result<bool, Halt>
+    ensures { Returns (λ prune. prune) result (prune_within words.now) }
+{
+    match words {
+        [] => Ok(false),
+        [word] => or_at_fault(alloc, word, prune_in(word)),
+        [word, next, ..] => {
+            let _ = or_at_fault(alloc, word, prune_in(word))?;
+            Err(at_fault(alloc, next))
+        }
+    }
+}
+
+// `sel graft NAME [--prune]`
+fn graft(
+    alloc: Global,
+    selection: Option<WrittenSelection>,
+    words: &[Word],
+) -> Result<Command, Halt>
+    ensures { Returns (λ command. command) result (graft_form selection words.now) }
+{
+    let Some(selection) = selection else {
+        return Err(bad_words(alloc, b"graft"));
+    };
+    match words {
+        [] => Err(bad_words(alloc, b"graft")),
+        [word, others @ ..] => Ok(Command::Graft {
+            selection,
+            name: text_before(alloc, others, word)?,
+            prune: prune_within(alloc, others)?,
+        }),
+    }
+}
+
+// Whether a name is `--prune` as the last word.
+fn ends_names(others: &[Word], name: &[u8]) -> bool
+    ensures { result ≡ ends_names others.now name.now }
+{
+    match others {
+        [] => name == PRUNE,
+        _ => false,
+    }
+}
+
+// `unite [NAME ..] [--prune]`
+#[tactic(auto, unfolding(crate::specs::Commands::unite_form))]
+fn unite(alloc: Global, words: &[Word]) -> Result<Command, Halt>
+    ensures { Returns (λ command. command) result (unite_form words.now) }
+{
+    let mut names = Items::new(alloc)?;
+    let mut seen = ByteSet::new(alloc);
+    for (i, word) in words.iter().enumerate() {
+        let others = &words[i + 1..];
+        let name = said_before(alloc, others, word)?;
+        if ends_names(others, name.as_bytes()) {
+            return Ok(Command::Unite { names, prune: true });
+        }
+        if seen.has(name.as_bytes()) {
+            return Err(at_fault(alloc, word));
+        }
+        seen.add(name.as_bytes())?;
+        names.push(name.copied(alloc)?)?;
+    }
+    Ok(Command::Unite {
+        names,
+        prune: false,
+    })
+}
+
+// `sel divide`
+fn divide(
+    alloc: Global,
+    selection: Option<WrittenSelection>,
+    words: &[Word],
+) -> Result<Command, Halt>
+    ensures { Returns (λ command. command) result (divide_form selection words.now) }
+{
+    let Some(selection) = selection else {
+        return Err(bad_words(alloc, b"divide"));
+    };
+    match words {
+        [] => Ok(Command::Divide { selection }),
+        [word, ..] => Err(at_fault(alloc, word)),
+    }
+}
+
 // `[sel] do NAME [WORD ..]`
 #[tactic(auto, unfolding(crate::specs::Commands::do_form))]
 fn call(alloc: Global, selection: Option<WrittenSelection>, words: &[Word]) -> Result<Call, Halt>
@@ -337,6 +464,8 @@ fn plain(alloc: Global, word: PlainWord, words: &[Word]) -> Result<Command, Halt
         PlainWord::Summary => summary(alloc, words),
         PlainWord::Sample => sample(alloc, words),
         PlainWord::Expunge => expunge(alloc, words),
+        PlainWord::Land => land(alloc, words),
+        PlainWord::Unite => unite(alloc, words),
     }
 }
 
@@ -354,6 +483,8 @@ pub fn form(
         Keyword::Show(what) => steps(show(alloc, selection, what, words)),
         Keyword::Edit(word) => steps(edit(alloc, word, selection, words)),
         Keyword::Assign => steps(assign(alloc, selection, words)),
+        Keyword::Graft => steps(graft(alloc, selection, words)),
+        Keyword::Divide => steps(divide(alloc, selection, words)),
         Keyword::Do => Ok(Order::Do(call(alloc, selection, words)?)),
         Keyword::Define => Err(bad_words(alloc, b"define")),
     }

@@ -17,6 +17,8 @@ pub enum Keyword {
     /// A command that takes no selection.
     Plain(PlainWord),
     Assign,
+    Graft,
+    Divide,
     Do,
     Define,
     /// A text of events is printed.
@@ -37,6 +39,8 @@ pub enum PlainWord {
     Summary,
     Sample,
     Expunge,
+    Land,
+    Unite,
 }
 
 impl PlainWord {
@@ -55,6 +59,8 @@ impl PlainWord {
             "summary" => Some(PlainWord::Summary),
             "sample" => Some(PlainWord::Sample),
             "expunge" => Some(PlainWord::Expunge),
+            "msgin" => Some(PlainWord::Land),
+            "unite" => Some(PlainWord::Unite),
             _ => None,
         }
     }
@@ -86,6 +92,8 @@ impl Keyword {
     {
         match word {
             "assign" => Some(Keyword::Assign),
+            "graft" => Some(Keyword::Graft),
+            "divide" => Some(Keyword::Divide),
             "do" => Some(Keyword::Do),
             "define" => Some(Keyword::Define),
             _ => None,
