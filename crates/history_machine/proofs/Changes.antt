@@ -15,7 +15,8 @@ use Rattle.history_machine.specs.Changed.{ChangesChosen}
 use Rattle.history_machine.specs.Kept.{Each, KeepsHistory}
 use Rattle.history_machine.specs.Machine.{Effect}
 use Rattle.history_machine.specs.PathWords.{said_path}
-use Rattle.history_machine.specs.Sessions.{Repo, Session, Subject, after_assign, after_edit, carried, changes, chosen, edited, quiet, ready, remade, step, unassigned, with_remade, with_repo}
+use Rattle.history_machine.specs.Sessions.{Repo, Session, Subject, after_assign, after_edit, chosen, edited, ready, remade, unassigned, with_remade, with_repo}
+use Rattle.history_machine.specs.Steps.{carried, changes, quiet, step}
 use Rattle.history_machine.proofs.Steps.{each_with, found, with_its_subject}
 
 -- ---- an edit

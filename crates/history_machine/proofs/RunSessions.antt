@@ -14,7 +14,8 @@ use Rattle.script_lines.specs.declared.script.ScriptLine.{ScriptLine}
 use Rattle.history_machine.specs.declared.waiting.Waiting.{Waiting}
 use Rattle.history_machine.specs.Lawful.{IsLawful}
 use Rattle.history_machine.specs.Machine.{Effect, Run, called_by, effect_of, ended, files_after, first_of, goes_on, others_of, run_on, session_after, status_after}
-use Rattle.history_machine.specs.Sessions.{Session, empty_session, line_step}
+use Rattle.history_machine.specs.Sessions.{Session, empty_session}
+use Rattle.history_machine.specs.Steps.{line_step}
 use Rattle.history_machine.specs.Whole.{Denials, run, run_asked, run_from, run_read, script_in, waiting_of}
 use Rattle.history_machine.specs.Words.{Asked, asked}
 

@@ -1,5 +1,5 @@
 -- Commands on several repositories leave lawful sessions, where what they make of the histories is lawful.
-use Rattle.std.proofs.Common.{◌≡◌, ◌∙◌, ℕ, suc, ◌+◌, ◌≤◌, ◌<◌, Bool, true, false, List, [], ◌∷◌, ◌++◌, length, Option, Some, None, Result, Ok, Err, refl, sym, ap, subst, arith}
+use Rattle.std.proofs.Common.{map, ◌≡◌, ◌∙◌, ℕ, suc, ◌+◌, ◌≤◌, ◌<◌, Bool, true, false, List, [], ◌∷◌, ◌++◌, length, Option, Some, None, Result, Ok, Err, refl, sym, ap, subst, arith}
 use Rattle.std.specs.Prelude.{◌&&◌, codes, if◌then◌else◌, bytes_eq}
 use Rattle.std.specs.List.{AllByRecursion, list_all}
 use Rattle.std.proofs.lemmas.Bool.{and_parts, false_from_ne_true}
@@ -8,20 +8,25 @@ use Rattle.std.proofs.lemmas.Slice.Eq.{bytes_eq-Decides}
 use Rattle.plain_model.specs.declared.event.PlainEvent.{PlainEvent}
 use Rattle.plain_model.specs.declared.fault.Fault.{Fault}
 use Rattle.plain_model.specs.declared.limit.TheConstants.{MAX_REPOSITORIES}
+use Rattle.plain_model.specs.Lookups.{AreIdsBelow, next_number}
 use Rattle.plain_model.specs.Names.{is_name_byte}
 use Rattle.plain_model.specs.Paths.{Bytes}
 use Rattle.history_laws.proofs.Ids.{below_next}
 use Rattle.edit_laws.specs.Editing.{IsLawfulHistory, Remade}
+use Rattle.divide_laws.specs.Divide.{divide_of}
+use Rattle.divide_laws.specs.declared.halves.Halves.{Halves}
+use Rattle.graft_laws.specs.Joined.{IsLawfulPart}
+use Rattle.graft_laws.specs.Unite.{Part, age, by_age, is_before, put_by_age, unite_of}
 use Rattle.event_sets.specs.Once.{IsOnce}
 use Rattle.event_sets.specs.Sets.{Ids}
 use Rattle.script_lines.specs.Answering.{◌>>=◌}
 use Rattle.history_machine.specs.Lawful.{AreNameBytes, IsLawful, IsLawfulRepo, repo_names}
-use Rattle.history_machine.specs.Several.{IsDivision, IsJoining, IsUniting, after_dividing, after_joining, after_uniting, all_there, early_name, joined_name, late_name, other_than, without_repos}
+use Rattle.history_machine.specs.Several.{IsDivision, IsJoining, IsUniting, after_dividing, after_joining, after_uniting, all_there, as_part, early_name, halves_of, joined_name, late_name, other_than, united_of, united_repo, without_repos}
 use Rattle.history_machine.specs.Sessions.{Repo, Session, chosen, chosen_by, edited, find_repo, or_no_repo, read_repo, room, there, unless, unused, with_repo, without_repo}
 use Rattle.history_machine.proofs.Lawful.{ChangesWell, edit_leaves, has_room, is_there, is_unused, well_after}
 use Rattle.history_machine.proofs.LoadList.{changed_well, chosen_well, forgotten_well, loaded_well}
 use Rattle.history_machine.proofs.Ready.{LiveIn, chosen_lawful, one_found}
-use Rattle.history_machine.proofs.Selections.{selection_of}
+use Rattle.history_machine.proofs.Selections.{live_once, selection_of}
 use Rattle.history_machine.proofs.Steps.{found, own_name}
 
 -- ---- names
@@ -45,21 +50,21 @@ unfolding chosen
 choice_is s repo h = choice_by s.repos s.choice repo h
 
 -- another one
-is_other : (repo part : Repo) (name : Bytes) (repos : List Repo) → other_than repo name repos ≡ Ok part → (bytes_eq name repo.name ≡ false) × (find_repo name repos ≡ Some part)
+pub is_other : (repo part : Repo) (name : Bytes) (repos : List Repo) → other_than repo name repos ≡ Ok part → (bytes_eq name repo.name ≡ false) × (find_repo name repos ≡ Some part)
 is_other repo part name repos h = go (bytes_eq name repo.name) h
   where
     go : (b : Bool) → there name (if b then None else find_repo name repos) ≡ Ok part → (b ≡ false) × (find_repo name repos ≡ Some part)
     go true h = absurd cc
     go false h = (refl, is_there name part (find_repo name repos) h)
 
-append_bytes : (a b : Bytes) → AreNameBytes a → AreNameBytes b → AreNameBytes (a ++ b)
+pub append_bytes : (a b : Bytes) → AreNameBytes a → AreNameBytes b → AreNameBytes (a ++ b)
 append_bytes [] b h k = k
 append_bytes (x ∷ a) b h k =
     let parts = and_parts (is_name_byte x) (list_all is_name_byte a) h in
     ap (λ t. t && list_all is_name_byte (a ++ b)) parts.0 ∙ append_bytes a b parts.1 k
 
 -- names of different ends differ in length
-ends_differ : (name : Bytes) → bytes_eq (late_name name) (early_name name) ≡ false
+pub ends_differ : (name : Bytes) → bytes_eq (late_name name) (early_name name) ≡ false
 ends_differ name = false_from_ne_true (bytes_eq (late_name name) (early_name name)) (λ same.
     let is : late_name name ≡ early_name name = (bytes_eq-Decides (late_name name) (early_name name)).0 same in
     let lengths : length (late_name name) ≡ length (early_name name) = ap length is in
@@ -93,7 +98,7 @@ none_more (name ∷ names) repos =
     let rest = none_more names (without_repo name repos) in
     omega arith
 
-not_last : (name : Bytes) (repos : List Repo) (new : Repo) → find_repo name repos ≡ None → bytes_eq name new.name ≡ false → find_repo name (repos ++ new ∷ []) ≡ None
+pub not_last : (name : Bytes) (repos : List Repo) (new : Repo) → find_repo name repos ≡ None → bytes_eq name new.name ≡ false → find_repo name (repos ++ new ∷ []) ≡ None
 not_last name [] new none other = ap (λ b. if b then Some new else None) other
 not_last name (r ∷ repos) new none other = go (bytes_eq name r.name) none (not_last name repos new)
   where
@@ -149,13 +154,13 @@ module _ (s : Session) where
   all_forgotten [] t h = record { repos = h.repos; names = record { few = h.names.few; apart = h.names.apart; choice = tt } }
   all_forgotten (name ∷ names) t h = all_forgotten names (record t { repos = without_repo name t.repos; choice = unless name t.choice }) (forgotten_well t name h)
 
-  parts_lawful : (names : List Bytes) (parts : List Repo) → IsLawful s → all_there names s.repos ≡ Ok parts → AllByRecursion IsLawfulRepo parts × AreNameBytes (joined_name names)
+  pub parts_lawful : (names : List Bytes) (parts : List Repo) → IsLawful s → all_there names s.repos ≡ Ok parts → AllByRecursion IsLawfulRepo parts × AreNameBytes (joined_name names)
       × (1 ≤ length parts → length (without_repos names s.repos) < length s.repos)
   parts_lawful [] parts h e = let is : [] ≡ parts = cc in subst (λ (ps : List Repo). AllByRecursion IsLawfulRepo ps × AreNameBytes [] × (1 ≤ length ps → length s.repos < length s.repos)) is (tt, refl, λ some. absurd (omega arith))
   parts_lawful (name ∷ names) parts h e = go (find_repo name s.repos) refl e (parts_lawful names)
     where
       behind : (names : List Bytes) → AreNameBytes name → AreNameBytes (joined_name names) → AreNameBytes (joined_name (name ∷ names))
-      behind [] one rest = one
+      behind [] one rest = append_bytes name [] one refl
       behind (other ∷ others) one rest = append_bytes name (43 ∷ joined_name (other ∷ others)) one rest
 
       later : (part : Repo) → find_repo name s.repos ≡ Some part → (r : Result (List Repo) Fault) → all_there names s.repos ≡ r → (r >>= λ others. Ok (part ∷ others)) ≡ Ok parts
@@ -262,3 +267,56 @@ module _ (s : Session) where
           (record { name = append_bytes repo.name (codes "-late") bytes refl; history = lawful_late; names = tt; spent = below_next halves.1 }) in
           chosen_well (record s { repos = (rest repo s.repos ++ early ∷ []) ++ late ∷ []; choice = Some (late_name repo.name) }) (early_name repo.name) early both
           (still_found (early_name repo.name) (rest repo s.repos ++ early ∷ []) late early (is_first (rest repo s.repos) early no_early))
+
+-- ---- what they make of the histories
+
+abbrev history_of : Repo → List PlainEvent
+history_of repo = repo.history
+
+-- the order by age has what was there
+all_put : (P : Repo → Type 0) (r : Repo) (repos : List Repo) → P r → AllByRecursion P repos → AllByRecursion P (put_by_age history_of r repos)
+all_put P r [] h a = (h, tt)
+all_put P r (x ∷ repos) h a = go (is_before (age x.history) (age r.history)) (all_put P r repos h a.1)
+  where
+    go : (b : Bool) → AllByRecursion P (put_by_age history_of r repos) → AllByRecursion P (if b then x ∷ put_by_age history_of r repos else r ∷ x ∷ repos)
+    go true rest = (a.0, rest)
+    go false rest = (h, a)
+
+all_by_age : (P : Repo → Type 0) (repos : List Repo) → AllByRecursion P repos → AllByRecursion P (by_age history_of repos)
+all_by_age P [] a = tt
+all_by_age P (r ∷ repos) a = all_put P r (by_age history_of repos) a.0 (all_by_age P repos a.1)
+
+united_lawful : (by_age : List Repo) (history : List PlainEvent) → AllByRecursion IsLawfulRepo by_age → IsLawfulHistory history → IsLawfulRepo (united_repo by_age history)
+united_lawful [] history a lawful = record { name = refl; history = lawful; names = tt; spent = below_next history }
+united_lawful (base ∷ others) history a lawful = record { name = a.0.name; history = lawful; names = live_once base.history base.names a.0.names; spent = below_next history }
+
+as_parts : (repos : List Repo) → AllByRecursion IsLawfulRepo repos → AllByRecursion IsLawfulPart (map as_part repos)
+as_parts [] a = tt
+as_parts (r ∷ repos) a = (record { history = a.0.history; name = a.0.name }, as_parts repos a.1)
+
+some_parts : (repos : List Repo) → 2 ≤ length (map as_part repos) → 1 ≤ length repos
+some_parts [] h = absurd (omega arith)
+some_parts (r ∷ repos) h = omega arith
+
+pub unites : (prune : Bool) → ((parts : List Part) (new : List PlainEvent) → AllByRecursion IsLawfulPart parts → unite_of prune parts ≡ Ok new → IsLawfulHistory new × AreIdsBelow (next_number new) new)
+    → ((parts : List Part) (new : List PlainEvent) → unite_of prune parts ≡ Ok new → 2 ≤ length parts) → IsUniting (united_of prune)
+unites prune lawful several repos new a made = go (unite_of prune (map as_part repos)) refl made
+  where
+    go : (r : Result (List PlainEvent) Fault) → unite_of prune (map as_part repos) ≡ r → (r >>= λ history. Ok (united_repo (by_age history_of repos) history)) ≡ Ok new
+        → IsLawfulRepo new × (1 ≤ length repos)
+    go (Err why) is made = absurd cc
+    go (Ok history) is made =
+        let same : united_repo (by_age history_of repos) history ≡ new = cc in (
+          subst IsLawfulRepo same (united_lawful (by_age history_of repos) history (all_by_age IsLawfulRepo repos a) (lawful (map as_part repos) history (as_parts repos a) is).0),
+          some_parts repos (several (map as_part repos) history is),
+        )
+
+pub divides : (ids : Ids) → ((events : List PlainEvent) (halves : Halves) → IsLawfulHistory events → divide_of ids events ≡ Ok halves → IsLawfulHistory halves.early × IsLawfulHistory halves.late)
+    → IsDivision (halves_of ids)
+divides ids lawful events halves h made = go (divide_of ids events) refl made
+  where
+    go : (r : Result Halves Fault) → divide_of ids events ≡ r → (r >>= λ halves. Ok (halves.early, halves.late)) ≡ Ok halves → IsLawfulHistory halves.0 × IsLawfulHistory halves.1
+    go (Err why) is made = absurd cc
+    go (Ok both) is made =
+        let same : (both.early, both.late) ≡ halves = cc in
+        subst (λ (two : List PlainEvent × List PlainEvent). IsLawfulHistory two.0 × IsLawfulHistory two.1) same (lawful events both h is)

@@ -19,7 +19,8 @@ use Rattle.script_reader.specs.declared.command.Order.{Order}
 use Rattle.script_reader.specs.declared.command.Order.TheVariants as order
 use Rattle.history_machine.specs.declared.waiting.Waiting.{Waiting}
 use Rattle.history_machine.specs.Machine.{Effect, Run, called_by, effect_of, ended, files_after, first_of, goes_on, others_of, run_on, status_after}
-use Rattle.history_machine.specs.Sessions.{Session, Subject, carried, changes, line_step, ordered, ready, reports, step}
+use Rattle.history_machine.specs.Sessions.{Session, Subject, ready}
+use Rattle.history_machine.specs.Steps.{carried, changes, line_step, ordered, reports, step}
 use Rattle.history_machine.specs.Straight.{AreFirstOf, IsNoCall, RunsNoMacro, lines_of}
 use Rattle.history_machine.specs.Whole.{Denials, waiting_of}
 
@@ -50,6 +51,10 @@ carried_calls s files subject (command.Show selection what to) = reports_call s 
 carried_calls s files subject (command.Assign selection name) = changes_call _
 carried_calls s files subject (command.Edit selection what) = changes_call _
 carried_calls s files subject (command.Expunge words) = changes_call _
+carried_calls s files subject (command.Land file) = changes_call _
+carried_calls s files subject (command.Graft selection name prune) = changes_call _
+carried_calls s files subject (command.Unite names prune) = changes_call _
+carried_calls s files subject (command.Divide selection) = changes_call _
 carried_calls s files subject (command.Sample count start) = changes_call _
 carried_calls s files subject (command.Names to) = reports_call s to _
 carried_calls s files subject (command.Summary to) = reports_call s to _

@@ -6,24 +6,24 @@ use Rattle.plain_model.specs.Lookups.{id_of, next_number}
 use Rattle.plain_model.specs.Paths.{Bytes}
 use Rattle.plain_model.specs.Text.{line, text}
 use Rattle.plain_model.specs.declared.event.PlainEvent.{PlainEvent}
-use Rattle.plain_model.specs.declared.limit.TheConstants.{MAX_REPOSITORIES}
+use Rattle.plain_model.specs.declared.limit.TheConstants.{MAX_REPOSITORIES, MAX_STREAM_BYTES}
 use Rattle.plain_model.specs.declared.fault.Fault.{Fault}
 use Rattle.plain_model.specs.declared.fault.Fault.TheVariants as fault
-use Rattle.byte_patterns.specs.Judging.{Denial, Judged, ◌>>>◌, plainly, under}
+use Rattle.byte_patterns.specs.Judging.{Judged, ◌>>>◌, plainly, under}
 use Rattle.edit_laws.specs.Editing.{Remade, with_number}
 use Rattle.event_sets.specs.Sets.{Ids}
 use Rattle.expunge_laws.specs.Expunged.{expunge_of}
-use Rattle.listing.specs.Listings.{list_text, index_text, names_text}
+use Rattle.listing.specs.Listings.{list_text, index_text}
 use Rattle.listing.specs.Stamps.{stamp_text}
-use Rattle.listing.specs.Summaries.{resolve_text, summary_text}
+use Rattle.listing.specs.Summaries.{resolve_text}
 use Rattle.listing.specs.TreeListings.{manifest_text}
+use Rattle.mailbox_laws.specs.Landing.{land_of}
 use Rattle.mailbox_laws.specs.Written.{box_of}
 use Rattle.expunge_laws.specs.Matching.{Matches, matched_by}
 use Rattle.renumbering.specs.Renumbered.{renumbered}
 use Rattle.sample_history.specs.Sample.{sample}
 use Rattle.script_lines.specs.Answering.{◌>>=◌}
-use Rattle.script_reader.specs.Commands.{order_of}
-use Rattle.script_reader.specs.Macros.{Macro, called, with_macro}
+use Rattle.script_reader.specs.Macros.{Macro}
 use Rattle.script_reader.specs.declared.command.Command.{Command}
 use Rattle.script_reader.specs.declared.command.Command.TheVariants as command
 use Rattle.script_reader.specs.declared.command.Listing.{Listing}
@@ -33,7 +33,7 @@ use Rattle.script_reader.specs.declared.command.Order.TheVariants as order
 use Rattle.script_reader.specs.declared.edit.Edit.{Edit}
 use Rattle.script_reader.specs.declared.edit.Edit.TheVariants as edit
 use Rattle.script_lines.specs.declared.script.ScriptLine.{ScriptLine}
-use Rattle.script_lines.specs.declared.script.ScriptLine.TheVariants.{Define, Plain}
+use Rattle.script_lines.specs.declared.script.ScriptLine.TheVariants.{Plain}
 use Rattle.selection_eval.specs.Denoted.{denote}
 use Rattle.selection_eval.specs.Names.{Names, assigned, live_names}
 use Rattle.selection_parser.specs.Plain.{PlainSelection}
@@ -47,11 +47,11 @@ use Rattle.reparent_laws.specs.Merge.{merge_of, unmerge_of}
 use Rattle.reparent_laws.specs.Operations.{add_of, remove_of}
 use Rattle.reparent_laws.specs.Reparent.{reparent_of}
 use Rattle.reparent_laws.specs.declared.removal.Removal.TheVariants.{Index, At}
+use Rattle.surgeon_store.specs.WholeFiles.{file_within}
 use Rattle.path_move_laws.specs.Moves.{paths_moved}
 use Rattle.path_move_laws.specs.PathMaps.{image_of}
 use Rattle.path_move_laws.specs.declared.path_map.PathMap.TheVariants.{Rename, Sub, Sup}
 use Rattle.history_machine.specs.Loading.{loaded}
-use Rattle.history_machine.specs.Machine.{Effect}
 use Rattle.history_machine.specs.PathWords.{matches_of, said_path}
 
 -- ---- what a session holds
@@ -147,6 +147,8 @@ scope_of (command.Show selection what to) = or_all selection
 scope_of (command.Assign selection name) = selected selection
 scope_of (command.Edit selection what) = or_all selection
 scope_of (command.Expunge words) = said_paths words
+scope_of (command.Graft selection name prune) = selected selection
+scope_of (command.Divide selection) = selected selection
 scope_of other = nothing
 
 -- the events of which a command speaks, and what matches the paths of which it speaks
@@ -261,6 +263,14 @@ edited edit repo = edit repo.next repo.history >>= λ made. Ok (with_remade repo
 unfoldable pub after_edit : Session → (ℕ → List PlainEvent → Result Remade Fault) → Result Session Fault
 after_edit s edit = chosen s >>= λ repo. edited edit repo >>= λ new. Ok (record s { repos = with_repo new s.repos })
 
+-- what the messages of a box make of it: only who, when and comments are others
+abbrev pub landed : Bytes → ℕ → List PlainEvent → Result Remade Fault
+landed bytes next events = with_number next (land_of events bytes)
+
+-- `msgin <FILE`: the file is one within the limit of streams
+unfoldable pub after_land : Session → Files → Bytes → Result Session Fault
+after_land s files file = chosen s >>= λ repo. file_within files file MAX_STREAM_BYTES >>= λ bytes. after_edit s (landed bytes)
+
 -- the line of a repository, by the name that is chosen
 abbrev pub repo_line : Option Bytes → Bytes → Bytes
 repo_line None name = line (codes "  " ++ name)
@@ -282,62 +292,3 @@ shown listing.Stamp ids repo = stamp_text repo.history ids
 shown listing.Resolve ids repo = resolve_text repo.history ids
 shown listing.Manifest ids repo = manifest_text repo.history ids
 shown listing.Messages ids repo = box_of repo.history ids
-
--- ---- one command
-
--- the session is another, and nothing is sent
-abbrev pub quiet : Session → Effect Session
-quiet s = record { session = s; to = None; bytes = []; calls = [] }
-
--- a text is printed, or is the whole of a file, and the session is the same
-abbrev pub sends : Session → Option Bytes → Bytes → Effect Session
-sends s to bytes = record { session = s; to = to; bytes = bytes; calls = [] }
-
--- a change of the session
-abbrev pub changes : Result Session Fault → Result (Effect Session) Fault
-changes expected = expected >>= λ after. Ok (quiet after)
-
--- a text that is sent
-abbrev pub reports : Session → Option Bytes → Result Bytes Fault → Result (Effect Session) Fault
-reports s to expected = expected >>= λ bytes. Ok (sends s to bytes)
-
--- what a command does with what it speaks of
-unfoldable pub carried : Session → Files → Subject → Command → Result (Effect Session) Fault
-carried s files subject (command.Read file name) = changes (after_read s files file name)
-carried s files subject (command.Write to) = reports s to (of_chosen s (λ repo. text repo.history))
-carried s files subject (command.Choose name) = changes (after_choose s name)
-carried s files subject command.ShowRepos = reports s None (Ok (repos_text s))
-carried s files subject (command.Drop name) = changes (after_drop s name)
-carried s files subject command.DropChosen = changes (after_drop_chosen s)
-carried s files subject command.Renumber = changes (after_renumber s)
-carried s files subject (command.Show selection what to) = reports s to (of_chosen s (shown what subject.ids))
-carried s files subject (command.Assign selection name) = changes (after_assign s subject.ids name)
-carried s files subject (command.Edit selection what) = changes (after_edit s (remade what subject.ids))
-carried s files subject (command.Expunge words) = changes (after_edit s (without_paths subject.matchers))
-carried s files subject (command.Sample count start) = changes (after_sample s count start)
-carried s files subject (command.Names to) = reports s to (of_chosen s (λ repo. names_text repo.history))
-carried s files subject (command.Summary to) = reports s to (of_chosen s (λ repo. summary_text repo.name repo.history))
-
--- a command, of whose patterns one may be refused that the grammar reads
-unfoldable pub step : Option Denial → Session → Files → Command → Result (Effect Session) Fault
-step denial s files what = under denial (ready s what) >>= λ subject. carried s files subject what
-
--- ---- one line
-
--- the session is the same, and these lines are run next
-abbrev pub calling : Session → List Bytes → Effect Session
-calling s lines = record { session = s; to = None; bytes = []; calls = lines }
-
--- `define NAME BODY`
-abbrev pub defining : Session → Bytes → List Bytes → Session
-defining s name body = record s { macros = with_macro name body s.macros }
-
--- an order, inside so many macros: the body of one more is one deeper
-abbrev pub ordered : Option Denial → Session → Files → ℕ → Order → Result (Effect Session) Fault
-ordered denial s files depth (order.Step what) = step denial s files what
-ordered denial s files depth (order.Do call) = called s.macros call (depth + 1) >>= λ lines. Ok (calling s lines)
-
--- one line that is run, inside so many macros: a definition, or its order, or why it is none
-unfoldable pub line_step : Option Denial → Session → Files → ℕ → ScriptLine → Result (Effect Session) Fault
-line_step denial s files depth (Define name body) = Ok (quiet (defining s name body))
-line_step denial s files depth (Plain text) = order_of text >>= ordered denial s files depth

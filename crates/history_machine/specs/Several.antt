@@ -1,12 +1,17 @@
 -- What commands do to the load list that take another repository in, make one of several, or two of one (reposurgeon manual, `graft`,
--- `unite`, `divide`; the order of the checks: own). What each makes of the histories is left open here.
-use Rattle.std.specs.Prelude.{◌≡◌, ℕ, ◌≤◌, List, [], ◌∷◌, ◌++◌, length, codes, bytes_eq, Option, Some, None, Result, Ok, Err, if◌then◌else◌}
+-- `unite`, `divide`; the order of the checks: own): a form for each kind, whatever is made of the histories, and then what is.
+use Rattle.std.specs.Prelude.{◌≡◌, ℕ, ◌+◌, ◌≤◌, Bool, flat_map, map, List, [], ◌∷◌, ◌++◌, length, codes, bytes_eq, Option, Some, None, Result, Ok, Err, if◌then◌else◌}
 use Rattle.std.specs.List.{AllByRecursion}
 use Rattle.plain_model.specs.Paths.{Bytes}
 use Rattle.plain_model.specs.declared.event.PlainEvent.{PlainEvent}
 use Rattle.plain_model.specs.declared.fault.Fault.{Fault}
-use Rattle.edit_laws.specs.Editing.{IsEdit, IsLawfulHistory, Remade}
+use Rattle.divide_laws.specs.Divide.{divide_of}
+use Rattle.edit_laws.specs.Editing.{IsEdit, IsLawfulHistory, Remade, with_number}
 use Rattle.event_sets.specs.Sets.{Ids}
+use Rattle.graft_laws.specs.Graft.{graft_of}
+use Rattle.graft_laws.specs.Joining.{without_passes}
+use Rattle.graft_laws.specs.Unite.{Part, by_age, unite_of}
+use Rattle.selection_eval.specs.Names.{live_names}
 use Rattle.script_lines.specs.Answering.{◌>>=◌}
 use Rattle.history_machine.specs.Lawful.{IsLawfulRepo}
 use Rattle.history_machine.specs.Sessions.{Repo, Session, chosen, edited, find_repo, read_repo, room, there, unused, with_repo, without_repo}
@@ -43,8 +48,7 @@ without_repos (name ∷ names) repos = without_repos names (without_repo name re
 -- the names, with `+` between them
 abbrev pub joined_name : List Bytes → Bytes
 joined_name [] = []
-joined_name (name ∷ []) = name
-joined_name (name ∷ other ∷ names) = name ++ 43 ∷ joined_name (other ∷ names)
+joined_name (name ∷ names) = name ++ flat_map (λ other. 43 ∷ other) names
 
 -- Repositories leave the load list, and what they become is loaded last under their names, and chosen: first that each is there,
 -- then that no other has the new name, then what is asked of the parts.
@@ -80,3 +84,28 @@ abbrev pub IsDivision : (List PlainEvent → Result (List PlainEvent × List Pla
 IsDivision halves_of =
     (events : List PlainEvent) (halves : List PlainEvent × List PlainEvent) → IsLawfulHistory events → halves_of events ≡ Ok halves
     → IsLawfulHistory halves.0 × IsLawfulHistory halves.1
+
+-- ---- what is made of the histories
+
+-- `graft`: the events of the part come behind those of the chosen history, with the numbers from the next one on
+abbrev pub grafted_with : Bool → Repo → Ids → ℕ → List PlainEvent → Result Remade Fault
+grafted_with prune part ids next events =
+    with_number (next + length (without_passes part.history)) (graft_of prune next part.name part.history ids events)
+
+-- a repository as a part
+abbrev pub as_part : Repo → Part
+as_part repo = record { name = repo.name; events = repo.history }
+
+-- the united history, with the lists of the oldest part, of which those events stay that were there
+abbrev pub united_repo : List Repo → List PlainEvent → Repo
+united_repo [] history = read_repo [] history
+united_repo (base ∷ others) history = record (read_repo base.name history) { names = live_names base.history base.names }
+
+-- `unite`: the oldest part is the first of them by age
+abbrev pub united_of : Bool → List Repo → Result Repo Fault
+united_of prune parts =
+    unite_of prune (map as_part parts) >>= λ history. Ok (united_repo (by_age (λ (repo : Repo). repo.history) parts) history)
+
+-- `divide`
+abbrev pub halves_of : Ids → List PlainEvent → Result (List PlainEvent × List PlainEvent) Fault
+halves_of ids events = divide_of ids events >>= λ halves. Ok (halves.early, halves.late)

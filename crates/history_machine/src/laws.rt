@@ -35,6 +35,7 @@ ghost use Rattle.history_machine.specs.Changed.{
   SplitsBy,
   Unmerges,
 };
+ghost use Rattle.history_machine.specs.Joined.{Divides, Grafts, Unites};
 ghost use Rattle.history_machine.specs.Kept.{
   Each,
   KeepsEveryTree,
@@ -46,16 +47,8 @@ ghost use Rattle.history_machine.specs.Kept.{
 ghost use Rattle.history_machine.specs.Lawful.{IsLawful};
 ghost use Rattle.history_machine.specs.Machine.{Effect, effect_of, session_after};
 ghost use Rattle.history_machine.specs.PathWords.{matches_of};
-ghost use Rattle.history_machine.specs.Sessions.{
-  Repo,
-  Session,
-  chosen,
-  empty_session,
-  line_step,
-  remade,
-  sends,
-  step,
-};
+ghost use Rattle.history_machine.specs.Sessions.{Repo, Session, chosen, empty_session, remade};
+ghost use Rattle.history_machine.specs.Steps.{line_step, sends, step};
 ghost use Rattle.history_machine.specs.Several.{
   IsDivision,
   IsJoining,
@@ -63,13 +56,27 @@ ghost use Rattle.history_machine.specs.Several.{
   after_dividing,
   after_joining,
   after_uniting,
+  grafted_with,
+  halves_of,
+  united_of,
 };
 ghost use Rattle.history_machine.specs.Whole.{Denials, run, run_from};
 
 use coalesce_laws::{a_coalesce_is_an_edit, a_coalescing_keeps_trees, only_joined_commits_go};
+use divide_laws::{
+    an_event_goes_with_what_it_refers_to, halves_are_sound, halves_keep_the_limits,
+    halves_keep_trees,
+};
 use expunge_laws::{
     an_expunge_adds_nothing, an_expunge_comes_to_its_end, an_expunge_is_an_edit,
     an_expunge_restricts_trees,
+};
+use graft_laws::{
+    a_graft_is_an_edit, a_graft_keeps_the_base, a_pruned_graft_keeps_trees,
+    a_pruned_unite_keeps_trees, a_unite_is_lawful, a_unite_keeps_the_base,
+};
+use mailbox_laws::{
+    a_landing_is_an_edit, only_people_and_comments_land, other_words_keep_all_else,
 };
 use path_move_laws::a_move_is_an_edit;
 use renumbering::{a_renumbering_is_an_edit, ids_stay, renumbering_keeps_trees};
@@ -285,6 +292,16 @@ pub fn a_simplify_keeps_trees()
     simplify_laws::nothing_is_added();
 }
 
+/// A mailbox that lands leaves every loaded repository its name, its events and each of its commits its tree.
+pub fn a_landing_keeps_trees()
+    ensures { (denial : Option Denial) (s : Session) (files : Files) (file : List ℕ)
+        (t : Effect Session) → step denial s files (command.Land file) ≡ Ok t →
+        Each KeepsEveryTree s.repos t.session.repos }
+{
+    only_people_and_comments_land();
+    other_words_keep_all_else();
+}
+
 /// An expunge that is done takes the paths that its words match out of the chosen repository: each commit that is still
 /// there has the tree that it had, without them. No other repository changes.
 pub fn an_expunge_takes_paths_out_of_trees()
@@ -296,6 +313,43 @@ pub fn an_expunge_takes_paths_out_of_trees()
     an_expunge_restricts_trees();
     an_expunge_adds_nothing();
     an_expunge_comes_to_its_end();
+}
+
+/// A graft that is done leaves the chosen repository its events, each commit with its tree. With `--prune` each commit of the other
+/// one has its tree, too.
+pub fn a_graft_keeps_trees()
+    ensures { (denial : Option Denial) (s : Session) (files : Files) (selection name : List ℕ)
+        (prune : Bool) (t : Effect Session) →
+        step denial s files (command.Graft selection name prune) ≡ Ok t → IsLawful s →
+        Grafts prune name s t.session }
+{
+    selections_are_without_repeats();
+    selections_are_live();
+    sound_histories_are_such();
+    a_graft_keeps_the_base();
+    a_pruned_graft_keeps_trees();
+}
+
+/// A `unite` that is done leaves each commit of the oldest repository its tree, and with `--prune` each commit of the others.
+pub fn a_unite_keeps_trees()
+    ensures { (denial : Option Denial) (s : Session) (files : Files) (names : List (List ℕ))
+        (prune : Bool) (t : Effect Session) →
+        step denial s files (command.Unite names prune) ≡ Ok t → IsLawful s →
+        Unites prune names s t.session }
+{
+    a_unite_is_lawful();
+    a_unite_keeps_the_base();
+    a_pruned_unite_keeps_trees();
+}
+
+/// A division that is done leaves each commit of the chosen repository in one half alone, with its tree.
+pub fn a_division_keeps_trees()
+    ensures { (denial : Option Denial) (s : Session) (files : Files) (selection : List ℕ)
+        (t : Effect Session) → step denial s files (command.Divide selection) ≡ Ok t → IsLawful s →
+        Divides denial (command.Divide selection) s t.session }
+{
+    an_event_goes_with_what_it_refers_to();
+    halves_keep_trees();
 }
 
 /// Where each repository keeps the trees of its events it keeps every commit with its tree, and then the trees of what is still
@@ -357,6 +411,8 @@ pub fn a_step_keeps_it()
     every_edit_is_one();
     an_expunge_is_an_edit();
     a_renumbering_is_an_edit();
+    a_landing_is_an_edit();
+    several_become_lawful();
     a_command_is_spelled();
 }
 
@@ -374,6 +430,18 @@ pub fn each_session_of_a_run_is_lawful()
         AllByRecursion (λ t. IsLawful t.session) (run denials words files).effects }
 {
     a_step_keeps_it();
+}
+
+/// What `graft`, `unite` and `divide` make of lawful repositories is lawful.
+pub fn several_become_lawful()
+    ensures grafts { (prune : Bool) → IsJoining (grafted_with prune) }
+    ensures unites { (prune : Bool) → IsUniting (united_of prune) }
+    ensures divides { (ids : Ids) → IsDivision (halves_of ids) }
+{
+    a_graft_is_an_edit();
+    a_unite_is_lawful();
+    halves_are_sound();
+    halves_keep_the_limits();
 }
 
 /// A command that takes another repository in leaves such a session, where what it makes of the two is an edit; and so do one that

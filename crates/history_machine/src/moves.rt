@@ -8,7 +8,8 @@ ghost use Rattle.script_reader.specs.declared.edit.Edit.TheVariants as edit;
 ghost use Rattle.history_machine.specs.Changed.{ChangesChosen, MovesPaths};
 ghost use Rattle.history_machine.specs.Lawful.{IsLawful};
 ghost use Rattle.history_machine.specs.Machine.{Effect};
-ghost use Rattle.history_machine.specs.Sessions.{Session, step};
+ghost use Rattle.history_machine.specs.Sessions.{Session};
+ghost use Rattle.history_machine.specs.Steps.{step};
 
 use path_move_laws::{a_move_maps_trees, nothing_else_changes};
 

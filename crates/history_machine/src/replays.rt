@@ -24,7 +24,8 @@ ghost use Rattle.history_machine.specs.Changed.{
 ghost use Rattle.history_machine.specs.Lawful.{IsLawful};
 ghost use Rattle.history_machine.specs.Machine.{Effect};
 ghost use Rattle.history_machine.specs.PathWords.{matches_of};
-ghost use Rattle.history_machine.specs.Sessions.{Session, step};
+ghost use Rattle.history_machine.specs.Sessions.{Session};
+ghost use Rattle.history_machine.specs.Steps.{step};
 
 use expunge_laws::{
     an_expunge_restricts_trees, blobs_leave_that_nothing_names, emptied_commits_leave,

@@ -1,5 +1,5 @@
 use Rattle.expunge_laws.specs.Matching.{matched_by}
-use Rattle.history_machine.proofs.Lawful.{Laws, line_keeps, step_keeps}
+use Rattle.history_machine.proofs.Commands.{Laws, line_keeps, step_keeps}
 use Rattle.history_machine.proofs.laws.a_step_keeps_it.Goals as goal
 
 pub returns : goal.returns
@@ -14,6 +14,10 @@ returns c =
       edits = c.every_edit_is_one.ensures;
       expunges = λ matchers. c.an_expunge_is_an_edit.ensures (matched_by matchers);
       renumbers = c.a_renumbering_is_an_edit.ensures;
+      lands = c.a_landing_is_an_edit.ensures;
+      grafts = c.several_become_lawful.ensures.grafts;
+      unites = c.several_become_lawful.ensures.unites;
+      divides = c.several_become_lawful.ensures.divides;
       spelled = c.a_command_is_spelled.ensures;
     } in
     record { command = step_keeps laws; line = line_keeps laws }
