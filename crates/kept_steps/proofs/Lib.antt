@@ -1,0 +1,5 @@
+mod Kept
+mod Left
+mod Loading
+mod Runs
+mod Steps
