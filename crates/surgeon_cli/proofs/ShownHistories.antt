@@ -25,7 +25,8 @@ use Rattle.edit_laws.specs.Editing.{IsLawfulHistory}
 use Rattle.history_machine.specs.Lawful.{IsLawful, IsLawfulRepo}
 use Rattle.script_lines.specs.Answering.{◌>>=◌}
 use Rattle.history_machine.specs.Machine.{Run, Effect, called_by, ended, files_after, first_of, goes_on, others_of, run_on, status_after, effect_of}
-use Rattle.history_machine.specs.Sessions.{Repo, Session, chosen, empty_session, line_step, ordered, sends, step}
+use Rattle.history_machine.specs.Sessions.{Repo, Session, chosen, empty_session}
+use Rattle.history_machine.specs.Steps.{line_step, ordered, sends, step}
 use Rattle.history_machine.specs.Whole.{Denials, run, run_asked, run_read, script_in, waiting_of}
 use Rattle.history_machine.specs.Words.{Asked, asked}
 use Rattle.surgeon_cli.specs.Headline.{AreShown, AreShownWrites, IsShownLine, IsShownWrite, ShowsHistories, ShowsWrites}
@@ -119,6 +120,10 @@ module _
         order_shown denial s files w h (Ok (order.Step (command.Edit selection what))) = tt
         order_shown denial s files w h (Ok (order.Step (command.Expunge words))) = tt
         order_shown denial s files w h (Ok (order.Step (command.Summary to))) = tt
+        order_shown denial s files w h (Ok (order.Step (command.Land file))) = tt
+        order_shown denial s files w h (Ok (order.Step (command.Graft selection name prune))) = tt
+        order_shown denial s files w h (Ok (order.Step (command.Unite names prune))) = tt
+        order_shown denial s files w h (Ok (order.Step (command.Divide selection))) = tt
         order_shown denial s files w h (Ok (order.Step (command.Sample count start))) = tt
         order_shown denial s files w h (Ok (order.Step (command.Names to))) = tt
         order_shown denial s files w h (Ok (order.Do call)) = tt

@@ -14,7 +14,8 @@ use Rattle.surgeon_store.specs.declared.whole_files.ReadEnd.{ReadEnd}
 use Rattle.surgeon_store.specs.declared.whole_files.ReadEnd.TheVariants as read
 use Rattle.script_lines.specs.Answering.{◌>>=◌}
 use Rattle.history_machine.specs.Machine.{World, Effect}
-use Rattle.history_machine.specs.Sessions.{Session, after_read, changes}
+use Rattle.history_machine.specs.Sessions.{Session}
+use Rattle.history_machine.specs.Steps.{changes}
 use Rattle.surgeon_session.specs.Calls.{AsTold, Outcome, world, world_of}
 use Rattle.surgeon_session.specs.Commands.{Agrees, Carries, CarriesOut, Leaves, PartOf, Steps, no_calls}
 use Rattle.plain_model.specs.Faults.{Returns}
@@ -90,9 +91,9 @@ halted_alone calls s k old new reads_no_file specified h r is halts same = recor
   kept = halted_keeps calls s k old new specified same r;
 }
 
--- ---- `read`
+-- ---- commands that read a file
 
-module _ (s s' : StoreState) (k : SinkState) (old new : Session) (file name : Bytes) (frame : Reads s s') where
+module _ (s s' : StoreState) (k : SinkState) (old new : Session) (after : Files → Result Session Fault) (frame : Reads s s') where
   read_worlds : (P : World → World → Type 0) → ((f : Files) → s.files ≡ Some f → (w : World) → w.files ≡ f → P w w) → IfSome (world s k) (λ w. IfSome (world s' k) (λ now. P w now))
   read_worlds P f = rw frame.files (go s.files f k.written)
     where
@@ -103,12 +104,12 @@ module _ (s s' : StoreState) (k : SinkState) (old new : Session) (file name : By
       go (Some files) f (Some out) = f files refl _ refl
 
   -- one that is read
-  pub done_read : AsTold s.files (λ files. after_read old files file name ≡ Ok new) → CountsNoFault s s'
-      → CarriesOut {Y = Unit {0}} no_calls s k old ⊥ (λ files. changes (after_read old files file name)) (Ok tt) new s' k
+  pub done_read : AsTold s.files (λ files. after files ≡ Ok new) → CountsNoFault s s'
+      → CarriesOut {Y = Unit {0}} no_calls s k old ⊥ (λ files. changes (after files)) (Ok tt) new s' k
   done_read returns well = record {
     outcome = record {
-      prescribed = read_worlds (λ w now. Steps {Y = Unit {0}} no_calls (Ok tt) old w (changes (after_read old w.files file name)) new now)
-          (λ f is w its. subst (λ (r : Result Session Fault). Carries [] w (changes r) new w) (sym (subst (λ (g : Files). after_read old g file name ≡ Ok new) (sym its) (rw is at returns))) (refl, quiet_world w, refl));
+      prescribed = read_worlds (λ w now. Steps {Y = Unit {0}} no_calls (Ok tt) old w (changes (after w.files)) new now)
+          (λ f is w its. subst (λ (r : Result Session Fault). Carries [] w (changes r) new w) (sym (subst (λ (g : Files). after g ≡ Ok new) (sym its) (rw is at returns))) (refl, quiet_world w, refl));
       caused = record { store = well; faults = refl };
       later = read_later s s' k frame;
     };
@@ -118,13 +119,13 @@ module _ (s s' : StoreState) (k : SinkState) (old new : Session) (file name : By
   }
 
   module _ (same : new ≡ old) where
-    by_end : (e : ReadEnd) → AsTold s.files (λ files. ReturnsOrBreaks {X = Unit {0}} (λ _. new) (Err e) (after_read old files file name))
+    by_end : (e : ReadEnd) → AsTold s.files (λ files. ReturnsOrBreaks {X = Unit {0}} (λ _. new) (Err e) (after files))
         → (IsErrOf {T = Unit {0}} (Err e) read.SourceFault → Rose s.read_faults s'.read_faults) → IsQuiet {X = Unit {0}} (Err e) s s'
-        → CarriesOut {Y = Unit {0}} no_calls s k old ⊥ (λ files. changes (after_read old files file name)) (Err (of_read_end e)) new s' k
+        → CarriesOut {Y = Unit {0}} no_calls s k old ⊥ (λ files. changes (after files)) (Err (of_read_end e)) new s' k
     by_end (read.Refused fault) returns failed well = record {
       outcome = record {
-        prescribed = read_worlds (λ w now. Steps {Y = Unit {0}} no_calls (Err (halted.Refused fault)) old w (changes (after_read old w.files file name)) new now)
-            (λ f is w its. (ap changes (subst (λ (g : Files). after_read old g file name ≡ Err fault) (sym its) (rw is at returns)), same, refl));
+        prescribed = read_worlds (λ w now. Steps {Y = Unit {0}} no_calls (Err (halted.Refused fault)) old w (changes (after w.files)) new now)
+            (λ f is w its. (ap changes (subst (λ (g : Files). after g ≡ Err fault) (sym its) (rw is at returns)), same, refl));
         caused = record { store = well; faults = refl };
         later = read_later s s' k frame;
       };
@@ -134,8 +135,8 @@ module _ (s s' : StoreState) (k : SinkState) (old new : Session) (file name : By
     }
     by_end read.SourceFault returns failed well = record {
       outcome = record {
-        prescribed = read_worlds (λ w now. Steps {Y = Unit {0}} no_calls (Err halted.SourceFault) old w (changes (after_read old w.files file name)) new now)
-            (λ f is w its. (same, part_none w (changes (after_read old w.files file name))));
+        prescribed = read_worlds (λ w now. Steps {Y = Unit {0}} no_calls (Err halted.SourceFault) old w (changes (after w.files)) new now)
+            (λ f is w its. (same, part_none w (changes (after w.files))));
         caused = failed refl;
         later = read_later s s' k frame;
       };
@@ -145,8 +146,8 @@ module _ (s s' : StoreState) (k : SinkState) (old new : Session) (file name : By
     }
     by_end read.Memory returns failed well = record {
       outcome = record {
-        prescribed = read_worlds (λ w now. Steps {Y = Unit {0}} no_calls (Err halted.Memory) old w (changes (after_read old w.files file name)) new now)
-            (λ f is w its. (same, part_none w (changes (after_read old w.files file name))));
+        prescribed = read_worlds (λ w now. Steps {Y = Unit {0}} no_calls (Err halted.Memory) old w (changes (after w.files)) new now)
+            (λ f is w its. (same, part_none w (changes (after w.files))));
         caused = tt;
         later = read_later s s' k frame;
       };
@@ -157,8 +158,8 @@ module _ (s s' : StoreState) (k : SinkState) (old new : Session) (file name : By
 
     -- a file that isn't read
     pub halted_read : (e : ReadEnd) (r : Result (Unit {0}) Halted) → IsErrAnd r (λ x. x ≡ of_read_end e)
-        → AsTold s.files (λ files. ReturnsOrBreaks {X = Unit {0}} (λ _. new) (Err e) (after_read old files file name))
+        → AsTold s.files (λ files. ReturnsOrBreaks {X = Unit {0}} (λ _. new) (Err e) (after files))
         → (IsErrOf {T = Unit {0}} (Err e) read.SourceFault → Rose s.read_faults s'.read_faults) → IsQuiet {X = Unit {0}} (Err e) s s'
-        → CarriesOut no_calls s k old ⊥ (λ files. changes (after_read old files file name)) r new s' k
+        → CarriesOut no_calls s k old ⊥ (λ files. changes (after files)) r new s' k
     halted_read e (Ok y) is returns failed well = absurd is
     halted_read e (Err x) is returns failed well = rw is (by_end e returns failed well)

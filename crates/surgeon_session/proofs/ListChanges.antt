@@ -5,10 +5,11 @@ use Rattle.plain_model.specs.declared.fault.Fault.{Fault}
 use Rattle.plain_model.specs.declared.fault.Halt.{Halt}
 use Rattle.script_reader.specs.Macros.{Macro}
 use Rattle.surgeon_store.specs.Outside.{StoreState, SinkState}
-use Rattle.history_machine.specs.Sessions.{Session, changes}
+use Rattle.history_machine.specs.Sessions.{Session}
+use Rattle.history_machine.specs.Steps.{changes}
 use Rattle.surgeon_session.specs.Commands.{CarriesOut, no_calls}
 use Rattle.surgeon_session.specs.Ends.{of_answer}
-use Rattle.surgeon_session.specs.LoadLists.{Changes, LoadList, session_of}
+use Rattle.load_list.specs.Lists.{Changes, LoadList, session_of}
 use Rattle.surgeon_session.specs.declared.halted.Halted.{Halted}
 use Rattle.surgeon_session.proofs.Halting.{halted_alone, halts_after, returned}
 use Rattle.surgeon_session.proofs.Readying.{done_alone}

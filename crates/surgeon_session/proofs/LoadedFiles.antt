@@ -17,7 +17,7 @@ use Rattle.history_machine.specs.Loading.{loaded}
 use Rattle.history_machine.specs.Reads.{with_loaded}
 use Rattle.history_machine.specs.Sessions.{Repo, Session, after_read, find_repo, read_repo, unused}
 use Rattle.surgeon_session.specs.Calls.{AsTold}
-use Rattle.surgeon_session.specs.LoadLists.{LoadList, session_of}
+use Rattle.load_list.specs.Lists.{LoadList, session_of}
 use Rattle.surgeon_session.proofs.Pieces.{told_then}
 
 module _ (list : LoadList) (macros : List Macro) (name : Bytes) where

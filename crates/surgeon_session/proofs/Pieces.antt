@@ -463,10 +463,10 @@ abbrev pub no_files : Files
 no_files = empty
 
 -- one file is
-abbrev one_file : Bytes → Bytes → Files
+abbrev pub one_file : Bytes → Bytes → Files
 one_file name bytes = insert no_files name bytes
 
-found_alone : (name bytes : Bytes) → get (one_file name bytes) name ≡ Some bytes
+pub found_alone : (name bytes : Bytes) → get (one_file name bytes) name ≡ Some bytes
 found_alone name bytes = get-insert nat_list_cmp_total no_files name bytes name ∙ ap (λ b. cond b (Some bytes) (get no_files name)) ((eq_by_cmp_equiv nat_list_cmp_total).refl name)
 
 module _ {X : Type 0} (view : X → List PlainEvent) (name : Bytes) (files : Option Files) where

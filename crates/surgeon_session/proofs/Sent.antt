@@ -6,7 +6,8 @@ use Rattle.plain_model.specs.Paths.{Bytes}
 use Rattle.plain_model.specs.declared.fault.Fault.{Fault}
 use Rattle.surgeon_store.specs.Outside.{SinkState, StoreState}
 use Rattle.history_machine.specs.Machine.{Effect, World}
-use Rattle.history_machine.specs.Sessions.{Session, reports, sends}
+use Rattle.history_machine.specs.Sessions.{Session}
+use Rattle.history_machine.specs.Steps.{reports, sends}
 use Rattle.surgeon_session.specs.Calls.{Outcome, world}
 use Rattle.surgeon_session.specs.Commands.{Agrees, CarriesOut, Sends, Steps, no_calls}
 use Rattle.surgeon_session.specs.Ends.{status_of}

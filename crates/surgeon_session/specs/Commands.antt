@@ -58,9 +58,10 @@ no_calls y = []
 
 -- ---- one command, over every store
 
--- the command is not `read`
+-- the command is neither `read` nor `msgin`
 abbrev pub ReadsNoFile : Command → Type 0
 ReadsNoFile (command.Read file name) = ⊥
+ReadsNoFile (command.Land file) = ⊥
 ReadsNoFile other = Unit {0}
 
 -- what is specified is done, in the session, and these lines are run next

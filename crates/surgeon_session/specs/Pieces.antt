@@ -91,9 +91,21 @@ bytes_in files name = option_and_then (λ found. get found name) files
 -- the bytes of the file that a command reads
 abbrev pub bytes_read : Option Files → Command → Option Bytes
 bytes_read files (command.Read file name) = bytes_in files file
+bytes_read files (command.Land file) = bytes_in files file
 bytes_read files other = None
+
+-- Why a mailbox isn't read. It is judged once it is there as a whole, so only that it is too long says how much of it was taken.
+abbrev pub if_too_long : Option Fault → Option Fault
+if_too_long (Some (fault.TooLong name limit)) = Some (fault.TooLong name limit)
+if_too_long other = None
+
+-- why a command stops to read
+abbrev pub stop_of : Command → Option Fault → Option Fault
+stop_of (command.Land file) refused = if_too_long refused
+stop_of other refused = refused
 
 -- of a command that reads a file
 abbrev pub CountsMissOf : Command → Option Fault → StoreState → StoreState → Type 0
 CountsMissOf (command.Read file name) refused s s' = CountsMiss refused s s'
+CountsMissOf (command.Land file) refused s s' = CountsMiss refused s s'
 CountsMissOf other refused s s' = Unit {0}

@@ -4,7 +4,7 @@ ghost use Rattle.plain_model.specs.Counts.{Rose};
 ghost use Rattle.plain_model.specs.Faults.{refusal};
 ghost use Rattle.plain_model.specs.Files.{Files};
 ghost use Rattle.history_machine.specs.Machine.{passes_limit, past, run_on};
-ghost use Rattle.history_machine.specs.Sessions.{line_step, ordered};
+ghost use Rattle.history_machine.specs.Steps.{line_step, ordered};
 ghost use Rattle.history_machine.specs.Whole.{run_from};
 ghost use Rattle.surgeon_session.specs.Calls.{Caused, Later, world};
 ghost use Rattle.surgeon_session.specs.Commands.{
@@ -61,7 +61,7 @@ fn carry_out_order<S: Store, T: Sink, P: Patterns>(
 }
 
 // Carries out a line inside so many macros, and gives the lines that are run next.
-#[tactic(auto, unfolding(history_machine::specs::Sessions::line_step))]
+#[tactic(auto, unfolding(history_machine::specs::Steps::line_step))]
 fn carry_out<S: Store, T: Sink, P: Patterns>(
     alloc: Global,
     session: &mut Session,

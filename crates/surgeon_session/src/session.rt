@@ -1,41 +1,34 @@
 //! What a session holds, and one command. What changes the load list alone is a call of it. The parts: `loading` reads
-//! and makes histories, `showing` makes the texts that are written and listed.
+//! and makes histories, `landing` reads mailboxes, `showing` makes the texts that are written and listed.
 ghost use Rattle.std.specs.Prelude.{◌≡◌, ◌≤◌, IfOk, OnErr, OnOk};
 ghost use Rattle.byte_patterns.specs.Judging.{Judges};
 ghost use Rattle.event_sets.specs.Once.{IsOnce};
-ghost use Rattle.history_machine.specs.Sessions.{
-  Scope,
-  carried,
-  chosen,
-  defining,
-  empty_session,
-  in_scope,
-  ready,
-  step,
-};
+ghost use Rattle.history_machine.specs.Sessions.{Scope, chosen, empty_session, in_scope, ready};
+ghost use Rattle.history_machine.specs.Steps.{carried, defining, step};
 ghost use Rattle.script_reader.specs.Macros.{called};
 ghost use Rattle.surgeon_session.specs.Commands.{CarriesOut, ReadsNoFile, no_calls};
 ghost use Rattle.surgeon_session.specs.Denials.{Under};
 ghost use Rattle.plain_model.specs.Faults.{Returns};
-ghost use Rattle.surgeon_session.specs.Entries.{AreLiveIn};
-ghost use Rattle.surgeon_session.specs.LoadLists.{all_in};
+ghost use Rattle.load_list.specs.Entries.{AreLiveIn};
+ghost use Rattle.load_list.specs.Lists.{all_in};
 ghost use Rattle.surgeon_session.specs.Pieces.{
   CountsMissOf,
   LeavesNothing,
   StopsNear,
   bytes_read,
   refused,
+  stop_of,
 };
 
+mod landing;
 mod loading;
 mod showing;
 
 use crate::halted::{Halted, of_answer};
-use crate::load_list::LoadList;
-use crate::path_words::matchers_of;
 use crate::subject::Subject;
 use byte_patterns::Patterns;
 use listing::all;
+use load_list::{LoadList, matchers_of};
 use plain_model::{Halt, Items, NoMemory, Text};
 use script_lines::{LineList, ScriptText};
 use script_reader::{Call, Command, Macros, WrittenSelection};
@@ -57,7 +50,7 @@ impl Model for Session {
 
     ghost Value = { Session };
 
-    ghost use Rattle.surgeon_session.specs.LoadLists.{session_of};
+    ghost use Rattle.load_list.specs.Lists.{session_of};
 
     ghost view = { λ s. session_of s.list s.macros };
 }
@@ -170,14 +163,16 @@ impl Session {
                 selection: None,
                 ..
             } => self.all_events(),
-            Command::Assign { selection, .. } => self.selected_events(selection, patterns),
+            Command::Assign { selection, .. }
+            | Command::Graft { selection, .. }
+            | Command::Divide { selection } => self.selected_events(selection, patterns),
             Command::Expunge { words } => self.said_paths(words.as_slice(), patterns),
             _ => Ok(Subject::of_events(self.alloc, Items::empty(self.alloc))),
         }
     }
 
     // What a command does with what it speaks of.
-    #[tactic(auto, unfolding(history_machine::specs::Sessions::carried))]
+    #[tactic(auto, unfolding(history_machine::specs::Steps::carried))]
     fn carry<S: Store, T: Sink>(
         &mut self,
         command: &Command,
@@ -190,8 +185,8 @@ impl Session {
         ensures carries { CarriesOut no_calls (S.state store.old) (T.state out.old) self.old
             (ReadsNoFile command.now) (λ files. carried self.old files subject.now command.now)
             result self.new (S.state store.new) (T.state out.new) }
-        ensures near { StopsNear (bytes_read (S.state store.old).files command.now) (refused result)
-            (S.state store.new).rest }
+        ensures near { StopsNear (bytes_read (S.state store.old).files command.now)
+            (stop_of command.now (refused result)) (S.state store.new).rest }
         ensures whole { OnOk result (LeavesNothing (bytes_read (S.state store.old).files command.now)
             (S.state store.new).rest) }
         ensures missed { CountsMissOf command.now (refused result) (S.state store.old)
@@ -211,6 +206,14 @@ impl Session {
             }
             Command::Edit { what, .. } => of_answer(self.list.edit(what, subject.ids())),
             Command::Expunge { .. } => of_answer(self.list.expunge(subject.matchers())),
+            Command::Land { file } => Ok(self.land(store, file)?),
+            Command::Graft { name, prune, .. } => {
+                of_answer(self.list.graft(name.as_bytes(), subject.ids(), *prune))
+            }
+            Command::Unite { names, prune } => {
+                of_answer(self.list.unite(names.as_slice(), *prune))
+            }
+            Command::Divide { .. } => of_answer(self.list.divide(subject.ids())),
             Command::Sample { count, start } => Ok(self.sample(*count, *start)?),
             Command::Names { to } => self.names(store, out, to),
             Command::Summary { to } => self.summary(store, out, to),
@@ -219,7 +222,7 @@ impl Session {
 
     /// Carries out one command, or refuses it and leaves session and files as they were. A fault of the outside and out of
     /// memory leave the session as it was, and a first part of what the command writes or prints may be there.
-    #[tactic(auto, unfolding(history_machine::specs::Sessions::step))]
+    #[tactic(auto, unfolding(history_machine::specs::Steps::step))]
     pub fn step<S: Store, T: Sink, P: Patterns>(
         &mut self,
         command: &Command,
@@ -233,13 +236,13 @@ impl Session {
             result self.new (S.state store.new) (T.state out.new)) }
 
         // A refused `read` takes at most one piece of the file past the line that is refused, and no byte past the limit but the one
-        // that shows that the file is too long. One that is done takes all of it.
-        ensures near { StopsNear (bytes_read (S.state store.old).files command.now) (refused result)
-            (S.state store.new).rest }
+        // that shows that the file is too long, and so does `msgin`. One that is done takes all of it.
+        ensures near { StopsNear (bytes_read (S.state store.old).files command.now)
+            (stop_of command.now (refused result)) (S.state store.new).rest }
         ensures whole { OnOk result (LeavesNothing (bytes_read (S.state store.old).files command.now)
             (S.state store.new).rest) }
 
-        // A `read` that is refused since its file is missing has looked for it.
+        // One that is refused since its file is missing has looked for it.
         ensures missed { CountsMissOf command.now (refused result) (S.state store.old)
             (S.state store.new) }
         ensures grows { P.sizes patterns.old ≤ P.sizes patterns.new }

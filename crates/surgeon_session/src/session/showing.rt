@@ -1,6 +1,7 @@
 //! Texts of the chosen repository and of the load list, and where they go.
 ghost use Rattle.std.specs.Prelude.{◌≡◌, ◌++◌, IfOk, None, Ok, OnOk};
-ghost use Rattle.history_machine.specs.Sessions.{of_chosen, repo_line, reports, repos_text, shown};
+ghost use Rattle.history_machine.specs.Sessions.{of_chosen, repo_line, repos_text, shown};
+ghost use Rattle.history_machine.specs.Steps.{reports};
 ghost use Rattle.listing.specs.Listings.{names_text};
 ghost use Rattle.listing.specs.Summaries.{summary_text};
 ghost use Rattle.plain_model.specs.Text.{text};

@@ -2,7 +2,8 @@ use Rattle.std.proofs.Common.{List, [], None, Ok, ap, refl, sym}
 use Rattle.plain_model.specs.declared.fault.Halt.TheVariants as halt
 use Rattle.plain_model.specs.Paths.{Bytes}
 use Rattle.script_reader.specs.declared.command.Order.{Order}
-use Rattle.history_machine.specs.Sessions.{Session, line_step, quiet}
+use Rattle.history_machine.specs.Sessions.{Session}
+use Rattle.history_machine.specs.Steps.{line_step, quiet}
 use Rattle.surgeon_session.proofs.Halting.{halted_alone, halts_after, returned}
 use Rattle.surgeon_session.proofs.Readying.{done_alone, of_order}
 use Rattle.surgeon_session.proofs.run.carry_out.Goals as goal

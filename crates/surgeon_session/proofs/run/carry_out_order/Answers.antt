@@ -1,7 +1,7 @@
 use Rattle.std.proofs.Common.{List, None, Ok, Result, ap, refl}
 use Rattle.plain_model.specs.declared.fault.Fault.{Fault}
 use Rattle.script_lines.specs.Answering.{◌>>=◌}
-use Rattle.history_machine.specs.Sessions.{calling}
+use Rattle.history_machine.specs.Steps.{calling}
 use Rattle.plain_model.specs.Paths.{Bytes}
 use Rattle.surgeon_session.proofs.Halting.{halted_alone, halts_after, returned}
 use Rattle.surgeon_session.proofs.Readying.{as_broken_line, as_done_line, done_alone}

@@ -1,4 +1,4 @@
-use Rattle.history_machine.specs.Sessions.{line_step}
+use Rattle.history_machine.specs.Steps.{line_step}
 use Rattle.surgeon_session.specs.Calls.{world}
 use Rattle.std.proofs.Common.{inr, refl, subst, sym}
 use Rattle.surgeon_session.specs.Commands.{RefusesAs}

@@ -4,7 +4,8 @@ use Rattle.plain_model.specs.declared.status.Status.{Status}
 use Rattle.plain_model.specs.declared.status.Status.TheVariants as status
 use Rattle.byte_patterns.specs.Judging.{Denial}
 use Rattle.history_machine.specs.Machine.{SessionEndsAs, World, run_on}
-use Rattle.history_machine.specs.Sessions.{Session, line_step}
+use Rattle.history_machine.specs.Sessions.{Session}
+use Rattle.history_machine.specs.Steps.{line_step}
 use Rattle.surgeon_session.specs.Calls.{world}
 use Rattle.surgeon_session.specs.Commands.{ReadNoFile, status_of_line}
 use Rattle.surgeon_session.specs.Waits.{AreWithin}

@@ -1,4 +1,6 @@
-use Rattle.history_machine.specs.Sessions.{Session, after_assign, after_choose, after_drop, after_drop_chosen, after_edit, after_renumber, carried, changes, chosen, remade, without_paths}
+use Rattle.history_machine.specs.Sessions.{Session, after_assign, after_choose, after_drop, after_drop_chosen, after_edit, after_land, after_read, after_renumber, chosen, remade, without_paths}
+use Rattle.history_machine.specs.Several.{after_dividing, after_joining, after_uniting, grafted_with, halves_of, united_of}
+use Rattle.history_machine.specs.Steps.{carried, changes}
 use Rattle.surgeon_session.specs.Commands.{no_calls}
 use Rattle.std.proofs.Common.{ap}
 use Rattle.surgeon_session.proofs.Halting.{done_read, halted_alone, halted_read, halts_after, returned}
@@ -11,7 +13,14 @@ unfolding carried
 returns-in_err-read-in-Read-clause-carries g c =
     let failed = c.in_err-read-in-Read in
     rw c.in-Read.is
-    (halted_read _ _ _ c.args.self.now c.read.new.self _ _ failed.ensures.frame failed.ensures.kept failed.field-0.0 c.from_residual.result c.from_residual.ensures.1 failed.ensures.returns failed.ensures.failed failed.ensures.quiet)
+    (halted_read _ _ _ c.args.self.now c.read.new.self (λ files. after_read c.args.self.now files c.in-Read.file c.in-Read.name) failed.ensures.frame failed.ensures.kept failed.field-0.0 c.from_residual.result c.from_residual.ensures.1 failed.ensures.returns failed.ensures.failed failed.ensures.quiet)
+
+pub returns-in_err-land-in-Land-clause-carries : goal.returns-in_err-land-in-Land-clause-carries
+unfolding carried
+returns-in_err-land-in-Land-clause-carries g c =
+    let failed = c.in_err-land-in-Land in
+    rw c.in-Land.is
+    (halted_read _ _ _ c.args.self.now c.land.new.self (λ files. after_land c.args.self.now files c.in-Land.file) failed.ensures.frame failed.ensures.kept failed.field-0.0 c.from_residual-in_err-land-in-Land.result c.from_residual-in_err-land-in-Land.ensures.1 failed.ensures.returns failed.ensures.failed failed.ensures.quiet)
 
 pub returns-in-Choose-clause-carries : goal.returns-in-Choose-clause-carries
 unfolding carried
@@ -66,6 +75,35 @@ returns-in-Expunge-clause-carries g c =
     (list_changed _ _ c.self-in-Expunge.inside.list c.expunge.new.self c.self-in-Expunge.inside.macros _ (λ s. after_edit s (without_paths c.args.subject.now.matchers)) c.expunge.result _
     c.of_answer-in-Expunge.ensures (rw c.matchers.ensures at c.expunge.ensures.changes) c.expunge.ensures.kept)
 
+pub graft-requires-clause-live : goal.graft-requires-clause-live
+unfolding chosen
+graft-requires-clause-live g c = rw (← c.self-in-Graft.view_is, ← c.ids-in-Graft.ensures) at c.requires.live
+
+pub returns-in-Graft-clause-carries : goal.returns-in-Graft-clause-carries
+unfolding carried
+returns-in-Graft-clause-carries g c =
+    rw (c.in-Graft.is, ← c.self-in-Graft.view_is)
+    (list_changed _ _ c.self-in-Graft.inside.list c.graft.new.self c.self-in-Graft.inside.macros _ (λ s. after_joining s c.in-Graft.name (λ part. grafted_with c.in-Graft.prune part c.args.subject.now.ids)) c.graft.result _
+    c.of_answer-in-Graft.ensures (rw (c.as_bytes.ensures, c.ids-in-Graft.ensures) at c.graft.ensures.changes) c.graft.ensures.kept)
+
+pub returns-in-Unite-clause-carries : goal.returns-in-Unite-clause-carries
+unfolding carried
+returns-in-Unite-clause-carries g c =
+    rw (c.in-Unite.is, ← c.self-in-Unite.view_is)
+    (list_changed _ _ c.self-in-Unite.inside.list c.unite.new.self c.self-in-Unite.inside.macros _ (λ s. after_uniting s c.in-Unite.names (united_of c.in-Unite.prune)) c.unite.result _
+    c.of_answer-in-Unite.ensures (rw c.as_slice-in-Unite.ensures at c.unite.ensures.changes) c.unite.ensures.kept)
+
+pub divide-requires-clause-live : goal.divide-requires-clause-live
+unfolding chosen
+divide-requires-clause-live g c = rw (← c.self-in-Divide.view_is, ← c.ids-in-Divide.ensures) at c.requires.live
+
+pub returns-in-Divide-clause-carries : goal.returns-in-Divide-clause-carries
+unfolding carried
+returns-in-Divide-clause-carries g c =
+    rw (c.in-Divide.is, ← c.self-in-Divide.view_is)
+    (list_changed _ _ c.self-in-Divide.inside.list c.divide.new.self c.self-in-Divide.inside.macros _ (λ s. after_dividing s (halves_of c.args.subject.now.ids)) c.divide.result _
+    c.of_answer-in-Divide.ensures (rw c.ids-in-Divide.ensures at c.divide.ensures.changes) c.divide.ensures.kept)
+
 pub returns-in_err-sample-in-Sample-clause-carries : goal.returns-in_err-sample-in-Sample-clause-carries
 unfolding carried
 returns-in_err-sample-in-Sample-clause-carries g c =
@@ -99,9 +137,15 @@ pub returns-in_ok-read-in-Read-clause-carries : goal.returns-in_ok-read-in-Read-
 unfolding carried
 returns-in_ok-read-in-Read-clause-carries g c =
     let done = c.in_ok-read-in-Read in
-    rw c.in-Read.is (done_read _ _ _ c.args.self.now c.read.new.self _ _ done.ensures.frame done.ensures.returns done.ensures.quiet)
+    rw c.in-Read.is (done_read _ _ _ c.args.self.now c.read.new.self (λ files. after_read c.args.self.now files c.in-Read.file c.in-Read.name) done.ensures.frame done.ensures.returns done.ensures.quiet)
 
 pub returns-in_ok-sample-in-Sample-clause-carries : goal.returns-in_ok-sample-in-Sample-clause-carries
 unfolding carried
 returns-in_ok-sample-in-Sample-clause-carries g c =
     rw c.in-Sample.is (done_alone no_calls _ _ c.args.self.now c.sample.new.self _ _ tt (λ files. ap changes c.in_ok-sample-in-Sample.ensures.returns))
+
+pub returns-in_ok-land-in-Land-clause-carries : goal.returns-in_ok-land-in-Land-clause-carries
+unfolding carried
+returns-in_ok-land-in-Land-clause-carries g c =
+    let done = c.in_ok-land-in-Land in
+    rw c.in-Land.is (done_read _ _ _ c.args.self.now c.land.new.self (λ files. after_land c.args.self.now files c.in-Land.file) done.ensures.frame done.ensures.returns done.ensures.quiet)

@@ -1,7 +1,8 @@
 use Rattle.std.proofs.Common.{Err, ap, sym, ◌∙◌}
 use Rattle.event_arena.specs.Graphs.{Graph}
+use Rattle.history_machine.proofs.Lawful.{spelled_bytes}
 use Rattle.history_machine.specs.Sessions.{after_read}
-use Rattle.surgeon_session.specs.LoadLists.{LoadList, session_of}
+use Rattle.load_list.specs.Lists.{LoadList, session_of}
 use Rattle.surgeon_session.proofs.LoadedFiles.{file_broken, file_done, name_taken, no_room}
 use Rattle.surgeon_session.proofs.Pieces.{any_told, memory_told, no_files}
 use Rattle.surgeon_session.proofs.session.Session.read.Goals as goal
@@ -29,6 +30,9 @@ returns-in_err-events-clause-returns g c =
     (file_broken c.self.inside.list c.self.inside.macros c.args.name.now (sym c.has_room.ensures ∙ c.if-not-has_room.false)
     (rw c.as_slice.ensures.value at (sym c.has.ensures ∙ c.if-has.false)) (λ (events : Graph). events.list) _ (g.S.Store.state c.args.store.now).files c.args.file.now c.in_err-events.field-0.0
     c.from_residual-in_err-events.result c.from_residual-in_err-events.ensures.1 (rw c.as_str.ensures at c.in_err-events.ensures.returns))
+
+pub add_chosen-requires-clause-named : goal.add_chosen-requires-clause-named
+add_chosen-requires-clause-named g c = rw c.as_slice-2.ensures.value (spelled_bytes c.args.name.now c.as_slice-2.ensures.fits)
 
 pub returns-clause-returns : goal.returns-clause-returns
 returns-clause-returns g c =

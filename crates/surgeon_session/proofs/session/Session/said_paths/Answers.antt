@@ -1,4 +1,4 @@
-use Rattle.surgeon_session.proofs.Speaking.{paths_refused}
+use Rattle.load_list.proofs.Speaking.{paths_refused}
 use Rattle.surgeon_session.proofs.session.Session.said_paths.Goals as goal
 
 pub returns-in_err-matchers-clause-judged : goal.returns-in_err-matchers-clause-judged

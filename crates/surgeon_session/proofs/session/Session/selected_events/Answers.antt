@@ -1,4 +1,4 @@
-use Rattle.surgeon_session.proofs.Speaking.{events_refused}
+use Rattle.load_list.proofs.Speaking.{events_refused}
 use Rattle.surgeon_session.proofs.session.Session.selected_events.Goals as goal
 
 pub returns-in_err-ids-clause-judged : goal.returns-in_err-ids-clause-judged

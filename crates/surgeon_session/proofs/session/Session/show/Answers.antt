@@ -2,7 +2,7 @@ use Rattle.std.proofs.Common.{ap}
 use Rattle.plain_model.specs.Paths.{Bytes}
 use Rattle.history_machine.specs.Sessions.{chosen, shown}
 use Rattle.surgeon_session.specs.Commands.{no_calls}
-use Rattle.surgeon_session.specs.LoadLists.{LoadList, session_of, text_in}
+use Rattle.load_list.specs.Lists.{LoadList, session_of, text_in}
 use Rattle.surgeon_session.proofs.Halting.{halted_alone, halts_after, returned}
 use Rattle.surgeon_session.proofs.Sent.{reports_text, sends_text}
 use Rattle.surgeon_session.proofs.session.Session.show.Goals as goal
