@@ -1,7 +1,7 @@
 -- An operation that a line of a script adds is such as one of a stream is.
 use Rattle.std.proofs.Common.{◌≡◌, ℕ, Bool, true, false, cond, List, [], ◌∷◌, ◌++◌, Option, Some, None, Result, Ok, Err, refl, subst}
 use Rattle.std.specs.List.{list_any}
-use Rattle.std.specs.Prelude.{bytes_eq, if◌then◌else◌}
+use Rattle.std.specs.Prelude.{bytes_eq, codes, if◌then◌else◌}
 use Rattle.plain_model.specs.declared.fault.Fault.{Fault}
 use Rattle.plain_model.specs.declared.fault.Fault.TheVariants as fault
 use Rattle.plain_model.specs.Paths.{Bytes}
@@ -14,14 +14,15 @@ use Rattle.script_lines.specs.Texts.{at_fault, or_at_fault, text_before, texts_i
 use Rattle.script_lines.specs.Words.{after_head, head_of, words_of}
 use Rattle.script_lines.specs.declared.redirection.Direction.TheVariants.{Input}
 use Rattle.script_lines.specs.declared.word.Word.{Word}
-use Rattle.script_reader.specs.Commands.{IsSpelledCommand, assign_form, choose_form, choose_of, divide_form, do_form, drop_form, drop_of, edit_form, ends_names, expunge_form, form_of, graft_form, land_form, last_name, names_form, order_after, order_in, order_of, plain_form, prune_within, read_form, read_of, renumber_form, sample_form, sample_start, show_form, steps, summary_form, unite_form, united_with, write_form}
+use Rattle.script_reader.specs.Commands.{IsSpelledCommand, assign_form, authors_form, authors_from, choose_form, choose_of, divide_form, do_form, drop_form, drop_of, edit_form, ends_names, expunge_form, form_of, graft_form, land_form, last_name, names_form, order_after, order_in, order_of, plain_form, prune_within, read_form, read_of, renumber_form, sample_form, sample_start, says_read, show_form, steps, summary_form, unite_form, united_with, write_form}
 use Rattle.script_reader.specs.Edits.{IsSpelledEdit, edit_word, needs_selection, said_of}
-use Rattle.script_reader.specs.Forms.{alone, name_within, output_in}
+use Rattle.script_reader.specs.Forms.{alone, input_in, name_within, output_in}
 use Rattle.script_reader.specs.Keywords.{keyword_of}
 use Rattle.script_reader.specs.Numbers.{said_between}
 use Rattle.script_reader.specs.Selecting.{front_of, is_superfluous}
 use Rattle.script_reader.specs.declared.command.Command.{Command}
 use Rattle.script_reader.specs.declared.command.Command.TheVariants as command
+use Rattle.script_reader.specs.declared.command.FileEdit.TheVariants as by
 use Rattle.script_reader.specs.declared.command.Listing.{Listing}
 use Rattle.script_reader.specs.declared.command.Order.{Order}
 use Rattle.script_reader.specs.declared.command.Order.TheVariants as order
@@ -129,9 +130,17 @@ expunge_fits (word ∷ words) = bound IsSpelledCommand (texts_in (word ∷ words
 
 land_fits : (words : List Word) → IfAnswered IsSpelledCommand (land_form words)
 unfolding land_form
-land_fits [] = tt
-land_fits (word ∷ []) = bound IsSpelledCommand (or_at_fault word (redirected Input word)) (λ file. Ok (command.Land file)) (λ file is. tt)
-land_fits (word ∷ next ∷ words) = tt
+land_fits words = bound IsSpelledCommand (input_in (codes "msgin") words) (λ file. Ok (command.EditBy by.Messages file)) (λ file is. tt)
+
+authors_fits : (words : List Word) → IfAnswered IsSpelledCommand (authors_form words)
+unfolding authors_form
+authors_fits [] = tt
+authors_fits (word ∷ words) =
+    go (says_read word) (bound IsSpelledCommand (input_in (codes "authors") words) (λ file. Ok (command.EditBy by.Authors file)) (λ file is. tt))
+  where
+    go : (b : Bool) → IfAnswered IsSpelledCommand (authors_from words) → IfAnswered IsSpelledCommand (cond b (authors_from words) (at_fault word))
+    go true h = h
+    go false h = tt
 
 graft_fits : (selection : Option Bytes) (words : List Word) → IfAnswered IsSpelledCommand (graft_form selection words)
 graft_fits None words = tt
@@ -178,6 +187,7 @@ plain_fits plain.Summary words = summary_fits words
 plain_fits plain.Sample words = sample_fits words
 plain_fits plain.Expunge words = expunge_fits words
 plain_fits plain.Land words = land_fits words
+plain_fits plain.Authors words = authors_fits words
 plain_fits plain.Unite words = unite_fits words
 
 form_fits : (selection : Option Bytes) (word : Keyword) (words : List Word) → IfAnswered OrderFits (form_of selection word words)

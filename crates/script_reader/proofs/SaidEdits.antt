@@ -1,18 +1,26 @@
 -- What the words of each edit say.
-use Rattle.std.proofs.Common.{◌≡◌, ℕ, ◌≤◌, Bool, true, false, cond, List, [], ◌∷◌, map, codes, Option, Some, None, Ok, refl, ap, ◌∙◌}
-use Rattle.std.specs.Prelude.{option_and_then}
+use Rattle.std.proofs.Common.{◌≡◌, ℕ, ℤ, ◌≤◌, Bool, true, false, cond, List, [], ◌∷◌, map, codes, length, Option, Some, None, Ok, refl, ap, subst, ◌∙◌}
+use Rattle.std.specs.Prelude.{◌==◌, ◌&&◌, ◌||◌, IfSome, IsTrue, option_and_then, option_map}
 use Rattle.plain_model.specs.declared.raw.RawOp.{RawOp}
 use Rattle.plain_model.specs.Numbers.{decimal_of}
+use Rattle.plain_model.specs.Parts.{number_within}
 use Rattle.plain_model.specs.Paths.{Bytes}
 use Rattle.plain_model.specs.Policies.{delete_how}
 use Rattle.plain_model.specs.declared.policy.Lean.{Lean}
 use Rattle.plain_model.specs.declared.policy.Lean.TheVariants as lean
 use Rattle.plain_model.specs.declared.policy.Push.{Push}
 use Rattle.plain_model.specs.declared.policy.Push.TheVariants as push
+use Rattle.field_laws.proofs.Numerals.{within_is}
+use Rattle.event_fields.specs.Shifts.{IsShift, IsZone, PlainZone, shift_in, shift_text, zone_in, zone_text}
+use Rattle.event_fields.specs.Values.{PlainValue, field_of, field_word, is_value, value_of}
+use Rattle.event_fields.specs.declared.field.Field.{Field}
+use Rattle.event_fields.specs.declared.field.Field.TheVariants as field
+use Rattle.script_lines.specs.Answering.{◌>>=◌}
 use Rattle.script_lines.specs.Texts.{at_fault, or_at_fault, text_before, whole_in}
 use Rattle.script_lines.specs.declared.word.Word.{Word}
 use Rattle.script_reader.specs.Cuts.{cut_of}
 use Rattle.script_reader.specs.Edits.{CanBeSaid, IsSpelledEdit, add_words, added, asked_by, coalesce_words, cut_form, edit_texts, edit_word, moved_by, op_by, own_word, path_from, path_to, path_words, paths_by, paths_words, remove_words, removal_of, reparent_words, reparenting_by, said_of, says_rename, split_words, squash_words, word_of}
+use Rattle.script_reader.specs.FieldWords.{setfield_words, timeoffset_words, value_within, zone_texts, zone_within}
 use Rattle.script_reader.specs.Forms.{alone}
 use Rattle.script_reader.specs.Keywords.{plain_word_of}
 use Rattle.script_reader.specs.Numbers.{index_in, seconds_in}
@@ -34,7 +42,7 @@ use Rattle.script_reader.proofs.Answered.{IfAnswered, bound, lone}
 use Rattle.script_reader.proofs.OpWords.{says_add, texts_say}
 use Rattle.script_reader.proofs.SpelledFits.{spelled_fits}
 use Rattle.script_reader.proofs.WrittenLines.{IsWordText}
-use Rattle.script_reader.proofs.WrittenTexts.{index_again, name_again, seconds_again, texts_again, whole_again}
+use Rattle.script_reader.proofs.WrittenTexts.{index_again, name_again, seconds_again, shift_again, texts_again, whole_again, zone_again}
 
 -- ---- command words
 
@@ -54,6 +62,9 @@ word_again word.Coalesce = refl
 word_again word.Simplify = refl
 word_again word.Path = refl
 word_again word.Paths = refl
+word_again word.TimeOffset = refl
+word_again word.SetField = refl
+word_again word.Tagify = refl
 
 -- no word of an edit is one that takes no selection
 pub no_plain_word : (it : EditWord) → plain_word_of (edit_word it) ≡ None
@@ -71,6 +82,9 @@ no_plain_word word.Coalesce = refl
 no_plain_word word.Simplify = refl
 no_plain_word word.Path = refl
 no_plain_word word.Paths = refl
+no_plain_word word.TimeOffset = refl
+no_plain_word word.SetField = refl
+no_plain_word word.Tagify = refl
 
 -- each begins with a letter and has no blank
 pub edit_word_text : (it : EditWord) → IsWordText (edit_word it)
@@ -87,6 +101,9 @@ edit_word_text word.Coalesce = refl
 edit_word_text word.Simplify = refl
 edit_word_text word.Path = refl
 edit_word_text word.Paths = refl
+edit_word_text word.TimeOffset = refl
+edit_word_text word.SetField = refl
+edit_word_text word.Tagify = refl
 
 -- ---- what is spelled
 
@@ -173,6 +190,68 @@ paths_fits [] = tt
 paths_fits (word ∷ words) = bound IsSpelledEdit (or_at_fault word (option_and_then way_of (whole_in word))) (λ how. paths_by how words)
     (λ how is. by_fits how words)
 
+-- four digits, if they are said
+abbrev IsZoneOrNone : Option PlainZone → Type 0
+IsZoneOrNone zone = IfSome zone IsZone
+
+-- what is read, where a word isn't at fault
+answered : {A : Type 0} (word : Word) (o : Option A) (x : A) → or_at_fault word o ≡ Ok x → o ≡ Some x
+answered word None x is = absurd cc
+answered word (Some y) x is = cc
+
+abbrev zone_with : Bool → ℕ → PlainZone
+zone_with minus offset = record { minus = minus; offset = offset }
+
+zone_in_is : (text : Bytes) (at : PlainZone) → zone_in text ≡ Some at → IsZone at
+zone_in_is [] at is = absurd cc
+zone_in_is (sign ∷ digits) at is = go ((sign == 43 || sign == 45) && (length digits == 4)) (number_within 9999 digits) refl is
+  where
+    go : (fits : Bool) (said : Option ℕ) → number_within 9999 digits ≡ said → cond fits (option_map (zone_with (sign == 45)) said) None ≡ Some at → IsZone at
+    go false said e is = absurd cc
+    go true None e is = absurd cc
+    go true (Some n) e is = let same : zone_with (sign == 45) n ≡ at = cc in subst IsZone same (within_is 9999 digits n e).1
+
+said_zone : (text : Option Bytes) (at : PlainZone) → option_and_then zone_in text ≡ Some at → IsZone at
+said_zone None at is = absurd cc
+said_zone (Some text) at is = zone_in_is text at is
+
+zone_fits : (words : List Word) → IfAnswered IsZoneOrNone (zone_within words)
+zone_fits [] = tt
+zone_fits (word ∷ words) =
+    let said = option_and_then zone_in (whole_in word) in
+    bound IsZoneOrNone (or_at_fault word said) (λ at. alone (Some at) words) (λ at is. lone IsZoneOrNone (Some at) words (said_zone (whole_in word) at (answered word said at is)))
+
+said_value : (field : Field) (text : Option Bytes) (value : PlainValue) → option_and_then (value_of field) text ≡ Some value → IsTrue (is_value value.field value.text)
+said_value field None value is = absurd cc
+said_value field (Some text) value is = go (is_value field text) refl is
+  where
+    value_there : PlainValue
+    value_there = record { field = field; text = text }
+
+    go : (fits : Bool) → is_value field text ≡ fits → cond fits (Some value_there) None ≡ Some value → IsTrue (is_value value.field value.text)
+    go false e is = absurd cc
+    go true e is = let same : value_there ≡ value = cc in subst (λ (value : PlainValue). IsTrue (is_value value.field value.text)) same e
+
+offset_fits : (words : List Word) → IfAnswered IsSpelledEdit (timeoffset_words words)
+unfolding timeoffset_words
+offset_fits [] = tt
+offset_fits (word ∷ words) =
+    bound IsSpelledEdit (or_at_fault word (option_and_then shift_in (whole_in word))) (λ seconds. zone_within words >>= λ zone. Ok (edit.TimeOffset seconds zone))
+    (λ seconds is. bound IsSpelledEdit (zone_within words) (λ zone. Ok (edit.TimeOffset seconds zone)) (λ zone is. subst (IfAnswered IsZoneOrNone) is (zone_fits words)))
+
+value_fits : (field : Field) (words : List Word) → IfAnswered IsSpelledEdit (value_within field words)
+value_fits field [] = tt
+value_fits field (word ∷ words) =
+    bound IsSpelledEdit (or_at_fault word (option_and_then (value_of field) (text_before words word))) (λ value. alone (edit.SetField value) words)
+    (λ value is. lone IsSpelledEdit (edit.SetField value) words
+    (said_value field (text_before words word) value (answered word (option_and_then (value_of field) (text_before words word)) value is)))
+
+field_fits : (words : List Word) → IfAnswered IsSpelledEdit (setfield_words words)
+unfolding setfield_words
+field_fits [] = tt
+field_fits (word ∷ words) = bound IsSpelledEdit (or_at_fault word (option_and_then field_of (whole_in word))) (λ field. value_within field words)
+    (λ field is. value_fits field words)
+
 -- what the words of an edit say is spelled
 pub said_fits : (word : EditWord) (words : List Word) → IfAnswered IsSpelledEdit (said_of word words)
 said_fits word.Squash words = squash_fits words
@@ -188,6 +267,9 @@ said_fits word.Coalesce words = coalesce_fits words
 said_fits word.Simplify words = lone IsSpelledEdit edit.Simplify words tt
 said_fits word.Path words = path_fits words
 said_fits word.Paths words = paths_fits words
+said_fits word.TimeOffset words = offset_fits words
+said_fits word.SetField words = field_fits words
+said_fits word.Tagify words = lone IsSpelledEdit edit.Tagify words tt
 
 -- ---- edits as they are written
 
@@ -243,6 +325,22 @@ sup_again : (folder : Bytes) → paths_words (map word_for (codes "sup" ∷ fold
 unfolding paths_words
 sup_again folder = rw (name_again folder) refl
 
+offset_again : (seconds : ℤ) (zone : Option PlainZone) → IsShift seconds → IfSome zone IsZone
+    → timeoffset_words (map word_for (shift_text seconds ∷ zone_texts zone)) ≡ Ok (edit.TimeOffset seconds zone)
+unfolding timeoffset_words
+offset_again seconds None h k = rw (whole_again (shift_text seconds), shift_again seconds h) refl
+offset_again seconds (Some zone) h k = rw (whole_again (shift_text seconds), shift_again seconds h, whole_again (zone_text zone), zone_again zone k) refl
+
+field_again : (field : Field) → field_of (field_word field) ≡ Some field
+field_again field.Comment = refl
+field_again field.Branch = refl
+field_again field.Name = refl
+
+value_again : (field : Field) (text : Bytes) → is_value field text ≡ true
+    → setfield_words (map word_for (field_word field ∷ text ∷ [])) ≡ Ok (edit.SetField (record { field = field; text = text }))
+unfolding setfield_words
+value_again field text h = rw (whole_again (field_word field), field_again field, name_again text, h) refl
+
 -- what removes an operation, by what its text says
 removed : (text : Bytes) (number : Option ℕ) → index_in text ≡ number → removal_of text ≡ elim number [ Some n ↦ edit.RemoveAt n | None ↦ edit.RemoveBy text ]
 removed text number is = ap (λ (number : Option ℕ). elim number [ Some n ↦ edit.RemoveAt n | None ↦ edit.RemoveBy text ]) is
@@ -264,3 +362,6 @@ edit_again edit.Simplify h = refl
 edit_again (edit.PathRename source target) h = path_again source target
 edit_again (edit.PathsSub folder) h = sub_again folder
 edit_again (edit.PathsSup folder) h = sup_again folder
+edit_again (edit.TimeOffset seconds zone) (h, k) = offset_again seconds zone h k
+edit_again (edit.SetField value) h = value_again value.field value.text h
+edit_again edit.Tagify h = refl

@@ -22,6 +22,7 @@ plain_again plain.Summary = refl
 plain_again plain.Sample = refl
 plain_again plain.Expunge = refl
 plain_again plain.Land = refl
+plain_again plain.Authors = refl
 plain_again plain.Unite = refl
 
 listing_again : (what : Listing) → keyword_of (listing_word what) ≡ Some (keyword.Show what)

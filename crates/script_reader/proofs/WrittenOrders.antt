@@ -1,5 +1,5 @@
 -- An order that can be written is read as it is written.
-use Rattle.std.proofs.Common.{◌≡◌, ℕ, ◌≤◌, Bool, true, false, cond, not, List, [], ◌∷◌, ◌++◌, map, Option, Some, None, Result, Ok, Err, refl, ap, ◌∙◌, arith}
+use Rattle.std.proofs.Common.{◌≡◌, ℕ, ◌≤◌, Bool, true, false, cond, not, List, [], ◌∷◌, ◌++◌, map, codes, Option, Some, None, Result, Ok, Err, refl, ap, ◌∙◌, arith}
 use Rattle.std.proofs.lemmas.Bool.{not-true}
 use Rattle.plain_model.specs.Numbers.{decimal_of}
 use Rattle.plain_model.specs.Paths.{Bytes}
@@ -13,15 +13,16 @@ use Rattle.script_lines.specs.Redirections.{is_target}
 use Rattle.script_lines.specs.Scripts.{too_long}
 use Rattle.script_lines.specs.Words.{words_of}
 use Rattle.script_lines.specs.declared.word.Word.{Word}
-use Rattle.script_reader.specs.Commands.{assign_form, choose_form, divide_form, do_form, drop_form, edit_form, expunge_form, form_of, graft_form, land_form, names_form, order_after, order_in, order_of, read_form, renumber_form, sample_form, show_form, steps, summary_form, unite_form, write_form}
+use Rattle.script_reader.specs.Commands.{assign_form, authors_form, choose_form, do_form, drop_form, edit_form, expunge_form, form_of, graft_form, land_form, names_form, order_after, order_in, order_of, read_form, renumber_form, sample_form, show_form, steps, summary_form, unite_form, write_form}
 use Rattle.script_reader.specs.Edits.{CanBeSaid, edit_texts, needs_selection, own_word}
 use Rattle.script_reader.specs.Forms.{output_in}
 use Rattle.script_reader.specs.Keywords.{command_word, keyword_of}
 use Rattle.script_reader.specs.Selecting.{front_of, is_superfluous, takes_selection}
-use Rattle.script_reader.specs.Written.{CanBeWritten, IsSayable, IsSayableOrder, IsTarget, Parts, are_apart, command_parts, is_not_last, line_with, parts_of, prune_words, source_word, spaced, target_words, word_for}
+use Rattle.script_reader.specs.Written.{CanBeWritten, IsSayable, IsSayableOrder, IsTarget, Parts, command_parts, line_with, parts_of, prune_words, source_word, spaced, target_words, word_for}
 use Rattle.script_reader.specs.declared.command.Call.{Call}
 use Rattle.script_reader.specs.declared.command.Command.{Command}
 use Rattle.script_reader.specs.declared.command.Command.TheVariants as command
+use Rattle.script_reader.specs.declared.command.FileEdit.TheVariants as by
 use Rattle.script_reader.specs.declared.command.Listing.{Listing}
 use Rattle.script_reader.specs.declared.command.Listing.TheVariants as listing
 use Rattle.script_reader.specs.declared.command.Order.{Order}
@@ -52,9 +53,13 @@ write_again : (to : Option Bytes) → IsTarget to → write_form (target_words t
 unfolding write_form
 write_again to h = rw (output_again to h) refl
 
-land_again : (file : Bytes) → is_target file ≡ true → land_form (source_word file ∷ []) ≡ Ok (command.Land file)
+land_again : (file : Bytes) → is_target file ≡ true → land_form (source_word file ∷ []) ≡ Ok (command.EditBy by.Messages file)
 unfolding land_form
 land_again file h = rw h refl
+
+authors_again : (file : Bytes) → is_target file ≡ true → authors_form (word_for (codes "read") ∷ source_word file ∷ []) ≡ Ok (command.EditBy by.Authors file)
+unfolding authors_form
+authors_again file h = rw h refl
 
 names_again : (to : Option Bytes) → IsTarget to → names_form (target_words to) ≡ Ok (command.Names to)
 unfolding names_form
@@ -147,7 +152,8 @@ command_again (command.Edit None what) (h, k) = ap steps (edit_of_all what h k)
 command_again (command.Edit (Some selection) what) (may, h) = ap steps (edit_of_some selection what h)
 command_again (command.Expunge []) h = absurd h
 command_again (command.Expunge (text ∷ texts)) h = ap steps (expunge_again text texts)
-command_again (command.Land file) h = ap steps (land_again file h)
+command_again (command.EditBy by.Messages file) h = ap steps (land_again file h)
+command_again (command.EditBy by.Authors file) h = ap steps (authors_again file h)
 command_again (command.Names to) h = ap steps (names_again to h)
 command_again (command.Summary to) h = ap steps (summary_again to h)
 command_again (command.Graft selection name prune) h = ap steps (graft_again selection name prune)
@@ -178,7 +184,8 @@ not_superfluous (order.Step (command.Drop name)) h = refl
 not_superfluous (order.Step command.DropChosen) h = refl
 not_superfluous (order.Step command.Renumber) h = refl
 not_superfluous (order.Step (command.Expunge texts)) h = refl
-not_superfluous (order.Step (command.Land file)) h = refl
+not_superfluous (order.Step (command.EditBy by.Messages file)) h = refl
+not_superfluous (order.Step (command.EditBy by.Authors file)) h = refl
 not_superfluous (order.Step (command.Names to)) h = refl
 not_superfluous (order.Step (command.Summary to)) h = refl
 not_superfluous (order.Step (command.Sample count start)) h = refl
@@ -199,6 +206,7 @@ word_text (keyword.Plain plain.Summary) = refl
 word_text (keyword.Plain plain.Sample) = refl
 word_text (keyword.Plain plain.Expunge) = refl
 word_text (keyword.Plain plain.Land) = refl
+word_text (keyword.Plain plain.Authors) = refl
 word_text (keyword.Plain plain.Unite) = refl
 word_text (keyword.Edit word) = edit_word_text word
 word_text (keyword.Show listing.List) = refl

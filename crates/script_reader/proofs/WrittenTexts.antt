@@ -1,13 +1,17 @@
 -- Texts that are written as words, and numbers as texts.
-use Rattle.std.proofs.Common.{◌≡◌, ℕ, ◌≤◌, ◌<◌, ◌^◌, ◌+◌, ◌/◌, ◌%◌, Bool, true, false, cond, not, List, [], ◌∷◌, ◌++◌, length, map, Some, None, Ok, refl, ap, sym, subst, ◌∙◌, arith, le-leb, ne_eqb}
-use Rattle.std.specs.Prelude.{◌==◌, ◌&&◌, nat_le}
+use Rattle.std.proofs.Common.{◌≡◌, ℕ, suc, ℤ, pos, negsuc, ◌≤◌, ◌<◌, ◌^◌, ◌+◌, ◌/◌, ◌%◌, Bool, true, false, cond, not, List, [], ◌∷◌, ◌++◌, length, map, Some, None, Ok, refl, ap, sym, subst, inl, inr, ◌∙◌, arith, le-leb, ne_eqb}
+use Rattle.std.specs.Prelude.{◌==◌, ◌&&◌, ◌⊎◌, nat_le}
 use Rattle.std.proofs.lemmas.Bool.{and_parts, cond-false, cond-true, not-true}
 use Rattle.std.proofs.lemmas.Fmt.{length-decimal-le_wide}
 use Rattle.plain_model.specs.Numbers.{decimal_of}
 use Rattle.plain_model.specs.Parts.{number_within}
 use Rattle.plain_model.specs.Paths.{Bytes}
 use Rattle.field_laws.proofs.Decimals.{decimal_of_by_steps, decimal_of_is, numeral_of}
+use Rattle.plain_model.specs.People
 use Rattle.field_laws.proofs.Numerals.{within_read}
+use Rattle.field_laws.proofs.Written.{zone_written}
+use Rattle.event_fields.specs.Shifts.{IsShift, IsZone, PlainZone, directed, shift_in, shift_text, sign_text, zone_in, zone_text}
+use Rattle.event_fields.specs.declared.shift.TheConstants.{MAX_SHIFT, MAX_SHIFT_DIGITS}
 use Rattle.script_lines.specs.Redirections.{begins_with_sign}
 use Rattle.script_lines.specs.Texts.{name_in, text_before, texts_in, whole_in}
 use Rattle.script_lines.specs.Written.{is_whole}
@@ -57,6 +61,40 @@ seconds_again n h =
     cond-true (nat_le (length (decimal_of n)) MAX_SECOND_DIGITS) (number_within MAX_COALESCE_SECONDS (decimal_of n)) None
     (le-leb (length (decimal_of n)) MAX_SECOND_DIGITS (few_digits 9 n (omega arith) (omega (arith, h)) (omega (arith, h))))
     ∙ within_read MAX_COALESCE_SECONDS (decimal_of n) n (numeral_of n) h
+
+shift_by : (earlier : Bool) (n : ℕ) → n ≤ MAX_SHIFT → shift_in (sign_text earlier ++ decimal_of n) ≡ Some (directed earlier n)
+shift_by earlier n h = go earlier
+  where
+    few : nat_le (length (decimal_of n)) MAX_SHIFT_DIGITS ≡ true
+    few = le-leb (length (decimal_of n)) MAX_SHIFT_DIGITS (few_digits 12 n (omega arith) (omega (arith, h)) (omega (arith, h)))
+
+    read : number_within MAX_SHIFT (decimal_of n) ≡ Some n
+    read = within_read MAX_SHIFT (decimal_of n) n (numeral_of n) h
+
+    go : (earlier : Bool) → shift_in (sign_text earlier ++ decimal_of n) ≡ Some (directed earlier n)
+    go true = rw (few, read) refl
+    go false = rw (few, read) refl
+
+pub shift_again : (seconds : ℤ) → IsShift seconds → shift_in (shift_text seconds) ≡ Some seconds
+shift_again (pos later) h = shift_by false later h
+shift_again (negsuc earlier) h = shift_by true (suc earlier) h
+
+abbrev zone_with : Bool → ℕ → PlainZone
+zone_with minus offset = record { minus = minus; offset = offset }
+
+-- a text that spells a zone is read as it
+zone_spelled : (text : Bytes) (minus : Bool) (offset : ℕ) → offset ≤ 9999 → People.IsZone text minus offset → zone_in text ≡ Some (zone_with minus offset)
+zone_spelled text minus offset h z = ap zone_in z.is ∙ by_sign z.sign z.signed
+  where
+    four : (length z.digits == 4) ≡ true
+    four = rw z.four refl
+
+    by_sign : (sign : ℕ) → ((sign ≡ 43) × (minus ≡ false)) ⊎ ((sign ≡ 45) × (minus ≡ true)) → zone_in (sign ∷ z.digits) ≡ Some (zone_with minus offset)
+    by_sign sign (inl (plus, is)) = rw (plus, is, four, within_read 9999 z.digits offset z.numeral h) refl
+    by_sign sign (inr (less, is)) = rw (less, is, four, within_read 9999 z.digits offset z.numeral h) refl
+
+pub zone_again : (at : PlainZone) → IsZone at → zone_in (zone_text at) ≡ Some at
+zone_again at h = zone_spelled (zone_text at) at.minus at.offset h (zone_written at.minus at.offset h)
 
 -- digits of a number, of which the first is no zero where there are more
 record AreOwn (n : ℕ) (digits : Bytes) : Type 0 where

@@ -1,6 +1,7 @@
 -- What a line orders: a command, or that a macro is run. (reposurgeon manual, of each command word its section; what is at fault: own)
 use Rattle.std.specs.Prelude.{ℕ, Bool, true, false, IsTrue, List, [], ◌∷◌, ◌++◌, Option, Some, None, Result, Ok, Err, bytes_eq, codes, if◌then◌else◌}
 use Rattle.std.specs.List.{list_any}
+use Rattle.std.specs.Option.{option_map_or}
 use Rattle.plain_model.specs.Paths.{Bytes}
 use Rattle.plain_model.specs.declared.fault.Fault.{Fault}
 use Rattle.plain_model.specs.declared.fault.Fault.TheVariants as fault
@@ -14,12 +15,13 @@ use Rattle.script_lines.specs.Words.{head_of, after_head, words_of}
 use Rattle.script_lines.specs.declared.redirection.Direction.TheVariants.{Input}
 use Rattle.script_lines.specs.declared.word.Word.{Word}
 use Rattle.script_reader.specs.Edits.{IsSpelledEdit, edit_word, needs_selection, said_of}
-use Rattle.script_reader.specs.Forms.{alone, name_within, output_in}
+use Rattle.script_reader.specs.Forms.{alone, input_in, name_within, output_in}
 use Rattle.script_reader.specs.Keywords.{keyword_of}
 use Rattle.script_reader.specs.Numbers.{said_between}
 use Rattle.script_reader.specs.Selecting.{Front, front_of, is_superfluous}
 use Rattle.script_reader.specs.declared.command.Command.{Command}
 use Rattle.script_reader.specs.declared.command.Command.TheVariants as command
+use Rattle.script_reader.specs.declared.command.FileEdit.TheVariants as by
 use Rattle.script_reader.specs.declared.command.Call.{Call}
 use Rattle.script_reader.specs.declared.command.Listing.{Listing}
 use Rattle.script_reader.specs.declared.command.Order.{Order}
@@ -115,9 +117,20 @@ expunge_form (word ∷ words) = texts_in (word ∷ words) >>= λ texts. Ok (comm
 
 -- `msgin <FILE`
 unfoldable pub land_form : List Word → Result Command Fault
-land_form [] = Err (fault.BadWords (codes "msgin"))
-land_form (word ∷ []) = or_at_fault word (redirected Input word) >>= λ file. Ok (command.Land file)
-land_form (word ∷ next ∷ words) = at_fault word
+land_form words = input_in (codes "msgin") words >>= λ file. Ok (command.EditBy by.Messages file)
+
+-- the word is `read`
+abbrev pub says_read : Word → Bool
+says_read word = option_map_or (λ text. bytes_eq text (codes "read")) (whole_in word) false
+
+-- `authors read <FILE`, after `read`
+abbrev pub authors_from : List Word → Result Command Fault
+authors_from words = input_in (codes "authors") words >>= λ file. Ok (command.EditBy by.Authors file)
+
+-- `authors read <FILE`
+unfoldable pub authors_form : List Word → Result Command Fault
+authors_form [] = Err (fault.BadWords (codes "authors"))
+authors_form (word ∷ words) = if says_read word then authors_from words else at_fault word
 
 -- `--prune`
 abbrev pub is_prune : Bytes → Bool
@@ -189,6 +202,7 @@ plain_form plain.Summary words = summary_form words
 plain_form plain.Sample words = sample_form words
 plain_form plain.Expunge words = expunge_form words
 plain_form plain.Land words = land_form words
+plain_form plain.Authors words = authors_form words
 plain_form plain.Unite words = unite_form words
 
 -- the order of a command word with the selection before it and the words after it; a `define` that is run is no definition

@@ -1,6 +1,6 @@
 -- Edits of the chosen history: the command word of each, whether a selection has to be before it, and what the words after it say. (reposurgeon
 -- manual, of each command word its section; what is at fault: own)
-use Rattle.std.specs.Prelude.{◌≡◌, ◌≤◌, Bool, true, false, List, [], ◌∷◌, Option, Some, None, option_and_then, Result, Ok, Err, bytes_eq, codes, if◌then◌else◌}
+use Rattle.std.specs.Prelude.{◌≡◌, ◌≤◌, Bool, true, false, IfSome, IsTrue, List, [], ◌∷◌, Option, Some, None, option_and_then, Result, Ok, Err, bytes_eq, codes, if◌then◌else◌}
 use Rattle.std.specs.Option.{option_map_or}
 use Rattle.plain_model.specs.Numbers.{decimal_of}
 use Rattle.plain_model.specs.Paths.{Bytes}
@@ -8,10 +8,13 @@ use Rattle.plain_model.specs.Policies.{delete_how}
 use Rattle.plain_model.specs.declared.fault.Fault.{Fault}
 use Rattle.plain_model.specs.declared.fault.Fault.TheVariants as fault
 use Rattle.plain_model.specs.declared.raw.RawOp.{RawOp}
+use Rattle.event_fields.specs.Shifts.{IsShift, IsZone, shift_text}
+use Rattle.event_fields.specs.Values.{field_word, is_value}
 use Rattle.script_lines.specs.Answering.{◌>>=◌}
 use Rattle.script_lines.specs.Texts.{at_fault, or_at_fault, text_before, whole_in}
 use Rattle.script_lines.specs.declared.word.Word.{Word}
 use Rattle.script_reader.specs.Cuts.{cut_of}
+use Rattle.script_reader.specs.FieldWords.{setfield_words, timeoffset_words, zone_texts}
 use Rattle.script_reader.specs.Forms.{alone}
 use Rattle.script_reader.specs.Numbers.{index_in, seconds_in}
 use Rattle.script_reader.specs.Options.{IsSaidPolicy, asked_more, how_texts, nothing_asked, policy_of, policy_texts, reparenting, reparenting_more, squash_option}
@@ -49,7 +52,10 @@ word_of text =
     if bytes_eq text (codes "coalesce") then Some word.Coalesce else
     if bytes_eq text (codes "simplify") then Some word.Simplify else
     if bytes_eq text (codes "path") then Some word.Path else
-    if bytes_eq text (codes "paths") then Some word.Paths else None
+    if bytes_eq text (codes "paths") then Some word.Paths else
+    if bytes_eq text (codes "timeoffset") then Some word.TimeOffset else
+    if bytes_eq text (codes "setfield") then Some word.SetField else
+    if bytes_eq text (codes "tagify") then Some word.Tagify else None
 
 -- the same as it is written
 abbrev pub edit_word : EditWord → Bytes
@@ -66,6 +72,9 @@ edit_word word.Coalesce = codes "coalesce"
 edit_word word.Simplify = codes "simplify"
 edit_word word.Path = codes "path"
 edit_word word.Paths = codes "paths"
+edit_word word.TimeOffset = codes "timeoffset"
+edit_word word.SetField = codes "setfield"
+edit_word word.Tagify = codes "tagify"
 
 -- a selection has to be before it
 abbrev pub needs_selection : EditWord → Bool
@@ -82,6 +91,9 @@ needs_selection word.Coalesce = false
 needs_selection word.Simplify = false
 needs_selection word.Path = false
 needs_selection word.Paths = false
+needs_selection word.TimeOffset = true
+needs_selection word.SetField = true
+needs_selection word.Tagify = false
 
 -- a selection may be before it
 abbrev pub may_select : EditWord → Bool
@@ -203,10 +215,13 @@ said_of word.Coalesce words = coalesce_words words
 said_of word.Simplify words = alone edit.Simplify words
 said_of word.Path words = path_words words
 said_of word.Paths words = paths_words words
+said_of word.TimeOffset words = timeoffset_words words
+said_of word.SetField words = setfield_words words
+said_of word.Tagify words = alone edit.Tagify words
 
 -- ---- what is spelled
 
--- an operation that an edit adds is spelled
+-- an operation that an edit adds is spelled, a zone has four digits, and a text may be the value of its field
 abbrev pub IsSpelledEdit : Edit → Type 0
 IsSpelledEdit (edit.Squash how) = Unit {0}
 IsSpelledEdit (edit.SplitAt number) = Unit {0}
@@ -223,6 +238,9 @@ IsSpelledEdit edit.Simplify = Unit {0}
 IsSpelledEdit (edit.PathRename source target) = Unit {0}
 IsSpelledEdit (edit.PathsSub folder) = Unit {0}
 IsSpelledEdit (edit.PathsSup folder) = Unit {0}
+IsSpelledEdit (edit.TimeOffset seconds zone) = IfSome zone IsZone
+IsSpelledEdit (edit.SetField value) = IsTrue (is_value value.field value.text)
+IsSpelledEdit edit.Tagify = Unit {0}
 
 -- ---- edits as they are written
 
@@ -243,6 +261,9 @@ own_word edit.Simplify = word.Simplify
 own_word (edit.PathRename source target) = word.Path
 own_word (edit.PathsSub folder) = word.Paths
 own_word (edit.PathsSup folder) = word.Paths
+own_word (edit.TimeOffset seconds place) = word.TimeOffset
+own_word (edit.SetField value) = word.SetField
+own_word edit.Tagify = word.Tagify
 
 -- the texts after it
 abbrev pub edit_texts : Edit → List Bytes
@@ -261,8 +282,11 @@ edit_texts edit.Simplify = []
 edit_texts (edit.PathRename source target) = codes "rename" ∷ source ∷ target ∷ []
 edit_texts (edit.PathsSub folder) = codes "sub" ∷ folder ∷ []
 edit_texts (edit.PathsSup folder) = codes "sup" ∷ folder ∷ []
+edit_texts (edit.TimeOffset seconds zone) = shift_text seconds ∷ zone_texts zone
+edit_texts (edit.SetField value) = field_word value.field ∷ value.text ∷ []
+edit_texts edit.Tagify = []
 
--- texts can say it: numbers are within bounds, and what is removed by its path isn't a number
+-- texts can say it: numbers are within bounds, what is removed by its path isn't a number, and a text may be the value of its field
 abbrev pub CanBeSaid : Edit → Type 0
 CanBeSaid (edit.Squash how) = IsSaidPolicy how
 CanBeSaid (edit.SplitAt number) = number ≤ MAX_INDEX
@@ -279,3 +303,6 @@ CanBeSaid edit.Simplify = Unit {0}
 CanBeSaid (edit.PathRename source target) = Unit {0}
 CanBeSaid (edit.PathsSub folder) = Unit {0}
 CanBeSaid (edit.PathsSup folder) = Unit {0}
+CanBeSaid (edit.TimeOffset seconds zone) = IsShift seconds × IfSome zone IsZone
+CanBeSaid (edit.SetField value) = IsTrue (is_value value.field value.text)
+CanBeSaid edit.Tagify = Unit {0}

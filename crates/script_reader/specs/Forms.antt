@@ -1,12 +1,13 @@
 -- What the forms of commands have in common. (reposurgeon manual; what is at fault: own)
-use Rattle.std.specs.Prelude.{◌≡◌, List, [], ◌∷◌, ◌++◌, map, Option, Some, None, Result, Ok}
+use Rattle.std.specs.Prelude.{◌≡◌, List, [], ◌∷◌, ◌++◌, map, Option, Some, None, Result, Ok, Err}
 use Rattle.plain_model.specs.Paths.{Bytes}
 use Rattle.plain_model.specs.declared.fault.Fault.{Fault}
+use Rattle.plain_model.specs.declared.fault.Fault.TheVariants as fault
 use Rattle.script_lines.specs.Answering.{◌>>=◌}
 use Rattle.script_lines.specs.Redirections.{redirected}
 use Rattle.script_lines.specs.Texts.{at_fault, name_in, or_at_fault, text_before, texts_in, whole_in}
 use Rattle.script_lines.specs.Words.{text_of}
-use Rattle.script_lines.specs.declared.redirection.Direction.TheVariants.{Output}
+use Rattle.script_lines.specs.declared.redirection.Direction.TheVariants.{Input, Output}
 use Rattle.script_lines.specs.declared.word.Word.{Word}
 
 -- a value after which no word is
@@ -19,6 +20,12 @@ abbrev pub output_in : List Word → Result (Option Bytes) Fault
 output_in [] = Ok None
 output_in (word ∷ []) = or_at_fault word (redirected Output word) >>= λ file. Ok (Some file)
 output_in (word ∷ next ∷ words) = at_fault word
+
+-- `<FILE`, of a command word
+abbrev pub input_in : Bytes → List Word → Result Bytes Fault
+input_in head [] = Err (fault.BadWords head)
+input_in head (word ∷ []) = or_at_fault word (redirected Input word)
+input_in head (word ∷ next ∷ words) = at_fault word
 
 -- `[NAME]`
 abbrev pub name_within : List Word → Result (Option Bytes) Fault

@@ -23,6 +23,7 @@ plain_word_of text =
     if bytes_eq text (codes "sample") then Some plain.Sample else
     if bytes_eq text (codes "expunge") then Some plain.Expunge else
     if bytes_eq text (codes "msgin") then Some plain.Land else
+    if bytes_eq text (codes "authors") then Some plain.Authors else
     if bytes_eq text (codes "unite") then Some plain.Unite else None
 
 -- the command word of a text of events that bytes are
@@ -78,6 +79,7 @@ plain_word plain.Summary = codes "summary"
 plain_word plain.Sample = codes "sample"
 plain_word plain.Expunge = codes "expunge"
 plain_word plain.Land = codes "msgin"
+plain_word plain.Authors = codes "authors"
 plain_word plain.Unite = codes "unite"
 
 -- each command word

@@ -61,8 +61,9 @@ pub enum Command {
     Expunge {
         words: LineList,
     },
-    /// Puts what the messages of a file say on their events.
-    Land {
+    /// Edits the chosen history as the lines of a file say.
+    EditBy {
+        what: FileEdit,
         file: ScriptText,
     },
     /// Prints a line for each branch and tag.
@@ -95,6 +96,15 @@ pub enum Command {
     Divide {
         selection: WrittenSelection,
     },
+}
+
+/// What a file says of events.
+#[derive(Clone, Copy)]
+pub enum FileEdit {
+    /// Messages, whose people, dates and comments are put on their events.
+    Messages,
+    /// Names and emails for the people who have an email.
+    Authors,
 }
 
 /// What is printed of events.

@@ -36,10 +36,12 @@ ghost use Rattle.script_reader.specs.Ways.{way_of};
 ghost use Rattle.script_reader.specs.declared.edit.Edit.TheVariants as edit;
 
 use crate::cut::Cut;
+use crate::field_words::{set_field, time_offset};
 use crate::number::{USUAL_SECONDS, index_in, seconds_in};
 use crate::options::{Asked, Reparenting, SquashOption};
 use crate::spelled::{SaidOp, SpelledOp};
 use crate::way::Way;
+use event_fields::{FieldValue, Zone};
 use plain_model::{Halt, Lean, Policy, Push};
 use script_lines::{ScriptText, Word, at_fault, bad_words, or_at_fault, text_before};
 use std::alloc::Global;
@@ -80,6 +82,15 @@ pub enum Edit {
     PathsSub(ScriptText),
     /// Moves what is below a folder out of it.
     PathsSup(ScriptText),
+    /// Moves the dates of commits and tags by so many seconds, and into a zone where one is said.
+    TimeOffset {
+        seconds: i64,
+        zone: Option<Zone>,
+    },
+    /// Gives events another comment, branch or name.
+    SetField(FieldValue),
+    /// Makes tags of the commits that do nothing.
+    Tagify,
 }
 
 /// The command word of an edit. (reposurgeon manual)
@@ -98,6 +109,9 @@ pub enum EditWord {
     Simplify,
     Path,
     Paths,
+    TimeOffset,
+    SetField,
+    Tagify,
 }
 
 // An edit after whose command word is no word.
@@ -408,6 +422,9 @@ impl EditWord {
             "simplify" => Some(EditWord::Simplify),
             "path" => Some(EditWord::Path),
             "paths" => Some(EditWord::Paths),
+            "timeoffset" => Some(EditWord::TimeOffset),
+            "setfield" => Some(EditWord::SetField),
+            "tagify" => Some(EditWord::Tagify),
             _ => None,
         }
     }
@@ -430,6 +447,9 @@ impl EditWord {
             EditWord::Simplify => b"simplify",
             EditWord::Path => b"path",
             EditWord::Paths => b"paths",
+            EditWord::TimeOffset => b"timeoffset",
+            EditWord::SetField => b"setfield",
+            EditWord::Tagify => b"tagify",
         }
     }
 
@@ -451,6 +471,9 @@ impl EditWord {
             EditWord::Simplify => false,
             EditWord::Path => false,
             EditWord::Paths => false,
+            EditWord::TimeOffset => true,
+            EditWord::SetField => true,
+            EditWord::Tagify => false,
         }
     }
 
@@ -479,6 +502,9 @@ impl EditWord {
             EditWord::Simplify => only(alloc, Edit::Simplify, words),
             EditWord::Path => path(alloc, words),
             EditWord::Paths => paths(alloc, words),
+            EditWord::TimeOffset => time_offset(alloc, words),
+            EditWord::SetField => set_field(alloc, words),
+            EditWord::Tagify => only(alloc, Edit::Tagify, words),
         }
     }
 }

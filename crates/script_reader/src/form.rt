@@ -6,6 +6,8 @@ ghost use Rattle.script_lines.specs.Redirections.{redirected};
 ghost use Rattle.script_lines.specs.Texts.{name_in, or_at_fault, whole_in};
 ghost use Rattle.script_reader.specs.Commands.{
   assign_form,
+  authors_form,
+  authors_from,
   choose_form,
   do_form,
   drop_form,
@@ -27,6 +29,7 @@ ghost use Rattle.script_reader.specs.Commands.{
   renumber_form,
   sample_form,
   sample_start,
+  says_read,
   show_form,
   steps,
   summary_form,
@@ -34,10 +37,10 @@ ghost use Rattle.script_reader.specs.Commands.{
   united_with,
   write_form,
 };
-ghost use Rattle.script_reader.specs.Forms.{name_within, output_in};
+ghost use Rattle.script_reader.specs.Forms.{input_in, name_within, output_in};
 ghost use Rattle.script_reader.specs.Numbers.{said_between};
 
-use crate::command::{Call, Command, Listing, Order};
+use crate::command::{Call, Command, FileEdit, Listing, Order};
 use crate::edit::EditWord;
 use crate::keyword::{Keyword, PlainWord};
 use crate::number::{MAX_START, number_between};
@@ -68,6 +71,20 @@ fn output(alloc: Global, words: &[Word]) -> Result<Option<ScriptText>, Halt>
         [] => Ok(None),
         [word] => match redirected(Direction::Output, word) {
             Some(file) => Ok(Some(ScriptText::of(alloc, file)?)),
+            None => Err(at_fault(alloc, word)),
+        },
+        [word, ..] => Err(at_fault(alloc, word)),
+    }
+}
+
+// `<FILE`, of a command word
+fn input(alloc: Global, head: &[u8], words: &[Word]) -> Result<ScriptText, Halt>
+    ensures { Returns (λ file. file) result (input_in head.now words.now) }
+{
+    match words {
+        [] => Err(bad_words(alloc, head)),
+        [word] => match redirected(Direction::Input, word) {
+            Some(file) => Ok(ScriptText::of(alloc, file)?),
             None => Err(at_fault(alloc, word)),
         },
         [word, ..] => Err(at_fault(alloc, word)),
@@ -295,16 +312,46 @@ fn expunge(alloc: Global, words: &[Word]) -> Result<Command, Halt>
 fn land(alloc: Global, words: &[Word]) -> Result<Command, Halt>
     ensures { Returns (λ command. command) result (land_form words.now) }
 {
-    match words {
-        [] => Err(bad_words(alloc, b"msgin")),
-        [word] => match redirected(Direction::Input, word) {
-            Some(file) => Ok(Command::Land {
-                file: ScriptText::of(alloc, file)?,
-            }),
-            None => Err(at_fault(alloc, word)),
-        },
-        [word, ..] => Err(at_fault(alloc, word)),
+    let file = input(alloc, b"msgin", words)?;
+    Ok(Command::EditBy {
+        what: FileEdit::Messages,
+        file,
+    })
+}
+
+// Whether a word is `read`.
+fn says_read(word: &Word) -> bool
+    ensures { result ≡ says_read word.now }
+{
+    match word.whole() {
+        Some(text) => text.as_bytes() == b"read".as_slice(),
+        None => false,
     }
+}
+
+// `authors read <FILE`, after `read`
+fn authors_from(alloc: Global, words: &[Word]) -> Result<Command, Halt>
+    ensures { Returns (λ command. command) result (authors_from words.now) }
+{
+    let file = input(alloc, b"authors", words)?;
+    Ok(Command::EditBy {
+        what: FileEdit::Authors,
+        file,
+    })
+}
+
+// `authors read <FILE`
+#[tactic(auto, unfolding(crate::specs::Commands::authors_form))]
+fn authors(alloc: Global, words: &[Word]) -> Result<Command, Halt>
+    ensures { Returns (λ command. command) result (authors_form words.now) }
+{
+    let [word, others @ ..] = words else {
+        return Err(bad_words(alloc, b"authors"));
+    };
+    if !says_read(word) {
+        return Err(at_fault(alloc, word));
+    }
+    authors_from(alloc, others)
 }
 
 /// The option of commands that take another repository in.
@@ -465,6 +512,7 @@ fn plain(alloc: Global, word: PlainWord, words: &[Word]) -> Result<Command, Halt
         PlainWord::Sample => sample(alloc, words),
         PlainWord::Expunge => expunge(alloc, words),
         PlainWord::Land => land(alloc, words),
+        PlainWord::Authors => authors(alloc, words),
         PlainWord::Unite => unite(alloc, words),
     }
 }

@@ -40,6 +40,7 @@ pub enum PlainWord {
     Sample,
     Expunge,
     Land,
+    Authors,
     Unite,
 }
 
@@ -60,6 +61,7 @@ impl PlainWord {
             "sample" => Some(PlainWord::Sample),
             "expunge" => Some(PlainWord::Expunge),
             "msgin" => Some(PlainWord::Land),
+            "authors" => Some(PlainWord::Authors),
             "unite" => Some(PlainWord::Unite),
             _ => None,
         }
