@@ -14,7 +14,7 @@ ghost use Rattle.mailbox_laws.specs.Boxes.{Message, box_in, lines_in};
 ghost use Rattle.mailbox_laws.specs.Cutting.{AreLinesOf};
 ghost use Rattle.mailbox_laws.specs.Landing.{box_faults, land_of};
 ghost use Rattle.mailbox_laws.specs.Naming.{IsFoundAgain};
-ghost use Rattle.mailbox_laws.specs.Reporting.{IsLowest};
+ghost use Rattle.mailbox_laws.specs.Reporting.{IsBoxFault, IsLowest};
 ghost use Rattle.mailbox_laws.specs.Words.{HaveOtherWords, KeepsAllElse};
 ghost use Rattle.mailbox_laws.specs.Written.{box_of};
 
@@ -42,6 +42,12 @@ pub fn the_lowest_fault_is_reported()
         land_of events bytes ≡ Err why → IsLowest (box_faults events (box_in bytes)) why }
     ensures done { (events new : List PlainEvent) (bytes : List ℕ) → land_of events bytes ≡ Ok new →
         box_faults events (box_in bytes) ≡ [] }
+{}
+
+/// A box is refused for a message alone: that it is malformed, that its event isn't there, or for the text that it checks.
+pub fn a_box_is_refused_for_a_message()
+    ensures { (events : List PlainEvent) (bytes : List ℕ) (why : Fault) →
+        land_of events bytes ≡ Err why → IsBoxFault why }
 {}
 
 /// What lands are people, dates and comments: but for these the events are the same, in the same order.
