@@ -28,8 +28,9 @@ use Rattle.mailbox_laws.specs.Words.{HaveOtherWords, nobody, wordless}
 use Rattle.mailbox_laws.specs.Written.{date_name, role_name}
 use Rattle.mailbox_laws.proofs.Forms.{identity_formed, moment_formed}
 use Rattle.mailbox_laws.proofs.Lines.{IsPlain, lines_plain}
-use Rattle.mailbox_laws.proofs.SoundWords.{sound_kept}
+use Rattle.mailbox_laws.proofs.SoundBare.{sound_kept}
 use Rattle.mailbox_laws.proofs.Values.{value_plain}
+use Rattle.mailbox_laws.proofs.Wordless.{words_alike}
 
 -- ---- words alone
 
@@ -182,5 +183,5 @@ unfolding land_of
 landing_sound events bytes new sound e =
     let box = box_in bytes in
     let is = (has_landed (lowest (box_faults events box)) (landed events box.later events) new e).1 in
-    sound_kept events new sound (words_land events bytes new e)
+    sound_kept events new sound (words_alike events new (words_land events bytes new e))
     (subst (AllByRecursion IsLawful) is (landed_lawful events box.later events (box_plain bytes) (in_parts events sound).lawful))

@@ -1,65 +1,28 @@
--- What doesn't look at people and comments is the same without them.
-use Rattle.std.proofs.Common.{◌≡◌, ℕ, ◌+◌, suc, cond, List, [], ◌∷◌, ◌++◌, length, map, Option, Some, None, refl, sym, ap, ◌∙◌}
-use Rattle.std.specs.Prelude.{◌==◌, ◌||◌, not, bytes_eq, option_map, reverse}
-use Rattle.std.specs.Map.{lookup}
-use Rattle.plain_model.specs.declared.id.AnyId.{AnyId}
-use Rattle.plain_model.specs.declared.operation.Content.{Content}
-use Rattle.plain_model.specs.declared.operation.Content.TheVariants.{Blob as OfBlob, Object}
-use Rattle.plain_model.specs.declared.operation.Entry.{Entry}
+-- Histories with other words are alike, and have the same references.
+use Rattle.std.proofs.Common.{◌≡◌, ℕ, List, [], ◌∷◌, length, map, Some, None, refl, sym, ap, ◌∙◌}
+use Rattle.std.specs.Prelude.{bytes_eq, not}
 use Rattle.plain_model.specs.declared.event.PlainEvent.{PlainEvent}
 use Rattle.plain_model.specs.declared.event.PlainEvent.TheVariants.{Blob, Commit, Tag, Reset, Pass}
-use Rattle.plain_model.specs.Histories.{Node, nodes, tree, tree_in}
-use Rattle.plain_model.specs.Lookups.{alias_count, event_marks, id_of, marks_of, referents_of, same_id}
-use Rattle.plain_model.specs.Paths.{Bytes}
-use Rattle.plain_model.specs.Snapshots.{Shown, ShownContent, blob_bytes, map_tree, refs, refs_after, shown, shown_content}
-use Rattle.plain_model.specs.Snapshots.ShownContent.{ShownBytes}
-use Rattle.plain_model.specs.Soundness.{has_id}
+use Rattle.plain_model.specs.Histories.{nodes}
+use Rattle.plain_model.specs.Lookups.{alias_count, id_of}
+use Rattle.plain_model.specs.Snapshots.{refs, refs_after}
 use Rattle.plain_model.specs.Trees.{TreeOf, put, where_path}
-use Rattle.history_laws.proofs.Ids.{has_id_step}
-use Rattle.edit_laws.specs.Keeping.{KeepsTrees}
 use Rattle.mailbox_laws.specs.Words.{HaveOtherWords, KeepsAllElse, wordless}
+use Rattle.mailbox_laws.proofs.Bare.{AreAlike, alike_by, aliases_same, bare, count_same, find_mark_kept, ids_same, kept, nodes_same, shown_kept, trees_kept}
 
--- ---- single events
+-- ---- other words
 
-pub id_same : (e : PlainEvent) → id_of (wordless e) ≡ id_of e
-id_same (Blob id mark bytes) = refl
-id_same (Commit id mark branch author committer encoding comment parents ops aliases) = refl
-id_same (Tag id name target tagger comment mark) = refl
-id_same (Reset id branch target) = refl
-id_same (Pass id line) = refl
+bare_wordless : (e : PlainEvent) → bare (wordless e) ≡ bare e
+bare_wordless (Blob id mark bytes) = refl
+bare_wordless (Commit id mark branch author committer encoding comment parents ops aliases) = refl
+bare_wordless (Tag id name target tagger comment mark) = refl
+bare_wordless (Reset id branch target) = refl
+bare_wordless (Pass id line) = refl
 
-pub marks_same : (e : PlainEvent) → event_marks (wordless e) ≡ event_marks e
-marks_same (Blob id mark bytes) = refl
-marks_same (Commit id mark branch author committer encoding comment parents ops aliases) = refl
-marks_same (Tag id name target tagger comment mark) = refl
-marks_same (Reset id branch target) = refl
-marks_same (Pass id line) = refl
+pub words_alike : (old new : List PlainEvent) → HaveOtherWords old new → AreAlike old new
+words_alike old new same = alike_by wordless bare_wordless old new same
 
-pub referents_same : (e : PlainEvent) → referents_of (wordless e) ≡ referents_of e
-referents_same (Blob id mark bytes) = refl
-referents_same (Commit id mark branch author committer encoding comment parents ops aliases) = refl
-referents_same (Tag id name target tagger comment mark) = refl
-referents_same (Reset id branch (Some target)) = refl
-referents_same (Reset id branch None) = refl
-referents_same (Pass id line) = refl
-
--- ---- lists
-
-pub has_id_same : (es : List PlainEvent) (id : AnyId) → has_id (map wordless es) id ≡ has_id es id
-has_id_same [] id = refl
-has_id_same (e ∷ es) id =
-    has_id_step (wordless e) (map wordless es) id
-    ∙ (λ i. same_id (id_same e i) id || has_id_same es id i)
-    ∙ sym (has_id_step e es id)
-
-pub nodes_same : (es : List PlainEvent) → nodes (map wordless es) ≡ nodes es
-nodes_same [] = refl
-nodes_same (Commit id mark branch author committer encoding comment parents ops aliases ∷ es) =
-    ap (λ (l : List Node). record { id = id; parents = parents; ops = ops } ∷ l) (nodes_same es)
-nodes_same (Blob id mark bytes ∷ es) = nodes_same es
-nodes_same (Tag id name target tagger comment mark ∷ es) = nodes_same es
-nodes_same (Reset id branch target ∷ es) = nodes_same es
-nodes_same (Pass id line ∷ es) = nodes_same es
+-- ---- references
 
 refs_same : (t : TreeOf ℕ) (es : List PlainEvent) → refs_after t (map wordless es) ≡ refs_after t es
 refs_same t [] = refl
@@ -70,74 +33,17 @@ refs_same t (Reset id branch (Some c) ∷ es) = refs_same (put branch c t) es
 refs_same t (Reset id branch None ∷ es) = refs_same (where_path (λ b. not (bytes_eq branch b)) t) es
 refs_same t (Pass id line ∷ es) = refs_same t es
 
-ids_same : (es : List PlainEvent) → map id_of (map wordless es) ≡ map id_of es
-ids_same [] = refl
-ids_same (e ∷ es) = λ i. id_same e i ∷ ids_same es i
-
-count_same : (es : List PlainEvent) → length (map wordless es) ≡ length es
-count_same [] = refl
-count_same (e ∷ es) = ap suc (count_same es)
-
-all_marks_same : (es : List PlainEvent) → marks_of (map wordless es) ≡ marks_of es
-all_marks_same [] = refl
-all_marks_same (e ∷ es) = λ i. map (λ m. (m, id_same e i)) (marks_same e i) ++ all_marks_same es i
-
-bytes_same : (es : List PlainEvent) (b : ℕ) → blob_bytes (map wordless es) b ≡ blob_bytes es b
-bytes_same [] b = refl
-bytes_same (Blob id mark bytes ∷ es) b = ap (λ (rest : Bytes). cond (id == b) bytes rest) (bytes_same es b)
-bytes_same (Commit id mark branch author committer encoding comment parents ops aliases ∷ es) b = bytes_same es b
-bytes_same (Tag id name target tagger comment mark ∷ es) b = bytes_same es b
-bytes_same (Reset id branch target ∷ es) b = bytes_same es b
-bytes_same (Pass id line ∷ es) b = bytes_same es b
-
-pub aliases_same : (es : List PlainEvent) → alias_count (map wordless es) ≡ alias_count es
-aliases_same [] = refl
-aliases_same (Commit id mark branch author committer encoding comment parents ops aliases ∷ es) = ap (λ n. length aliases + n) (aliases_same es)
-aliases_same (Blob id mark bytes ∷ es) = aliases_same es
-aliases_same (Tag id name target tagger comment mark ∷ es) = aliases_same es
-aliases_same (Reset id branch target ∷ es) = aliases_same es
-aliases_same (Pass id line ∷ es) = aliases_same es
-
--- ---- histories with other words
-
-module _ {X : Type 0} (f : List PlainEvent → X) (alike : (es : List PlainEvent) → f (map wordless es) ≡ f es) where
-  -- what doesn't look at words is the same
-  pub kept : (old new : List PlainEvent) → HaveOtherWords old new → f new ≡ f old
-  kept old new same = sym (alike new) ∙ ap f same ∙ alike old
-
-module _ (old new : List PlainEvent) (bytes : (b : ℕ) → blob_bytes new b ≡ blob_bytes old b) where
-  content_same : (content : Content) → shown_content new content ≡ shown_content old content
-  content_same (OfBlob b) = ap ShownBytes (bytes b)
-  content_same (Object digits) = refl
-
-  entries_same : (t : TreeOf Entry) → map_tree (shown new) t ≡ map_tree (shown old) t
-  entries_same [] = refl
-  entries_same (e ∷ t) =
-      ap (λ (content : ShownContent). (e.0, record { mode = e.1.mode; content = content }) ∷ map_tree (shown new) t) (content_same e.1.content)
-      ∙ ap (λ (rest : TreeOf Shown). (e.0, shown old e.1) ∷ rest) (entries_same t)
-
-  shown_same : (a b : Option (TreeOf Entry)) → a ≡ b → option_map (map_tree (shown new)) a ≡ option_map (map_tree (shown old)) b
-  shown_same a b is = ap (option_map (map_tree (shown new))) is ∙ go b
-    where
-      go : (t : Option (TreeOf Entry)) → option_map (map_tree (shown new)) t ≡ option_map (map_tree (shown old)) t
-      go None = refl
-      go (Some t) = ap Some (entries_same t)
-
-pub trees_kept : (old new : List PlainEvent) → HaveOtherWords old new → (c : ℕ) → tree new c ≡ tree old c
-trees_kept old new same c = ap (λ (l : List Node). tree_in (reverse l) c) (kept nodes nodes_same old new same)
-
--- people and comments alone are others
+-- people, dates and comments alone are others
 pub all_else : (old new : List PlainEvent) → HaveOtherWords old new → KeepsAllElse old new
-all_else old new same = record {
-  count = kept length count_same old new same;
-  ids = kept (map id_of) ids_same old new same;
-  marks = λ mark. ap (λ (ms : List (ℕ × AnyId)). lookup (λ m. mark == m) ms) (kept marks_of all_marks_same old new same);
-  aliases = kept alias_count aliases_same old new same;
-  commits = kept nodes nodes_same old new same;
-  refs = kept refs (refs_same []) old new same;
-  trees = trees_kept old new same;
-  shown = λ c. shown_same old new (λ b. kept (λ es. blob_bytes es b) (λ es. bytes_same es b) old new same) (tree new c) (tree old c) (trees_kept old new same c);
-}
-
-pub same_trees : (old new : List PlainEvent) → HaveOtherWords old new → KeepsTrees old new
-same_trees old new same = let rest = all_else old new same in record { trees = λ c there. rest.trees c; shown = λ c there. rest.shown c }
+all_else old new words =
+    let same = words_alike old new words in
+    record {
+      count = kept length count_same old new same;
+      ids = kept (map id_of) ids_same old new same;
+      marks = find_mark_kept old new same;
+      aliases = kept alias_count aliases_same old new same;
+      commits = kept nodes nodes_same old new same;
+      refs = sym (refs_same [] new) ∙ ap refs words ∙ refs_same [] old;
+      trees = trees_kept old new same;
+      shown = shown_kept old new same;
+    }
