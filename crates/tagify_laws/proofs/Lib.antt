@@ -1,0 +1,12 @@
+pub mod Bases
+pub mod Counted
+pub mod Done
+pub mod Few
+pub mod InOrder
+pub mod Left
+pub mod Names
+pub mod Put
+pub mod Rows
+pub mod Still
+pub mod Tagged
+pub mod Unnamed
