@@ -1,7 +1,8 @@
 -- Without the lines that are passed through all else stays: ids, order, commits and the bytes of blobs.
-use Rattle.std.proofs.Common.{◌≡◌, ℕ, true, false, cond, not, List, [], ◌∷◌, ◌++◌, map, refl, sym, ap, ◌∙◌, arith, Some, None, IsTrue}
+use Rattle.std.proofs.Common.{◌≡◌, ℕ, Bool, true, false, cond, not, inl, inr, List, [], ◌∷◌, ◌++◌, map, refl, sym, ap, ◌∙◌, arith, Some, None, IsTrue}
 use Rattle.std.specs.Prelude.{◌&&◌, ◌||◌, ◌==◌, flat_map}
 use Rattle.std.proofs.Math.Bool.{or-false}
+use Rattle.std.proofs.lemmas.Bool.{or_cases, or_left, or_right}
 use Rattle.std.specs.List.{AllByRecursion, list_all}
 use Rattle.plain_model.specs.declared.id.AnyId.{AnyId}
 use Rattle.plain_model.specs.declared.id.AnyId.TheVariants as any
@@ -11,13 +12,13 @@ use Rattle.plain_model.specs.declared.operation.FileOp.TheVariants.{Modify, Dele
 use Rattle.plain_model.specs.declared.event.PlainEvent.{PlainEvent}
 use Rattle.plain_model.specs.declared.event.PlainEvent.TheVariants.{Blob, Commit, Tag, Reset, Pass}
 use Rattle.plain_model.specs.Histories.{Node, nodes}
-use Rattle.plain_model.specs.Lookups.{op_blobs, referents_of}
+use Rattle.plain_model.specs.Lookups.{id_of, op_blobs, referents_of, same_id}
 use Rattle.plain_model.specs.Snapshots.{blob_bytes}
 use Rattle.plain_model.specs.Soundness.{IsFormedEvent, has_id}
 use Rattle.edit_laws.specs.Parts.{AreInOrder, HasFewParents, IsLawful, of_id}
 use Rattle.edit_laws.specs.Settling.{is_ready}
 use Rattle.edit_laws.proofs.Lists.{all_filter, tally_filter}
-use Rattle.history_laws.proofs.Ids.{has_id_append}
+use Rattle.history_laws.proofs.Ids.{has_id_append, has_id_step}
 use Rattle.history_laws.proofs.Lists.{all_join}
 use Rattle.plain_model.specs.Paths.{Bytes}
 use Rattle.graft_laws.specs.Joined.{IsLinked}
@@ -51,6 +52,19 @@ still_there (Pass i line ∷ events) (any.Commit b) h = still_there events (any.
 still_there (Pass i line ∷ events) (any.Tag b) h = still_there events (any.Tag b) h
 still_there (Pass i line ∷ events) (any.Reset b) h = still_there events (any.Reset b) h
 still_there (e ∷ events) (any.Pass p) h = absurd h
+
+-- what is there without them is there
+pub without_there : (events : List PlainEvent) (id : AnyId) → has_id (without_passes events) id ≡ true → has_id events id ≡ true
+without_there [] id h = h
+without_there (e ∷ events) id h = has_id_step e events id ∙ go (is_pass e) h (without_there events id)
+  where
+    go : (b : Bool) → has_id (cond (not b) (e ∷ without_passes events) (without_passes events)) id ≡ true → (has_id (without_passes events) id ≡ true → has_id events id ≡ true)
+        → (same_id (id_of e) id || has_id events id) ≡ true
+    go true k rest = or_right (same_id (id_of e) id) (has_id events id) (rest k)
+    go false k rest = elim (or_cases (same_id (id_of e) id) (has_id (without_passes events) id) (sym (has_id_step e (without_passes events) id) ∙ k)) [
+      | inl own ↦ or_left (same_id (id_of e) id) (has_id events id) own
+      | inr later ↦ or_right (same_id (id_of e) id) (has_id events id) (rest later)
+    ]
 
 pub same_nodes : (events : List PlainEvent) → nodes (without_passes events) ≡ nodes events
 same_nodes [] = refl

@@ -24,12 +24,12 @@ place_own (x ∷ xs) es e h =
     ∙ ap (option_map suc) (place_own xs es e parts.1)
 
 module _ (first : ℕ) (whole : List PlainEvent) (once : (id : AnyId) → tally (of_id id) whole ≤ 1) where
-  own : (xs es : List PlainEvent) (e : PlainEvent) (k : ℕ) → whole ≡ xs ++ e ∷ es → k ≡ first + length xs → new_number first whole (id_of e) ≡ k
+  pub own : (xs es : List PlainEvent) (e : PlainEvent) (k : ℕ) → whole ≡ xs ++ e ∷ es → k ≡ first + length xs → new_number first whole (id_of e) ≡ k
   own xs es e k w is =
       let new = new_there (id_of e) xs e es (subst (λ (l : List PlainEvent). tally (of_id (id_of e)) l ≤ 1) w (once (id_of e))) (has_own_id e) in
       ap (λ (l : List PlainEvent). new_number first l (id_of e)) w ∙ ap (λ (o : Option ℕ). first + unwrap_or o 0) (place_own xs es e new) ∙ sym is
 
-  next : (xs : List PlainEvent) (e : PlainEvent) (k : ℕ) → k ≡ first + length xs → suc k ≡ first + length (xs ++ e ∷ [])
+  pub next : (xs : List PlainEvent) (e : PlainEvent) (k : ℕ) → k ≡ first + length xs → suc k ≡ first + length (xs ++ e ∷ [])
   next xs e k is = let many = length-append xs (e ∷ []) in omega arith
 
   agree_on : (xs es : List PlainEvent) (k : ℕ) → whole ≡ xs ++ es → k ≡ first + length xs → Agree (λ b. new_number first whole (any.Blob b)) (λ c. new_number first whole (any.Commit c)) k es

@@ -39,7 +39,7 @@ module _ (prune : Bool) (events : List PlainEvent) (part : Part) (good : IsPart 
   abbrev its_linked : IsLinked part.events
   its_linked = sound_linked part.events good.sound
 
-  linked_more : IsLinked events → AllByRecursion HasShortName (with_part prune events part) → IsLinked (with_part prune events part)
+  pub linked_more : IsLinked events → AllByRecursion HasShortName (with_part prune events part) → IsLinked (with_part prune events part)
   linked_more h n =
       let how = uniting prune events part.name in
       linked_added how (next_number events) events part.events (below_next events) its_linked good.name (parents_are prune events part) h
@@ -54,7 +54,7 @@ module _ (prune : Bool) (events : List PlainEvent) (part : Part) (good : IsPart 
   there_more : (c : ℕ) → IsCommitOf events c → IsCommitOf (with_part prune events part) c
   there_more c h = has_id_still events (added (uniting prune events part.name) (next_number events) part.events) (any.Commit c) h
 
-  trees_more : prune ≡ true → ((c : ℕ) → IsCommitOf events c → IsSome (tree events c)) → (c : ℕ) → IsCommitOf (with_part prune events part) c → IsSome (tree (with_part prune events part) c)
+  pub trees_more : prune ≡ true → ((c : ℕ) → IsCommitOf events c → IsSome (tree events c)) → (c : ℕ) → IsCommitOf (with_part prune events part) c → IsSome (tree (with_part prune events part) c)
   trees_more is has =
       trees_there (uniting prune events part.name) (next_number events) events part.events (below_next events) its_linked is (parents_are prune events part) has good.sound.trees
 
@@ -81,7 +81,7 @@ module _ (prune : Bool) where
           (own ++ more.0, more.1 ∙ append_assoc events own more.0)
 
   -- the further parts
-  further : (events : List PlainEvent) (part : Part) (parts : List Part) (whole : List PlainEvent) → with_parts prune events (part ∷ parts) ≡ Ok whole → with_parts prune (with_part prune events part) parts ≡ Ok whole
+  pub further : (events : List PlainEvent) (part : Part) (parts : List Part) (whole : List PlainEvent) → with_parts prune events (part ∷ parts) ≡ Ok whole → with_parts prune (with_part prune events part) parts ≡ Ok whole
   further events part parts whole h = go (part_fault prune events part) h
     where
       go : (o : Option Fault) → ◌≡◌ {A = Result (List PlainEvent) Fault} (elim o [ Some why ↦ Err why | None ↦ with_parts prune (with_part prune events part) parts ]) (Ok whole)
@@ -97,7 +97,7 @@ module _ (prune : Bool) where
       go (Some why) x = absurd cc
       go None x = refl
 
-  short_more : (events : List PlainEvent) (parts : List Part) (whole : List PlainEvent) → with_parts prune events parts ≡ Ok whole → AllByRecursion HasShortName whole → AllByRecursion HasShortName events
+  pub short_more : (events : List PlainEvent) (parts : List Part) (whole : List PlainEvent) → with_parts prune events parts ≡ Ok whole → AllByRecursion HasShortName whole → AllByRecursion HasShortName events
   short_more events parts whole h n = let more = extends events parts whole h in all_front HasShortName events more.0 (subst (AllByRecursion HasShortName) more.1 n)
 
   pub linked_parts : (events : List PlainEvent) (parts : List Part) (whole : List PlainEvent) → with_parts prune events parts ≡ Ok whole → AllByRecursion IsPart parts → AllByRecursion HasShortName whole → IsLinked events → IsLinked whole
@@ -210,13 +210,13 @@ parents_first prune base parts joined joins good others short =
     linked_in_order (renumbered joined) (marked_once 1 [] joined all (λ m. omega arith) (λ m low. refl)) (marked_order 1 [] joined all)
 
 module _ (prune : Bool) (parts : List Part) (new : List PlainEvent) (u : IsUnited prune parts new) (good : AllByRecursion IsPart parts) where
-  sorted_good : AllByRecursion IsPart (u.base ∷ u.part ∷ u.others)
+  pub sorted_good : AllByRecursion IsPart (u.base ∷ u.part ∷ u.others)
   sorted_good = subst (AllByRecursion IsPart) u.order (all_by_age (λ (p : Part). p.events) IsPart parts good)
 
-  base_linked : IsLinked u.base.events
+  pub base_linked : IsLinked u.base.events
   base_linked = sound_linked u.base.events sorted_good.0.sound
 
-  short : AllByRecursion HasShortName u.joined
+  pub short : AllByRecursion HasShortName u.joined
   short = short_unmarked 1 u.joined (short_names (renumbered u.joined) u.passes.names)
 
   linked : IsLinked u.joined

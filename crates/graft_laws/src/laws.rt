@@ -2,8 +2,11 @@
 ghost use Rattle.std.specs.Prelude.{
   ◌≡◌,
   ◌+◌,
+  ◌-◌,
   ◌++◌,
   ◌≤◌,
+  ◌<◌,
+  ◌⊎◌,
   ◌∷◌,
   ℕ,
   Bool,
@@ -11,6 +14,7 @@ ghost use Rattle.std.specs.Prelude.{
   Option,
   Ok,
   IsFalse,
+  IsTrue,
   drop,
   length,
   map,
@@ -22,9 +26,9 @@ ghost use Rattle.std.specs.List.{AllByRecursion, enumerate_from};
 ghost use Rattle.plain_model.specs.declared.event.PlainEvent.{PlainEvent};
 ghost use Rattle.plain_model.specs.declared.id.AnyId.{AnyId};
 ghost use Rattle.plain_model.specs.Histories.{nodes, tree};
-ghost use Rattle.plain_model.specs.Lookups.{AreIdsBelow, greatest_mark, marks_of, next_number};
+ghost use Rattle.plain_model.specs.Lookups.{AreIdsBelow, greatest_mark, id_number, marks_of, next_number};
 ghost use Rattle.plain_model.specs.Paths.{Bytes};
-ghost use Rattle.plain_model.specs.Soundness.{IsCommitOf, IsSound};
+ghost use Rattle.plain_model.specs.Soundness.{IsCommitOf, IsSound, has_id};
 ghost use Rattle.edit_laws.specs.Editing.{IsEdit, IsLawfulHistory, with_number};
 ghost use Rattle.edit_laws.specs.Equations.{Fits};
 ghost use Rattle.edit_laws.specs.Passing.{IsWithinLimits};
@@ -39,9 +43,16 @@ ghost use Rattle.graft_laws.specs.Joined.{
   IsPart,
   StaysIn,
 };
-ghost use Rattle.graft_laws.specs.Joining.{without_passes};
+ghost use Rattle.graft_laws.specs.Joining.{new_number, without_passes};
 ghost use Rattle.graft_laws.specs.Names.{is_used, names_of};
 ghost use Rattle.graft_laws.specs.Order.{IsByAge, IsLatest, of_age};
+ghost use Rattle.graft_laws.specs.Sources.{
+  HasTreesOfAll,
+  IsFrom,
+  IsFromOne,
+  number_after,
+  number_at,
+};
 ghost use Rattle.graft_laws.specs.Unite.{
   Part,
   by_age,
@@ -86,6 +97,14 @@ pub fn a_pruned_graft_keeps_trees()
         (base new : List PlainEvent) → IsSound base → IsSound part → AreIdsBelow next base →
         IsSelection base set → graft_of true next name part set base ≡ Ok new →
         HasTreesOf part next new }
+{}
+
+/// With `--prune` or without it, each event was one of the base, under its id, or is one of the part, under its new number.
+pub fn a_graft_has_no_other_events()
+    ensures { (prune : Bool) (next : ℕ) (name : Bytes) (part : List PlainEvent) (set : List AnyId)
+        (base new : List PlainEvent) (id : AnyId) → IsSound part →
+        graft_of prune next name part set base ≡ Ok new → IsTrue (has_id new id) →
+        IsTrue (has_id base id) ⊎ IsFrom part next id }
 {}
 
 /// With `--prune` or without it, each tree is what the commit's operations make of its first parent's. Without it a commit of the
@@ -170,6 +189,41 @@ pub fn a_pruned_unite_keeps_trees()
         by_age (λ (part : Part). part.events) parts ≡ base ∷ (before ++ part ∷ after) →
         with_parts true base.events before ≡ Ok so_far →
         HasTreesOf part.events (next_number so_far) new }
+{}
+
+/// The same of all further parts, by their order alone: the numbers of each come after those of the one before it.
+pub fn a_pruned_unite_keeps_all_trees()
+    ensures trees { (parts others : List Part) (base : Part) (new : List PlainEvent) →
+        AllByRecursion IsPart parts → unite_of true parts ≡ Ok new →
+        by_age (λ (part : Part). part.events) parts ≡ base ∷ others →
+        HasTreesOfAll others (next_number base.events) new }
+    ensures numbers { (prune : Bool) (events : List PlainEvent) (part : Part) →
+        next_number (with_part prune events part)
+        ≡ number_after (next_number events) part.events }
+{}
+
+/// With `--prune` or without it, each event was one of the oldest part, under its id, or is one of a further part, under its new
+/// number.
+pub fn a_unite_has_no_other_events()
+    ensures { (prune : Bool) (parts others : List Part) (base : Part) (new : List PlainEvent)
+        (id : AnyId) → AllByRecursion IsPart parts → unite_of prune parts ≡ Ok new →
+        by_age (λ (part : Part). part.events) parts ≡ base ∷ others → IsTrue (has_id new id) →
+        IsTrue (has_id base.events id) ⊎ IsFromOne others (next_number base.events) id }
+{}
+
+/// The new number of an event of a part leads back to its own, and is one of the part's. Each commit has one.
+pub fn a_number_leads_back()
+    ensures back { (part : List PlainEvent) (first : ℕ) (id : AnyId) →
+        IsTrue (has_id (without_passes part) id) →
+        number_at part (new_number first (without_passes part) id - first) ≡ id_number id }
+    ensures within { (part : List PlainEvent) (first : ℕ) (id : AnyId) →
+        IsTrue (has_id (without_passes part) id) →
+        (first ≤ new_number first (without_passes part) id)
+        × (new_number first (without_passes part) id < number_after first part) }
+    ensures commits { (part : List PlainEvent) (c : ℕ) → IsCommitOf part c →
+        IsCommitOf (without_passes part) c }
+    ensures events { (part : List PlainEvent) (id : AnyId) →
+        IsTrue (has_id (without_passes part) id) → IsTrue (has_id part id) }
 {}
 
 /// No name of a part is one of the parts before it.
