@@ -29,6 +29,7 @@ use Rattle.script_reader.specs.Edits.{IsSpelledEdit}
 use Rattle.script_reader.specs.Macros.{called}
 use Rattle.script_lines.specs.Names.{is_repo_name}
 use Rattle.script_reader.specs.declared.command.Command.{Command}
+use Rattle.script_reader.specs.declared.command.FileEdit.{FileEdit}
 use Rattle.script_reader.specs.declared.command.Command.TheVariants as command
 use Rattle.script_reader.specs.declared.command.Order.{Order}
 use Rattle.script_reader.specs.declared.command.Order.TheVariants as order
@@ -38,7 +39,7 @@ use Rattle.script_lines.specs.declared.script.ScriptLine.TheVariants.{Define, Pl
 use Rattle.history_machine.specs.Lawful.{IsLawful, IsLawfulRepo}
 use Rattle.history_machine.specs.Loading.{loaded, over, read_of}
 use Rattle.history_machine.specs.Machine.{Effect}
-use Rattle.history_machine.specs.Sessions.{Repo, Session, Subject, after_assign, after_choose, after_drop, after_drop_chosen, after_edit, after_land, after_read, after_renumber, after_sample, chosen, find_repo, landed, ready, remade, room, sample_name, there, unassigned, unless, unused, with_repo, without_paths, without_repo}
+use Rattle.history_machine.specs.Sessions.{Repo, Session, Subject, after_assign, after_choose, after_drop, after_drop_chosen, after_edit, after_edit_by, after_read, after_renumber, after_sample, chosen, find_repo, ready, remade, room, said_by, sample_name, there, unassigned, unless, unused, with_repo, without_paths, without_repo}
 use Rattle.history_machine.specs.Steps.{calling, carried, line_step, ordered, step}
 use Rattle.history_machine.proofs.LoadList.{changed_well, chosen_well, forgotten_well}
 use Rattle.history_machine.proofs.Ready.{LiveIn, chosen_lawful, ready_live, ready_once}
@@ -60,7 +61,7 @@ pub record Laws : Type 0 where
   pub edits : (what : Edit) → IsSpelledEdit what → IsEdit (λ set next events. remade what set next events)
   pub expunges : (matchers : List Matches) → IsEdit (λ set next events. without_paths matchers next events)
   pub renumbers : IsEdit (λ set next events. with_number next (Ok (renumbered events)))
-  pub lands : (bytes : Bytes) → IsEdit (λ set next events. landed bytes next events)
+  pub said : (what : FileEdit) (bytes : Bytes) → IsEdit (λ set next events. said_by what bytes next events)
   pub grafts : (prune : Bool) → IsJoining (grafted_with prune)
   pub unites : (prune : Bool) → IsUniting (united_of prune)
   pub divides : (ids : Ids) → IsDivision (halves_of ids)
@@ -137,12 +138,12 @@ module _ (laws : Laws) where
       let was = chosen_lawful s repo is h in
       changed_well s (with_name repo free ids) h (record { name = was.name; history = was.history; names = names_more repo.names free ids was.names k; spent = was.spent })))
 
-  land_well : (s : Session) (files : Files) (file : Bytes) (ids : Ids) → IsLawful s → IsOnce ids → LiveIn s ids → ChangesWell (after_land s files file)
-  unfolding after_land
-  land_well s files file ids h k lives =
-      well_after (chosen s) (λ repo. file_within files file MAX_STREAM_BYTES >>= λ bytes. after_edit s (landed bytes)) (λ repo is.
-      well_after (file_within files file MAX_STREAM_BYTES) (λ bytes. after_edit s (landed bytes)) (λ bytes found.
-      edit_well s (λ ids. landed bytes) ids (laws.lands bytes) h k lives))
+  said_well : (s : Session) (files : Files) (what : FileEdit) (file : Bytes) (ids : Ids) → IsLawful s → IsOnce ids → LiveIn s ids → ChangesWell (after_edit_by s files what file)
+  unfolding after_edit_by
+  said_well s files what file ids h k lives =
+      well_after (chosen s) (λ repo. file_within files file MAX_STREAM_BYTES >>= λ bytes. after_edit s (said_by what bytes)) (λ repo is.
+      well_after (file_within files file MAX_STREAM_BYTES) (λ bytes. after_edit s (said_by what bytes)) (λ bytes found.
+      edit_well s (λ ids. said_by what bytes) ids (laws.said what bytes) h k lives))
 
   carried_well : (s : Session) (files : Files) (subject : Subject) (what : Command) → IsLawful s → IsSpelledCommand what → IsOnce subject.ids → LiveIn s subject.ids → GoesWell (carried s files subject what)
   unfolding carried
@@ -159,7 +160,7 @@ module _ (laws : Laws) where
       changes_well (after_edit s (remade what subject.ids)) (edit_well s (remade what) subject.ids (laws.edits what fits) h k lives)
   carried_well s files subject (command.Expunge words) h fits k lives =
       changes_well (after_edit s (without_paths subject.matchers)) (edit_well s (λ ids. without_paths subject.matchers) subject.ids (laws.expunges subject.matchers) h k lives)
-  carried_well s files subject (command.Land file) h fits k lives = changes_well (after_land s files file) (land_well s files file subject.ids h k lives)
+  carried_well s files subject (command.EditBy what file) h fits k lives = changes_well (after_edit_by s files what file) (said_well s files what file subject.ids h k lives)
   carried_well s files subject (command.Graft selection name prune) h fits k lives =
       changes_well (after_joining s name (λ part. grafted_with prune part subject.ids)) (joined_well s name (grafted_with prune) subject.ids (laws.grafts prune) h k lives)
   carried_well s files subject (command.Unite names prune) h fits k lives = changes_well (after_uniting s names (united_of prune)) (united_well s names (united_of prune) (laws.unites prune) h)

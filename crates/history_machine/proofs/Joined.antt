@@ -1,18 +1,19 @@
 -- What commands on several repositories leave, from what is made of the histories.
-use Rattle.std.proofs.Common.{◌≡◌, ◌∙◌, ℕ, ◌≤◌, Bool, true, false, List, [], ◌∷◌, ◌++◌, length, map, Some, Result, Ok, Err, refl, sym, ap, subst, arith}
+use Rattle.std.proofs.Common.{◌≡◌, ◌∙◌, ℕ, ◌≤◌, Bool, true, false, List, [], ◌∷◌, ◌++◌, length, map, Some, None, Result, Ok, Err, refl, sym, ap, subst, arith, ◌⊎◌}
 use Rattle.std.specs.List.{AllByRecursion}
 use Rattle.std.specs.Prelude.{if◌then◌else◌}
 use Rattle.plain_model.specs.Lookups.{next_number}
-use Rattle.plain_model.specs.Soundness.{IsCommitOf}
+use Rattle.plain_model.specs.declared.id.AnyId.{AnyId}
+use Rattle.plain_model.specs.Soundness.{IsCommitOf, has_id}
 use Rattle.plain_model.specs.Paths.{Bytes}
 use Rattle.plain_model.specs.declared.event.PlainEvent.{PlainEvent}
 use Rattle.plain_model.specs.declared.fault.Fault.{Fault}
-use Rattle.plain_model.specs.declared.fault.Fault.TheVariants as fault
 use Rattle.divide_laws.specs.Divide.{divide_of}
 use Rattle.divide_laws.specs.declared.halves.Halves.{Halves}
 use Rattle.edit_laws.specs.Editing.{Remade}
 use Rattle.event_sets.specs.Sets.{Ids}
 use Rattle.graft_laws.specs.Joined.{HasTreesOf, IsPart, StaysIn}
+use Rattle.graft_laws.specs.Sources.{HasTreesOfAll, IsFromOne}
 use Rattle.graft_laws.specs.Unite.{Part, age, by_age, is_before, put_by_age, unite_of, with_parts}
 use Rattle.script_lines.specs.Answering.{◌>>=◌}
 use Rattle.history_machine.specs.Joined.{Unites}
@@ -21,6 +22,7 @@ use Rattle.history_machine.specs.Machine.{Effect}
 use Rattle.history_machine.specs.Sessions.{Repo, Session, chosen, edited, find_repo, read_repo, room, unused, with_remade, with_repo, without_repo}
 use Rattle.history_machine.specs.Several.{after_dividing, after_joining, after_uniting, all_there, as_part, early_name, halves_of, joined_name, late_name, other_than, united_of, united_repo, without_repos}
 use Rattle.history_machine.specs.Steps.{changes, quiet}
+use Rattle.history_machine.proofs.JoinedNames.{is_new_name}
 use Rattle.history_machine.proofs.Lawful.{has_room, is_unused}
 use Rattle.history_machine.proofs.Several.{is_other, parts_lawful}
 
@@ -74,7 +76,7 @@ joined s name edit after h =
 
 abbrev pub IsUnited : Session → List Bytes → (List Repo → Result Repo Fault) → Session → Type 0
 IsUnited s names united after =
-    (parts : List Repo) × (new : Repo) × (all_there names s.repos ≡ Ok parts) × (united parts ≡ Ok new)
+    (parts : List Repo) × (new : Repo) × (all_there names s.repos ≡ Ok parts) × (united parts ≡ Ok new) × (find_repo (joined_name names) (without_repos names s.repos) ≡ None)
     × (after ≡ record s { repos = without_repos names s.repos ++ record new { name = joined_name names } ∷ []; choice = Some (joined_name names) })
 
 pub united : (s : Session) (names : List Bytes) (make : List Repo → Result Repo Fault) (after : Session) → after_uniting s names make ≡ Ok after → IsUnited s names make after
@@ -87,6 +89,7 @@ united s names make after h =
       last.0,
       one.1,
       last.1,
+      (is_unused whole free.0 (find_repo whole rest) free.1).1,
       sym (ap (λ n. put n last.0) (is_unused whole free.0 (find_repo whole rest) free.1).0 ∙ same (put free.0 last.0) after last.2),
     )
   where
@@ -125,7 +128,11 @@ module _ (several : (prune : Bool) (parts : List Part) (new : List PlainEvent) �
     (base_trees : (prune : Bool) (parts others : List Part) (base : Part) (new : List PlainEvent) (c : ℕ) → AllByRecursion IsPart parts → unite_of prune parts ≡ Ok new
     → by_age (λ (part : Part). part.events) parts ≡ base ∷ others → IsCommitOf base.events c → StaysIn base.events new c)
     (part_trees : (parts before after : List Part) (base part : Part) (so_far new : List PlainEvent) → AllByRecursion IsPart parts → unite_of true parts ≡ Ok new
-    → by_age (λ (part : Part). part.events) parts ≡ base ∷ (before ++ part ∷ after) → with_parts true base.events before ≡ Ok so_far → HasTreesOf part.events (next_number so_far) new) where
+    → by_age (λ (part : Part). part.events) parts ≡ base ∷ (before ++ part ∷ after) → with_parts true base.events before ≡ Ok so_far → HasTreesOf part.events (next_number so_far) new)
+    (all_trees : (parts others : List Part) (base : Part) (new : List PlainEvent) → AllByRecursion IsPart parts → unite_of true parts ≡ Ok new
+    → by_age (λ (part : Part). part.events) parts ≡ base ∷ others → HasTreesOfAll others (next_number base.events) new)
+    (all_came : (prune : Bool) (parts others : List Part) (base : Part) (new : List PlainEvent) (id : AnyId) → AllByRecursion IsPart parts → unite_of prune parts ≡ Ok new
+    → by_age (λ (part : Part). part.events) parts ≡ base ∷ others → has_id new id ≡ true → (has_id base.events id ≡ true) ⊎ IsFromOne others (next_number base.events) id) where
   pub united_trees : (s : Session) (names : List Bytes) (prune : Bool) (after : Session) → IsLawful s → IsUnited s names (united_of prune) after → Unites prune names s after
   united_trees s names prune after lawful its =
       let parts = its.0 in
@@ -148,8 +155,14 @@ module _ (several : (prune : Bool) (parts : List Part) (new : List PlainEvent) �
             subst (HasTreesOf part.events (next_number so_far)) (sym history_of_new)
             (part_trees (map as_part parts) before behind order.0 part so_far history sound (subst (λ (b : Bool). unite_of b (map as_part parts) ≡ Ok history) p made.1)
             (order.2 ∙ ap (λ (others : List Part). order.0 ∷ others) cut) are);
+        all_pruned = λ p.
+            subst (HasTreesOfAll order.1 (next_number order.0.events)) (sym history_of_new)
+            (all_trees (map as_part parts) order.1 order.0 history sound (subst (λ (b : Bool). unite_of b (map as_part parts) ≡ Ok history) p made.1) order.2);
+        came = λ id there.
+            all_came prune (map as_part parts) order.1 order.0 history id sound made.1 order.2 (subst (λ (new : List PlainEvent). has_id new id ≡ true) history_of_new there);
         name = refl;
-        rest = its.4;
+        is_new = is_new_name names s.repos parts its.2 (several prune (map as_part parts) history made.1) its.4;
+        rest = its.5;
       }
 
 -- ---- one becomes two

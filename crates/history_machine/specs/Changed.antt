@@ -1,5 +1,5 @@
 -- What an edit changes of the chosen history, where trees don't all stay.
-use Rattle.std.specs.Prelude.{◌≡◌, ℕ, ◌+◌, ◌++◌, ◌&&◌, Bool, IsTrue, List, false, ◌∷◌, [], map, not, Option, Ok, option_map, true}
+use Rattle.std.specs.Prelude.{◌≡◌, ℕ, ◌+◌, ◌++◌, ◌&&◌, ◌⊎◌, Bool, IsFalse, IsTrue, List, false, ◌∷◌, [], length, map, not, Option, Ok, option_map, true}
 use Rattle.std.specs.List.{AllByRecursion}
 use Rattle.plain_model.specs.declared.event.PlainEvent.{PlainEvent}
 use Rattle.plain_model.specs.declared.id.AnyId.{AnyId}
@@ -43,6 +43,9 @@ use Rattle.split_laws.specs.SplitTrees.{IsFirstTouch, IsInHalves}
 use Rattle.squash_laws.specs.Remaining.{HasParentsFor, IsOneOn, is_staying, stand_for}
 use Rattle.squash_laws.specs.Removed.{is_removed}
 use Rattle.squash_laws.specs.Takings.{last_hanging}
+use Rattle.tagify_laws.specs.InPlace.{in_place}
+use Rattle.tagify_laws.specs.Remaining.{IsNewTag}
+use Rattle.tagify_laws.specs.Tagify.{tagged}
 use Rattle.history_machine.specs.PathWords.{said_path}
 use Rattle.history_machine.specs.Sessions.{Repo, Session, Subject, chosen, ready, with_remade, with_repo}
 
@@ -94,6 +97,16 @@ pub record JoinsCommits (seconds : ℕ) (set : Ids) (old : Repo) (made : Remade)
   pub next : made.next ≡ old.next
   pub ids : (id : AnyId) → has_id made.history id ≡ has_id old.history id && not (is_listed id (joined_ones seconds set old.history))
   pub joined : (c : ℕ) → IsTrue (is_listed (any.Commit c) (joined_ones seconds set old.history)) → IsJoinedTo set old.history c
+
+-- Each of the commits that do nothing is gone, and has a tag in its place, with the next numbers; no other event goes or comes, or is at
+-- another place, and nothing else of one changes but its parents or its target. Each commit has the tree that it had.
+pub record Tagifies (set : Ids) (old : Repo) (made : Remade) : Type 0 where
+  pub next : made.next ≡ old.next + length (tagged set old.history)
+  pub list : made.history ≡ in_place set old.history old.next old.history
+  pub commits : (c : ℕ) → has_id made.history (any.Commit c) ≡ has_id old.history (any.Commit c) && not (is_removed (tagged set old.history) c)
+  pub goes : (id : AnyId) → IsFalse (is_listed id (tagged set old.history)) → IsTrue (has_id old.history id) → IsTrue (has_id made.history id)
+  pub comes : (id : AnyId) → IsTrue (has_id made.history id) → IsTrue (has_id old.history id) ⊎ IsNewTag old.next id
+  pub trees : Keeping.HasTreesOf old.history made.history
 
 -- each commit that is still there has the tree of the last removed one that hung on it, and where none did, its own
 pub record GivesLastTrees (tags : Lean) (set : Ids) (old : Repo) (made : Remade) : Type 0 where

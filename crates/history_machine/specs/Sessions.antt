@@ -18,6 +18,10 @@ use Rattle.listing.specs.Stamps.{stamp_text}
 use Rattle.listing.specs.Summaries.{resolve_text}
 use Rattle.listing.specs.TreeListings.{manifest_text}
 use Rattle.mailbox_laws.specs.Landing.{land_of}
+use Rattle.people_laws.specs.Authors.{authors_of}
+use Rattle.people_laws.specs.Dates.{time_offset_of}
+use Rattle.people_laws.specs.Values.{set_field_of}
+use Rattle.tagify_laws.specs.Tagify.{tagged, tagify_of}
 use Rattle.mailbox_laws.specs.Written.{box_of}
 use Rattle.expunge_laws.specs.Matching.{Matches, matched_by}
 use Rattle.renumbering.specs.Renumbered.{renumbered}
@@ -26,6 +30,8 @@ use Rattle.script_lines.specs.Answering.{◌>>=◌}
 use Rattle.script_reader.specs.Macros.{Macro}
 use Rattle.script_reader.specs.declared.command.Command.{Command}
 use Rattle.script_reader.specs.declared.command.Command.TheVariants as command
+use Rattle.script_reader.specs.declared.command.FileEdit.{FileEdit}
+use Rattle.script_reader.specs.declared.command.FileEdit.TheVariants as by
 use Rattle.script_reader.specs.declared.command.Listing.{Listing}
 use Rattle.script_reader.specs.declared.command.Listing.TheVariants as listing
 use Rattle.script_reader.specs.declared.command.Order.{Order}
@@ -246,6 +252,9 @@ remade (edit.RemoveBy text) ids next events = said_path text >>= λ path. with_n
 remade (edit.PathRename source target) ids next events = said_path source >>= λ from. said_path target >>= λ to. with_number next (paths_moved (image_of (Rename from to)) events)
 remade (edit.PathsSub text) ids next events = said_path text >>= λ folder. with_number next (paths_moved (image_of (Sub folder)) events)
 remade (edit.PathsSup text) ids next events = said_path text >>= λ folder. with_number next (paths_moved (image_of (Sup folder)) events)
+remade (edit.TimeOffset seconds zone) ids next events = with_number next (time_offset_of seconds zone ids events)
+remade (edit.SetField value) ids next events = with_number next (Ok (set_field_of value ids events))
+remade edit.Tagify ids next events = with_number (next + length (tagged ids events)) (tagify_of next ids events)
 
 -- what an expunge makes of it
 abbrev pub without_paths : List Matches → ℕ → List PlainEvent → Result Remade Fault
@@ -263,13 +272,14 @@ edited edit repo = edit repo.next repo.history >>= λ made. Ok (with_remade repo
 unfoldable pub after_edit : Session → (ℕ → List PlainEvent → Result Remade Fault) → Result Session Fault
 after_edit s edit = chosen s >>= λ repo. edited edit repo >>= λ new. Ok (record s { repos = with_repo new s.repos })
 
--- what the messages of a box make of it: only who, when and comments are others
-abbrev pub landed : Bytes → ℕ → List PlainEvent → Result Remade Fault
-landed bytes next events = with_number next (land_of events bytes)
+-- what the lines of a file make of it: of messages only who, when and comments are others, and of authors only names and emails
+abbrev pub said_by : FileEdit → Bytes → ℕ → List PlainEvent → Result Remade Fault
+said_by by.Messages bytes next events = with_number next (land_of events bytes)
+said_by by.Authors bytes next events = with_number next (authors_of bytes events)
 
--- `msgin <FILE`: the file is one within the limit of streams
-unfoldable pub after_land : Session → Files → Bytes → Result Session Fault
-after_land s files file = chosen s >>= λ repo. file_within files file MAX_STREAM_BYTES >>= λ bytes. after_edit s (landed bytes)
+-- `msgin <FILE`, `authors read <FILE`: the file is one within the limit of streams
+unfoldable pub after_edit_by : Session → Files → FileEdit → Bytes → Result Session Fault
+after_edit_by s files what file = chosen s >>= λ repo. file_within files file MAX_STREAM_BYTES >>= λ bytes. after_edit s (said_by what bytes)
 
 -- the line of a repository, by the name that is chosen
 abbrev pub repo_line : Option Bytes → Bytes → Bytes

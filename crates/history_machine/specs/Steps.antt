@@ -17,7 +17,7 @@ use Rattle.script_reader.specs.declared.command.Command.TheVariants as command
 use Rattle.script_reader.specs.declared.command.Order.{Order}
 use Rattle.script_reader.specs.declared.command.Order.TheVariants as order
 use Rattle.history_machine.specs.Machine.{Effect}
-use Rattle.history_machine.specs.Sessions.{Session, Subject, after_assign, after_choose, after_drop, after_drop_chosen, after_edit, after_land, after_read, after_renumber, after_sample, of_chosen, ready, remade, repos_text, shown, without_paths}
+use Rattle.history_machine.specs.Sessions.{Session, Subject, after_assign, after_choose, after_drop, after_drop_chosen, after_edit, after_edit_by, after_read, after_renumber, after_sample, of_chosen, ready, remade, repos_text, shown, without_paths}
 use Rattle.history_machine.specs.Several.{after_dividing, after_joining, after_uniting, grafted_with, halves_of, united_of}
 
 -- ---- one command
@@ -51,7 +51,7 @@ carried s files subject (command.Show selection what to) = reports s to (of_chos
 carried s files subject (command.Assign selection name) = changes (after_assign s subject.ids name)
 carried s files subject (command.Edit selection what) = changes (after_edit s (remade what subject.ids))
 carried s files subject (command.Expunge words) = changes (after_edit s (without_paths subject.matchers))
-carried s files subject (command.Land file) = changes (after_land s files file)
+carried s files subject (command.EditBy what file) = changes (after_edit_by s files what file)
 carried s files subject (command.Graft selection name prune) = changes (after_joining s name (λ part. grafted_with prune part subject.ids))
 carried s files subject (command.Unite names prune) = changes (after_uniting s names (united_of prune))
 carried s files subject (command.Divide selection) = changes (after_dividing s (halves_of subject.ids))

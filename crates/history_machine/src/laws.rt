@@ -1,5 +1,5 @@
 //! Laws of the machine. Each function's contract is one; its body is empty, or calls the laws that it rests on.
-ghost use Rattle.std.specs.Prelude.{◌≡◌, ℕ, Bool, false, List, [], None, Ok, Err, Option, Result, take};
+ghost use Rattle.std.specs.Prelude.{◌≡◌, ℕ, ℤ, Bool, false, List, [], None, Ok, Err, Option, Result, take};
 ghost use Rattle.std.specs.List.{AllByRecursion};
 ghost use Rattle.plain_model.specs.declared.event.PlainEvent.{PlainEvent};
 ghost use Rattle.plain_model.specs.declared.fault.Fault.{Fault};
@@ -8,6 +8,8 @@ ghost use Rattle.plain_model.specs.Files.{Files};
 ghost use Rattle.byte_patterns.specs.Judging.{Denial};
 ghost use Rattle.plain_model.specs.Text.{text};
 ghost use Rattle.edit_laws.specs.Editing.{IsEdit, IsLawfulHistory, Remade};
+ghost use Rattle.event_fields.specs.Shifts.{PlainZone};
+ghost use Rattle.event_fields.specs.Values.{PlainValue};
 ghost use Rattle.event_sets.specs.Once.{AreLive, IsOnce};
 ghost use Rattle.event_sets.specs.Sets.{Ids};
 ghost use Rattle.sample_history.specs.Sample.{sample};
@@ -15,6 +17,7 @@ ghost use Rattle.script_reader.specs.Commands.{IsSpelledCommand};
 ghost use Rattle.script_reader.specs.Edits.{IsSpelledEdit};
 ghost use Rattle.script_reader.specs.declared.command.Command.TheVariants as command;
 ghost use Rattle.script_reader.specs.declared.command.Command.{Command};
+ghost use Rattle.script_reader.specs.declared.command.FileEdit.{FileEdit};
 ghost use Rattle.script_reader.specs.declared.edit.Edit.TheVariants as edit;
 ghost use Rattle.script_reader.specs.declared.edit.Edit.{Edit};
 ghost use Rattle.script_lines.specs.declared.script.ScriptItem.{ScriptItem};
@@ -33,21 +36,32 @@ ghost use Rattle.history_machine.specs.Changed.{
   Reparents,
   Splits,
   SplitsBy,
+  Tagifies,
   Unmerges,
 };
+ghost use Rattle.history_machine.specs.FileEdits.{IsLineFault};
 ghost use Rattle.history_machine.specs.Joined.{Divides, Grafts, Unites};
 ghost use Rattle.history_machine.specs.Kept.{
   Each,
   KeepsEveryTree,
   KeepsHistory,
   KeepsIdsAndTrees,
+  KeepsTreesOfCommits,
   KeepsTreesOfRest,
   LosesPaths,
 };
 ghost use Rattle.history_machine.specs.Lawful.{IsLawful};
 ghost use Rattle.history_machine.specs.Machine.{Effect, effect_of, session_after};
 ghost use Rattle.history_machine.specs.PathWords.{matches_of};
-ghost use Rattle.history_machine.specs.Sessions.{Repo, Session, chosen, empty_session, remade};
+ghost use Rattle.history_machine.specs.Sessions.{
+  Repo,
+  Session,
+  after_edit,
+  chosen,
+  empty_session,
+  remade,
+  said_by,
+};
 ghost use Rattle.history_machine.specs.Steps.{line_step, sends, step};
 ghost use Rattle.history_machine.specs.Several.{
   IsDivision,
@@ -72,13 +86,19 @@ use expunge_laws::{
     an_expunge_restricts_trees,
 };
 use graft_laws::{
-    a_graft_is_an_edit, a_graft_keeps_the_base, a_pruned_graft_keeps_trees,
-    a_pruned_unite_keeps_trees, a_unite_is_lawful, a_unite_keeps_the_base,
+    a_graft_has_no_other_events, a_graft_is_an_edit, a_graft_keeps_the_base,
+    a_pruned_graft_keeps_trees, a_pruned_unite_keeps_all_trees, a_pruned_unite_keeps_trees,
+    a_unite_has_no_other_events, a_unite_is_lawful, a_unite_keeps_the_base,
 };
 use mailbox_laws::{
-    a_landing_is_an_edit, only_people_and_comments_land, other_words_keep_all_else,
+    a_box_is_refused_for_a_message, a_landing_is_an_edit, only_people_and_comments_land,
+    other_words_keep_all_else,
 };
 use path_move_laws::a_move_is_an_edit;
+use people_laws::{
+    a_set_field_is_an_edit, a_time_offset_is_an_edit, authors_are_an_edit,
+    changed_fields_keep_trees, the_lowest_line_is_refused,
+};
 use renumbering::{a_renumbering_is_an_edit, ids_stay, renumbering_keeps_trees};
 use reorder_laws::a_reorder_is_an_edit;
 use reparent_laws::{
@@ -98,6 +118,10 @@ use split_laws::{
 use squash_laws::{
     a_push_back_gives_the_last_tree, a_push_forward_keeps_trees, a_squash_is_an_edit,
     a_squash_removes_its_commits, nothing_is_added, parents_give_way_to_their_parents,
+};
+use tagify_laws::{
+    a_tagify_is_an_edit, a_tagify_removes_its_commits, nothing_else_goes_or_comes,
+    tags_are_in_the_place_of_commits,
 };
 
 /// A line that is refused leaves the session and the files as they were, one line is printed, and nothing is run in its place.
@@ -292,14 +316,58 @@ pub fn a_simplify_keeps_trees()
     simplify_laws::nothing_is_added();
 }
 
-/// A mailbox that lands leaves every loaded repository its name, its events and each of its commits its tree.
-pub fn a_landing_keeps_trees()
-    ensures { (denial : Option Denial) (s : Session) (files : Files) (file : List ℕ)
-        (t : Effect Session) → step denial s files (command.Land file) ≡ Ok t →
+/// An edit that a file says leaves every loaded repository its name, its events and each of its commits its tree.
+pub fn a_file_edit_keeps_trees()
+    ensures { (denial : Option Denial) (s : Session) (files : Files) (what : FileEdit)
+        (file : List ℕ) (t : Effect Session) →
+        step denial s files (command.EditBy what file) ≡ Ok t →
         Each KeepsEveryTree s.repos t.session.repos }
 {
     only_people_and_comments_land();
     other_words_keep_all_else();
+    changed_fields_keep_trees();
+}
+
+/// Where a repository is chosen and the file is read, such an edit is refused for a line of the file, and for nothing else.
+pub fn a_file_edit_is_refused_for_a_line()
+    ensures { (s : Session) (repo : Repo) (what : FileEdit) (bytes : List ℕ) (why : Fault) →
+        chosen s ≡ Ok repo → after_edit s (said_by what bytes) ≡ Err why → IsLineFault why }
+{
+    a_box_is_refused_for_a_message();
+    the_lowest_line_is_refused();
+}
+
+/// A `timeoffset` and a `setfield` leave every loaded repository its name, its events and each of its commits its tree.
+pub fn other_fields_keep_trees()
+    ensures offset { (denial : Option Denial) (s : Session) (files : Files)
+        (selection : Option (List ℕ)) (seconds : ℤ) (zone : Option PlainZone)
+        (t : Effect Session) →
+        step denial s files (command.Edit selection (edit.TimeOffset seconds zone)) ≡ Ok t →
+        Each KeepsEveryTree s.repos t.session.repos }
+    ensures value { (denial : Option Denial) (s : Session) (files : Files)
+        (selection : Option (List ℕ)) (value : PlainValue) (t : Effect Session) →
+        step denial s files (command.Edit selection (edit.SetField value)) ≡ Ok t →
+        Each KeepsEveryTree s.repos t.session.repos }
+{
+    changed_fields_keep_trees();
+}
+
+/// A `tagify` leaves every loaded repository its name, and each commit that is still there its tree. It takes away the selected commits
+/// of the chosen history that do nothing and have one parent, and puts a tag in the place of each.
+pub fn a_tagify_keeps_trees()
+    ensures trees { (denial : Option Denial) (s : Session) (files : Files)
+        (selection : Option (List ℕ)) (t : Effect Session) →
+        step denial s files (command.Edit selection edit.Tagify) ≡ Ok t → IsLawful s →
+        Each KeepsTreesOfCommits s.repos t.session.repos }
+    ensures tags { (denial : Option Denial) (s : Session) (files : Files)
+        (selection : Option (List ℕ)) (t : Effect Session) →
+        step denial s files (command.Edit selection edit.Tagify) ≡ Ok t → IsLawful s →
+        ChangesChosen Tagifies denial s (command.Edit selection edit.Tagify) t.session }
+{
+    tags_are_in_the_place_of_commits();
+    tagify_laws::a_tagify_keeps_trees();
+    a_tagify_removes_its_commits();
+    nothing_else_goes_or_comes();
 }
 
 /// An expunge that is done takes the paths that its words match out of the chosen repository: each commit that is still
@@ -316,7 +384,7 @@ pub fn an_expunge_takes_paths_out_of_trees()
 }
 
 /// A graft that is done leaves the chosen repository its events, each commit with its tree. With `--prune` each commit of the other
-/// one has its tree, too.
+/// one has its tree, too. No event comes from elsewhere.
 pub fn a_graft_keeps_trees()
     ensures { (denial : Option Denial) (s : Session) (files : Files) (selection name : List ℕ)
         (prune : Bool) (t : Effect Session) →
@@ -328,9 +396,11 @@ pub fn a_graft_keeps_trees()
     sound_histories_are_such();
     a_graft_keeps_the_base();
     a_pruned_graft_keeps_trees();
+    a_graft_has_no_other_events();
 }
 
-/// A `unite` that is done leaves each commit of the oldest repository its tree, and with `--prune` each commit of the others.
+/// A `unite` that is done leaves each commit of the oldest repository its tree, and with `--prune` each commit of the others. No event
+/// comes from elsewhere.
 pub fn a_unite_keeps_trees()
     ensures { (denial : Option Denial) (s : Session) (files : Files) (names : List (List ℕ))
         (prune : Bool) (t : Effect Session) →
@@ -340,6 +410,8 @@ pub fn a_unite_keeps_trees()
     a_unite_is_lawful();
     a_unite_keeps_the_base();
     a_pruned_unite_keeps_trees();
+    a_pruned_unite_keeps_all_trees();
+    a_unite_has_no_other_events();
 }
 
 /// A division that is done leaves each commit of the chosen repository in one half alone, with its tree.
@@ -391,6 +463,18 @@ pub fn every_edit_is_one()
     a_coalesce_is_an_edit();
     a_simplify_is_an_edit();
     a_move_is_an_edit();
+    a_time_offset_is_an_edit();
+    a_set_field_is_an_edit();
+    a_tagify_is_an_edit();
+}
+
+/// So does each edit that a file says.
+pub fn every_file_edit_is_one()
+    ensures { (what : FileEdit) (bytes : List ℕ) →
+        IsEdit (λ set next events. said_by what bytes next events) }
+{
+    a_landing_is_an_edit();
+    authors_are_an_edit();
 }
 
 /// A lawful session, whose histories are lawful and whose names are right, stays one by every command that is done, if a script
@@ -411,7 +495,7 @@ pub fn a_step_keeps_it()
     every_edit_is_one();
     an_expunge_is_an_edit();
     a_renumbering_is_an_edit();
-    a_landing_is_an_edit();
+    every_file_edit_is_one();
     several_become_lawful();
     a_command_is_spelled();
 }

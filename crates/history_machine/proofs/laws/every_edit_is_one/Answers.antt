@@ -36,4 +36,7 @@ returns c = each
         (λ source_fits. of_fit_path target (λ to set next events. with_number next (paths_moved (image_of (Rename source to)) events))
         (λ target_fits. c.a_move_is_an_edit.ensures (Rename source target) (source_fits, target_fits)))
     each (edit.PathsSub text) fits = of_fit_path text (λ folder set next events. with_number next (paths_moved (image_of (Sub folder)) events)) (c.a_move_is_an_edit.ensures (Sub text))
+    each (edit.TimeOffset seconds zone) fits = c.a_time_offset_is_an_edit.ensures seconds zone fits
+    each (edit.SetField value) fits = c.a_set_field_is_an_edit.ensures value fits
+    each edit.Tagify fits = c.a_tagify_is_an_edit.ensures
     each (edit.PathsSup text) fits = of_fit_path text (λ folder set next events. with_number next (paths_moved (image_of (Sup folder)) events)) (c.a_move_is_an_edit.ensures (Sup text))
