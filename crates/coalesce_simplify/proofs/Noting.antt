@@ -1,10 +1,9 @@
 -- What is known of operations goes on from the last one to the first.
-use Rattle.std.proofs.Common.{◌≡◌, ◌∙◌, ℕ, zero, suc, ◌≤◌, Bool, true, false, cond, inl, inr, List, [], ◌∷◌, ◌++◌, length, drop, get_or, map, replicate, Option, Some, refl, sym, ap, subst, arith, true≢false, append_assoc}
+use Rattle.std.proofs.Common.{◌≡◌, ◌∙◌, ℕ, zero, suc, ◌≤◌, Bool, true, false, cond, inl, inr, List, [], ◌∷◌, ◌++◌, length, drop, get_or, replicate, Option, Some, refl, sym, ap, subst, arith, append_assoc}
 use Rattle.std.proofs.Math.ListN.{set}
-use Rattle.std.proofs.lemmas.Bool.{cases_Bool, cases_eq, false_from_ne_true, or_parts}
+use Rattle.std.proofs.lemmas.Bool.{cases_eq, or_parts}
 use Rattle.std.proofs.lemmas.List.{get_or-set_other, get_or-set_same, length-replicate, length-set}
 use Rattle.std.proofs.lemmas.Option.{slice_get_within}
-use Rattle.std.proofs.lemmas.Slice.Eq.{bytes_eq-Decides}
 use Rattle.std.specs.List.{list_any}
 use Rattle.std.specs.Prelude.{◌||◌, bytes_eq, slice_get}
 use Rattle.plain_model.specs.declared.operation.FileOp.{FileOp}
@@ -17,20 +16,6 @@ use Rattle.simplify_laws.specs.Simplify.{is_void, simpler}
 use Rattle.coalesce_simplify.specs.Voiding.{AreVoid, Known, Knows, void_by}
 
 -- ---- lists
-
-pub any_mapped : {X Y : Type 0} (f : X → Y) (test : Y → Bool) (xs : List X) → list_any test (map f xs) ≡ list_any (λ x. test (f x)) xs
-any_mapped f test [] = refl
-any_mapped f test (x ∷ xs) = ap (λ b. test (f x) || b) (any_mapped f test xs)
-
-pub turned : (p q : Bytes) → bytes_eq p q ≡ bytes_eq q p
-turned p q = elim (cases_Bool (bytes_eq p q)) [
-  | inl is ↦ is ∙ sym ((bytes_eq-Decides q p).1 (sym ((bytes_eq-Decides p q).0 is)))
-  | inr other ↦ other ∙ sym (false_from_ne_true (bytes_eq q p) (λ is. true≢false (sym ((bytes_eq-Decides p q).1 (sym ((bytes_eq-Decides q p).0 is))) ∙ other)))
-]
-
-pub or_cond : (a b : Bool) → cond a true b ≡ a || b
-or_cond true b = refl
-or_cond false b = refl
 
 none_after : (n : ℕ) (xs : List FileOp) → length xs ≤ n → drop n xs ≡ []
 none_after zero [] h = refl

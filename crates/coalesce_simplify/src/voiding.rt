@@ -3,11 +3,9 @@ ghost use Rattle.std.specs.Prelude.{
   ◌≡◌,
   ◌<◌,
   ◌∷◌,
-  ◌||◌,
   [],
   Some,
   false,
-  bytes_eq,
   length,
   replicate,
   slice_get,
@@ -20,62 +18,18 @@ ghost use Rattle.std.specs.List.{list_any};
 ghost use Rattle.coalesce_simplify.specs.Voiding.{AreVoid, Knows, void_by};
 ghost use Rattle.simplify_laws.specs.Simplify.{simpler};
 
-use plain_model::{Copied, FileOp, NoMemory, OpList, Path};
+use byte_sets::ByteSet;
+use plain_model::{Copied, FileOp, NoMemory, OpList};
 use std::alloc::Global;
-use std::collections::HashSet;
 use std::marker::Model;
-
-// Paths, each once.
-#[derive(Drop)]
-struct Paths<'a> {
-    set: HashSet<&'a [u8]>,
-}
-
-impl<'a> Model for Paths<'a> {
-    ghost use Rattle.std.specs.Prelude.{List, ℕ, map};
-
-    ghost Value = { List (List ℕ) };
-
-    ghost view = { λ p. map (λ key. key.now) p.set.keys };
-}
-
-impl<'a> Paths<'a> {
-    fn new(alloc: Global) -> Paths<'a>
-        ensures { result ≡ [] }
-    {
-        Paths {
-            set: HashSet::new(alloc),
-        }
-    }
-
-    fn has(&self, path: &Path) -> bool
-        ensures { result ≡ list_any (bytes_eq path.now) self.now }
-    {
-        self.set.contains(path.as_bytes())
-    }
-
-    fn add(&mut self, path: &'a Path) -> Result<(), NoMemory>
-        ensures { OnOk result ((p : _) → list_any (bytes_eq p) self.new
-            ≡ (bytes_eq p path.now || list_any (bytes_eq p) self.old)) }
-    {
-        self.set.insert(path.as_bytes())?;
-        Ok(())
-    }
-
-    fn clear(&mut self)
-        ensures { self.new ≡ [] }
-    {
-        self.set.clear();
-    }
-}
 
 // What is known of the operations after one: whether there is a `deleteall`, and which paths are put and deleted before
 // the first copy or rename.
 #[derive(Drop)]
 struct Later<'a> {
     anew: bool,
-    put: Paths<'a>,
-    deleted: Paths<'a>,
+    put: ByteSet<'a>,
+    deleted: ByteSet<'a>,
 }
 
 impl<'a> Model for Later<'a> {
@@ -93,8 +47,8 @@ impl<'a> Later<'a> {
     {
         Later {
             anew: false,
-            put: Paths::new(alloc),
-            deleted: Paths::new(alloc),
+            put: ByteSet::new(alloc),
+            deleted: ByteSet::new(alloc),
         }
     }
 
@@ -103,8 +57,10 @@ impl<'a> Later<'a> {
         ensures { result ≡ void_by self.now op.now }
     {
         match op {
-            FileOp::Modify { path, .. } => self.anew || self.put.has(path),
-            FileOp::Delete { path } => self.anew || self.put.has(path) || self.deleted.has(path),
+            FileOp::Modify { path, .. } => self.anew || self.put.has(path.as_bytes()),
+            FileOp::Delete { path } => self.anew
+                || self.put.has(path.as_bytes())
+                || self.deleted.has(path.as_bytes()),
             _ => self.anew,
         }
     }
@@ -122,8 +78,8 @@ impl<'a> Later<'a> {
         ensures { OnOk result ((later : _) → Knows later self.old → Knows (op.now ∷ later) self.new) }
     {
         match op {
-            FileOp::Modify { path, .. } => self.put.add(path),
-            FileOp::Delete { path } => self.deleted.add(path),
+            FileOp::Modify { path, .. } => self.put.add(path.as_bytes()),
+            FileOp::Delete { path } => self.deleted.add(path.as_bytes()),
             FileOp::Copy { .. } => {
                 self.forget();
                 Ok(())

@@ -11,7 +11,7 @@ returns-in-Modify c =
     let new : Known = record { anew = c.self.inside.anew; put = c.add.new.self; deleted = c.self.inside.deleted } in
     on_ok_weaker c.add.result (λ adds later k.
     subst (λ (op : FileOp). Knows (op ∷ later) new) (sym c.in-Modify.is)
-    (noted_put later old c.in-Modify.mode c.in-Modify.content c.in-Modify.path c.add.new.self (subst (Knows later) (sym c.self.view_is) k) adds)) c.add.ensures
+    (noted_put later old c.in-Modify.mode c.in-Modify.content c.in-Modify.path c.add.new.self (subst (Knows later) (sym c.self.view_is) k) adds)) (rw c.as_bytes.ensures.value at c.add.ensures)
 
 pub returns-in-Delete : goal.returns-in-Delete
 returns-in-Delete c =
@@ -20,7 +20,7 @@ returns-in-Delete c =
     let new : Known = record { anew = inside.anew; put = inside.put; deleted = c.add-in-Delete.new.self } in
     on_ok_weaker c.add-in-Delete.result (λ adds later k.
     subst (λ (op : FileOp). Knows (op ∷ later) new) (sym c.in-Delete.is)
-    (noted_deletion later old c.in-Delete.path c.add-in-Delete.new.self (subst (Knows later) (sym c.self-in-Delete.view_is) k) adds)) c.add-in-Delete.ensures
+    (noted_deletion later old c.in-Delete.path c.add-in-Delete.new.self (subst (Knows later) (sym c.self-in-Delete.view_is) k) adds)) (rw c.as_bytes-in-Delete.ensures.value at c.add-in-Delete.ensures)
 
 pub returns-in-DeleteAll : goal.returns-in-DeleteAll
 returns-in-DeleteAll c later k =
