@@ -1,0 +1,4 @@
+pub mod MovingLemmas
+pub mod NameLemmas
+pub mod PlacingLemmas
+pub mod TaggingLemmas

@@ -1,0 +1,3 @@
+pub mod Empties
+pub mod Names
+pub mod Tagging
