@@ -7,13 +7,14 @@ ghost use Rattle.edit_laws.specs.Editing.{with_number};
 ghost use Rattle.edit_laws.specs.Selecting.{IsSelection};
 ghost use Rattle.history_machine.specs.Sessions.{
   edited,
-  landed,
   remade,
+  said_by,
   shown,
   stands_for,
   with_remade,
   without_paths,
 };
+ghost use Rattle.people_laws.specs.Values.{set_field_of};
 ghost use Rattle.plain_model.specs.Faults.{Returns};
 ghost use Rattle.graft_laws.specs.Joined.{AreNameBytes};
 ghost use Rattle.history_machine.specs.Several.{grafted_with, halves_of};
@@ -30,7 +31,9 @@ use crate::path_words::path_of;
 use byte_patterns::Patterns;
 use coalesce_simplify::{coalesce, simplify};
 use divide_laws::nothing_is_added;
+use empty_commits::tagify;
 use event_arena::{Events, Plan};
+use event_fields::FieldValue;
 use graft_unite::{Part, graft};
 use listing::{index, list, manifest, resolve, stamp};
 use mailbox_edit::msgin;
@@ -39,12 +42,13 @@ use manifest_cache::Manifests;
 use path_expunge::{Matcher, expunge};
 use path_move_laws::PathMap;
 use path_moves::map_paths;
+use people_edit::{authors, set_field, time_offset};
 use plain_model::{AnyId, Fault, Halt, IdList, Items, NoMemory, Text};
 use renumbering::renumber;
 use reparent_laws::Removal;
 use reparent_rebase::{add_op, merge, remove_op, reparent, unmerge};
 use repo_divide::divide;
-use script_reader::{Edit, Listing, WrittenSelection};
+use script_reader::{Edit, FileEdit, Listing, WrittenSelection};
 use selection_eval::{
     Names, eval, selections_are_live, selections_are_without_repeats, sound_histories_are_such,
 };
@@ -207,6 +211,20 @@ impl Repository {
         }
     }
 
+    // The plan by which a field is set, which is never refused.
+    fn field_set(&self, value: &FieldValue, ids: &[AnyId]) -> Result<Plan, Halt>
+        ensures plans { Returns made_by result
+            (with_number self.now.next (Ok (set_field_of value.now ids.now self.now.history))) }
+        ensures before { IfOk result (λ plan. plan.before ≡ self.now.history) }
+        ensures made_at { IfOk result (λ plan. plan.made_at ≡ self.now.next) }
+        ensures sound { IfOk result (λ plan. IsSound plan.after) }
+    {
+        match set_field(self.alloc, &self.events, ids, value) {
+            Ok(plan) => Ok(plan),
+            Err(NoMemory) => Err(Halt::Memory),
+        }
+    }
+
     // The plan of an edit of some of its events.
     fn plan_of(&mut self, what: &Edit, ids: &[AnyId]) -> Result<Plan, Halt>
         requires selection { IsSelection self.old.history ids.now }
@@ -270,6 +288,14 @@ impl Repository {
                 let map = PathMap::Sup(path_of(self.alloc, text.as_bytes())?);
                 map_paths(self.alloc, &self.events, &mut self.manifests, &map)
             }
+            Edit::TimeOffset { seconds, zone } => {
+                time_offset(self.alloc, &self.events, ids, *seconds, *zone)
+            }
+            Edit::SetField(value) => self.field_set(value, ids),
+            Edit::Tagify => {
+                self.has_numbers()?;
+                tagify(self.alloc, &self.events, ids)
+            }
         }
     }
 
@@ -323,23 +349,27 @@ impl Repository {
         Ok(self.carry_out(plan)?)
     }
 
-    // The plan by which a box lands.
-    fn plan_landing(&self, bytes: &[u8]) -> Result<Plan, Halt>
-        ensures plans { Returns made_by result (landed bytes.now self.now.next self.now.history) }
+    // The plan of an edit that the lines of a file say.
+    fn plan_said(&self, what: FileEdit, bytes: &[u8]) -> Result<Plan, Halt>
+        ensures plans { Returns made_by result
+            (said_by what bytes.now self.now.next self.now.history) }
         ensures before { IfOk result (λ plan. plan.before ≡ self.now.history) }
         ensures made_at { IfOk result (λ plan. plan.made_at ≡ self.now.next) }
         ensures sound { IfOk result (λ plan. IsSound plan.after) }
     {
-        msgin(self.alloc, &self.events, bytes)
+        match what {
+            FileEdit::Messages => msgin(self.alloc, &self.events, bytes),
+            FileEdit::Authors => authors(self.alloc, &self.events, bytes),
+        }
     }
 
-    /// Puts what the messages of a box say on the events of its history, or leaves all as it was.
-    pub fn land(&mut self, bytes: &[u8]) -> Result<(), Halt>
+    /// Edits its history as the lines of a file say, or leaves all as it was.
+    pub fn edit_by(&mut self, what: FileEdit, bytes: &[u8]) -> Result<(), Halt>
         ensures returns { (name : _) → Returns (λ _. repo_under name self.new) result
-            (edited (landed bytes.now) (repo_under name self.old)) }
+            (edited (said_by what bytes.now) (repo_under name self.old)) }
         ensures err { OnErr result (self.new ≡ self.old) }
     {
-        let plan = self.plan_landing(bytes)?;
+        let plan = self.plan_said(what, bytes)?;
         Ok(self.carry_out(plan)?)
     }
 

@@ -6,8 +6,8 @@ ghost use Rattle.history_machine.specs.Sessions.{
   after_assign,
   after_edit,
   after_renumber,
-  landed,
   remade,
+  said_by,
   shown,
   without_paths,
 };
@@ -19,7 +19,7 @@ use super::LoadList;
 use byte_patterns::Patterns;
 use path_expunge::Matcher;
 use plain_model::{AnyId, Halt, IdList, Text};
-use script_reader::{Edit, Listing, WrittenSelection};
+use script_reader::{Edit, FileEdit, Listing, WrittenSelection};
 
 impl LoadList {
     /// The events for which a selection stands, each once.
@@ -82,14 +82,15 @@ impl LoadList {
         self.by_name[place].expunge(matchers)
     }
 
-    /// Puts what the messages of a box say on its events.
+    /// Edits its history as the lines of a file say.
     #[tactic(auto, unfolding(history_machine::specs::Sessions::after_edit, history_machine::specs::Sessions::chosen))]
-    pub fn land(&mut self, bytes: &[u8]) -> Result<(), Halt>
-        ensures changes { Changes (λ s. after_edit s (landed bytes.now)) self.old result self.new }
+    pub fn edit_by(&mut self, what: FileEdit, bytes: &[u8]) -> Result<(), Halt>
+        ensures changes { Changes (λ s. after_edit s (said_by what bytes.now)) self.old result
+            self.new }
         ensures kept { OnErr result (self.new ≡ self.old) }
     {
         let place = self.chosen_place()?;
-        self.by_name[place].land(bytes)
+        self.by_name[place].edit_by(what, bytes)
     }
 
     /// Gives a list of its events a name, unless another has it.
