@@ -120,7 +120,7 @@ module _
         order_shown denial s files w h (Ok (order.Step (command.Edit selection what))) = tt
         order_shown denial s files w h (Ok (order.Step (command.Expunge words))) = tt
         order_shown denial s files w h (Ok (order.Step (command.Summary to))) = tt
-        order_shown denial s files w h (Ok (order.Step (command.Land file))) = tt
+        order_shown denial s files w h (Ok (order.Step (command.EditBy what file))) = tt
         order_shown denial s files w h (Ok (order.Step (command.Graft selection name prune))) = tt
         order_shown denial s files w h (Ok (order.Step (command.Unite names prune))) = tt
         order_shown denial s files w h (Ok (order.Step (command.Divide selection))) = tt

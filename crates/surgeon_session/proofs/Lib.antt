@@ -4,7 +4,7 @@ mod Denying
 mod ListChanges
 mod Readying
 mod LoadedFiles
-mod Mailboxes
+mod FileEdits
 mod Sent
 pub mod Rounds
 pub mod SessionRounds

@@ -24,7 +24,7 @@ use Rattle.surgeon_session.specs.Calls.{world, world_of}
 use Rattle.surgeon_session.specs.Commands.{Carries, CarriesOut, Leaves, LineReadsNoFile, OrderReadsNoFile, PartOf, PartOfLine, ReadsNoFile, Refuses, Steps, no_calls}
 use Rattle.surgeon_session.specs.Denials.{Under}
 use Rattle.surgeon_session.specs.Ends.{of_halt}
-use Rattle.surgeon_session.specs.Pieces.{CountsMissOf, StopsNear, bytes_read, if_too_long, refused, stop_of}
+use Rattle.surgeon_session.specs.Pieces.{CountsMissOf, StopsNear, bytes_read, refused}
 use Rattle.surgeon_session.specs.declared.halted.Halted.{Halted}
 use Rattle.surgeon_session.specs.declared.halted.Halted.TheVariants as halted
 use Rattle.surgeon_session.proofs.Halting.{halted_alone}
@@ -102,7 +102,7 @@ module _ (before now : ℕ) where
   near_none (Some bytes) rest = tt
 
   pub not_ready_near : {A : Type 0} (files : Option Files) (rest : Option Bytes) (s : Session) (what : Command) (h : Halt) (r : Result A Halted) → IsErrAnd r (λ e. e ≡ of_halt h)
-      → Judges {X = Subject} (λ subject. subject) before now (Err h) (ready s what) → StopsNear (bytes_read files what) (stop_of what (refused r)) rest
+      → Judges {X = Subject} (λ subject. subject) before now (Err h) (ready s what) → StopsNear (bytes_read files what) (refused r) rest
   unfolding ready
   not_ready_near files rest s (command.Read file name) h r is judged =
       subst (λ (o : Option Fault). StopsNear (bytes_read files (command.Read file name)) o rest) (sym (none_refused h r is judged)) (near_none (bytes_read files (command.Read file name)) rest)
@@ -116,8 +116,8 @@ module _ (before now : ℕ) where
   not_ready_near files rest s (command.Assign selection name) h r is judged = tt
   not_ready_near files rest s (command.Edit selection edit) h r is judged = tt
   not_ready_near files rest s (command.Expunge words) h r is judged = tt
-  not_ready_near files rest s (command.Land file) h r is judged =
-      subst (λ (o : Option Fault). StopsNear (bytes_read files (command.Land file)) (if_too_long o) rest) (sym (none_refused h r is judged)) (near_none (bytes_read files (command.Land file)) rest)
+  not_ready_near files rest s (command.EditBy by file) h r is judged =
+      subst (λ (o : Option Fault). StopsNear (bytes_read files (command.EditBy by file)) o rest) (sym (none_refused h r is judged)) (near_none (bytes_read files (command.EditBy by file)) rest)
   not_ready_near files rest s (command.Graft selection name prune) h r is judged = tt
   not_ready_near files rest s (command.Unite names prune) h r is judged = tt
   not_ready_near files rest s (command.Divide selection) h r is judged = tt
@@ -140,8 +140,8 @@ module _ (before now : ℕ) where
   not_ready_missed state s (command.Assign selection name) h r is judged = tt
   not_ready_missed state s (command.Edit selection edit) h r is judged = tt
   not_ready_missed state s (command.Expunge words) h r is judged = tt
-  not_ready_missed state s (command.Land file) h r is judged =
-      subst (λ (o : Option Fault). CountsMissOf (command.Land file) o state state) (sym (none_refused h r is judged)) tt
+  not_ready_missed state s (command.EditBy by file) h r is judged =
+      subst (λ (o : Option Fault). CountsMissOf (command.EditBy by file) o state state) (sym (none_refused h r is judged)) tt
   not_ready_missed state s (command.Graft selection name prune) h r is judged = tt
   not_ready_missed state s (command.Unite names prune) h r is judged = tt
   not_ready_missed state s (command.Divide selection) h r is judged = tt

@@ -61,7 +61,7 @@ no_calls y = []
 -- the command is neither `read` nor `msgin`
 abbrev pub ReadsNoFile : Command → Type 0
 ReadsNoFile (command.Read file name) = ⊥
-ReadsNoFile (command.Land file) = ⊥
+ReadsNoFile (command.EditBy what file) = ⊥
 ReadsNoFile other = Unit {0}
 
 -- what is specified is done, in the session, and these lines are run next

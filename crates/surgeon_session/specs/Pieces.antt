@@ -34,12 +34,21 @@ EndsNear n bytes rest =
 abbrev pub TakesWithin : ℕ → Bytes → Option Bytes → Type 0
 TakesWithin most bytes rest = (k : ℕ) × (k ≤ most) × (rest ≡ Some (drop k bytes))
 
--- Where a file is refused for this, so much of it was taken. Of a line that is refused: no byte past the limit, and at most a piece past the
--- line; that the file ends too early isn't known before its end. Of a file that is too long: one byte past the limit.
+-- the bytes are within the limit, and none is left
+abbrev pub IsTakenWhole : Bytes → Option Bytes → Type 0
+IsTakenWhole bytes rest = (length bytes ≤ MAX_STREAM_BYTES) × (rest ≡ Some [])
+
+-- Where a file is refused for this, so much of it was taken. Of a line of a stream that is refused: no byte past the limit, and at most a
+-- piece past the line; that the file ends too early isn't known before its end. Of a line that an edit is refused for: all of it. Of a file
+-- that is too long: one byte past the limit.
 abbrev pub StopsAt : Fault → Bytes → Option Bytes → Type 0
 StopsAt (fault.BadStream n why) bytes rest = TakesWithin MAX_STREAM_BYTES bytes rest × ((why ≡ Truncated → ⊥) → EndsNear n bytes rest)
 StopsAt (fault.Limit which number) bytes rest = TakesWithin MAX_STREAM_BYTES bytes rest
 StopsAt fault.MarksSpent bytes rest = TakesWithin MAX_STREAM_BYTES bytes rest
+StopsAt (fault.BadMessage n) bytes rest = IsTakenWhole bytes rest
+StopsAt (fault.NoSuchTarget n) bytes rest = IsTakenWhole bytes rest
+StopsAt (fault.CheckText n) bytes rest = IsTakenWhole bytes rest
+StopsAt (fault.BadAuthors n) bytes rest = IsTakenWhole bytes rest
 StopsAt (fault.TooLong name limit) bytes rest = rest ≡ Some (drop (MAX_STREAM_BYTES + 1) bytes)
 StopsAt other bytes rest = Unit {0}
 
@@ -51,7 +60,7 @@ StopsNear None refused rest = Unit {0}
 
 -- a file that is read whole is within the limit, and nothing of it is left
 abbrev pub LeavesNothing : Option Bytes → Option Bytes → Type 0
-LeavesNothing file rest = IfSome file (λ bytes. (length bytes ≤ MAX_STREAM_BYTES) × (rest ≡ Some []))
+LeavesNothing file rest = IfSome file (λ bytes. IsTakenWhole bytes rest)
 
 -- no line is refused so far
 abbrev pub GoesOn : StreamMachine → Type 0
@@ -91,21 +100,11 @@ bytes_in files name = option_and_then (λ found. get found name) files
 -- the bytes of the file that a command reads
 abbrev pub bytes_read : Option Files → Command → Option Bytes
 bytes_read files (command.Read file name) = bytes_in files file
-bytes_read files (command.Land file) = bytes_in files file
+bytes_read files (command.EditBy what file) = bytes_in files file
 bytes_read files other = None
-
--- Why a mailbox isn't read. It is judged once it is there as a whole, so only that it is too long says how much of it was taken.
-abbrev pub if_too_long : Option Fault → Option Fault
-if_too_long (Some (fault.TooLong name limit)) = Some (fault.TooLong name limit)
-if_too_long other = None
-
--- why a command stops to read
-abbrev pub stop_of : Command → Option Fault → Option Fault
-stop_of (command.Land file) refused = if_too_long refused
-stop_of other refused = refused
 
 -- of a command that reads a file
 abbrev pub CountsMissOf : Command → Option Fault → StoreState → StoreState → Type 0
 CountsMissOf (command.Read file name) refused s s' = CountsMiss refused s s'
-CountsMissOf (command.Land file) refused s s' = CountsMiss refused s s'
+CountsMissOf (command.EditBy what file) refused s s' = CountsMiss refused s s'
 CountsMissOf other refused s s' = Unit {0}

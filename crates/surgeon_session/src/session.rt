@@ -1,5 +1,5 @@
 //! What a session holds, and one command. What changes the load list alone is a call of it. The parts: `loading` reads
-//! and makes histories, `landing` reads mailboxes, `showing` makes the texts that are written and listed.
+//! and makes histories, `file_edits` reads what an edit is of, `showing` makes the texts that are written and listed.
 ghost use Rattle.std.specs.Prelude.{◌≡◌, ◌≤◌, IfOk, OnErr, OnOk};
 ghost use Rattle.byte_patterns.specs.Judging.{Judges};
 ghost use Rattle.event_sets.specs.Once.{IsOnce};
@@ -17,10 +17,9 @@ ghost use Rattle.surgeon_session.specs.Pieces.{
   StopsNear,
   bytes_read,
   refused,
-  stop_of,
 };
 
-mod landing;
+mod file_edits;
 mod loading;
 mod showing;
 
@@ -186,7 +185,7 @@ impl Session {
             (ReadsNoFile command.now) (λ files. carried self.old files subject.now command.now)
             result self.new (S.state store.new) (T.state out.new) }
         ensures near { StopsNear (bytes_read (S.state store.old).files command.now)
-            (stop_of command.now (refused result)) (S.state store.new).rest }
+            (refused result) (S.state store.new).rest }
         ensures whole { OnOk result (LeavesNothing (bytes_read (S.state store.old).files command.now)
             (S.state store.new).rest) }
         ensures missed { CountsMissOf command.now (refused result) (S.state store.old)
@@ -206,7 +205,7 @@ impl Session {
             }
             Command::Edit { what, .. } => of_answer(self.list.edit(what, subject.ids())),
             Command::Expunge { .. } => of_answer(self.list.expunge(subject.matchers())),
-            Command::Land { file } => Ok(self.land(store, file)?),
+            Command::EditBy { what, file } => Ok(self.edit_by(store, *what, file)?),
             Command::Graft { name, prune, .. } => {
                 of_answer(self.list.graft(name.as_bytes(), subject.ids(), *prune))
             }
@@ -236,9 +235,9 @@ impl Session {
             result self.new (S.state store.new) (T.state out.new)) }
 
         // A refused `read` takes at most one piece of the file past the line that is refused, and no byte past the limit but the one
-        // that shows that the file is too long, and so does `msgin`. One that is done takes all of it.
+        // that shows that the file is too long. An edit that a file says takes all of the file, within the same limit.
         ensures near { StopsNear (bytes_read (S.state store.old).files command.now)
-            (stop_of command.now (refused result)) (S.state store.new).rest }
+            (refused result) (S.state store.new).rest }
         ensures whole { OnOk result (LeavesNothing (bytes_read (S.state store.old).files command.now)
             (S.state store.new).rest) }
 

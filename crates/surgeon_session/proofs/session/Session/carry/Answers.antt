@@ -1,4 +1,4 @@
-use Rattle.history_machine.specs.Sessions.{Session, after_assign, after_choose, after_drop, after_drop_chosen, after_edit, after_land, after_read, after_renumber, chosen, remade, without_paths}
+use Rattle.history_machine.specs.Sessions.{Session, after_assign, after_choose, after_drop, after_drop_chosen, after_edit, after_edit_by, after_read, after_renumber, chosen, remade, without_paths}
 use Rattle.history_machine.specs.Several.{after_dividing, after_joining, after_uniting, grafted_with, halves_of, united_of}
 use Rattle.history_machine.specs.Steps.{carried, changes}
 use Rattle.surgeon_session.specs.Commands.{no_calls}
@@ -15,12 +15,12 @@ returns-in_err-read-in-Read-clause-carries g c =
     rw c.in-Read.is
     (halted_read _ _ _ c.args.self.now c.read.new.self (λ files. after_read c.args.self.now files c.in-Read.file c.in-Read.name) failed.ensures.frame failed.ensures.kept failed.field-0.0 c.from_residual.result c.from_residual.ensures.1 failed.ensures.returns failed.ensures.failed failed.ensures.quiet)
 
-pub returns-in_err-land-in-Land-clause-carries : goal.returns-in_err-land-in-Land-clause-carries
+pub returns-in_err-edit_by-in-EditBy-clause-carries : goal.returns-in_err-edit_by-in-EditBy-clause-carries
 unfolding carried
-returns-in_err-land-in-Land-clause-carries g c =
-    let failed = c.in_err-land-in-Land in
-    rw c.in-Land.is
-    (halted_read _ _ _ c.args.self.now c.land.new.self (λ files. after_land c.args.self.now files c.in-Land.file) failed.ensures.frame failed.ensures.kept failed.field-0.0 c.from_residual-in_err-land-in-Land.result c.from_residual-in_err-land-in-Land.ensures.1 failed.ensures.returns failed.ensures.failed failed.ensures.quiet)
+returns-in_err-edit_by-in-EditBy-clause-carries g c =
+    let failed = c.in_err-edit_by-in-EditBy in
+    rw c.in-EditBy.is
+    (halted_read _ _ _ c.args.self.now c.edit_by.new.self (λ files. after_edit_by c.args.self.now files c.in-EditBy.what c.in-EditBy.file) failed.ensures.frame failed.ensures.kept failed.field-0.0 c.from_residual-in_err-edit_by-in-EditBy.result c.from_residual-in_err-edit_by-in-EditBy.ensures.1 failed.ensures.returns failed.ensures.failed failed.ensures.quiet)
 
 pub returns-in-Choose-clause-carries : goal.returns-in-Choose-clause-carries
 unfolding carried
@@ -144,8 +144,8 @@ unfolding carried
 returns-in_ok-sample-in-Sample-clause-carries g c =
     rw c.in-Sample.is (done_alone no_calls _ _ c.args.self.now c.sample.new.self _ _ tt (λ files. ap changes c.in_ok-sample-in-Sample.ensures.returns))
 
-pub returns-in_ok-land-in-Land-clause-carries : goal.returns-in_ok-land-in-Land-clause-carries
+pub returns-in_ok-edit_by-in-EditBy-clause-carries : goal.returns-in_ok-edit_by-in-EditBy-clause-carries
 unfolding carried
-returns-in_ok-land-in-Land-clause-carries g c =
-    let done = c.in_ok-land-in-Land in
-    rw c.in-Land.is (done_read _ _ _ c.args.self.now c.land.new.self (λ files. after_land c.args.self.now files c.in-Land.file) done.ensures.frame done.ensures.returns done.ensures.quiet)
+returns-in_ok-edit_by-in-EditBy-clause-carries g c =
+    let done = c.in_ok-edit_by-in-EditBy in
+    rw c.in-EditBy.is (done_read _ _ _ c.args.self.now c.edit_by.new.self (λ files. after_edit_by c.args.self.now files c.in-EditBy.what c.in-EditBy.file) done.ensures.frame done.ensures.returns done.ensures.quiet)
