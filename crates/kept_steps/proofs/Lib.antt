@@ -1,5 +1,10 @@
-mod Kept
-mod Left
-mod Loading
-mod Runs
-mod Steps
+pub mod Events
+pub mod Holding
+pub mod Kept
+pub mod Left
+pub mod LoadLists
+pub mod Loading
+pub mod Runs
+pub mod Sources
+pub mod Steps
+pub mod Traced

@@ -1,4 +1,4 @@
--- Which commands keep trees: each commit that is left after one has its files, under its id. (own)
+-- Which commands keep trees: each commit that is left after one has its files. (own)
 use Rattle.std.specs.Prelude.{Bool, true, false, not, Result, Ok, Err}
 use Rattle.plain_model.specs.declared.fault.Fault.{Fault}
 use Rattle.plain_model.specs.declared.policy.Push.{Push}
@@ -15,12 +15,15 @@ use Rattle.script_reader.specs.declared.edit.Edit.TheVariants as edit
 
 -- ---- edits
 
--- an edit that keeps every commit with its tree: a `reparent` without `--rebase`, a `merge`, an `unmerge`, a `simplify`
+-- an edit that keeps every commit with its tree: a `reparent` without `--rebase`, a `merge`, an `unmerge`, a `simplify`, a `timeoffset`, a
+-- `setfield`
 abbrev pub edit_keeps_commits : Edit → Bool
 edit_keeps_commits (edit.Reparent how) = not how.rebase
 edit_keeps_commits edit.Merge = true
 edit_keeps_commits edit.Unmerge = true
 edit_keeps_commits edit.Simplify = true
+edit_keeps_commits (edit.TimeOffset seconds place) = true
+edit_keeps_commits (edit.SetField value) = true
 edit_keeps_commits other = false
 
 -- what removed commits had goes on to those after them
@@ -37,12 +40,12 @@ edit_keeps_trees other = edit_keeps_commits other
 
 -- ---- commands
 
--- a command that is such an edit, or else is no `expunge`, `graft`, `unite` or `divide`
+-- a command that is such an edit, a `graft` or a `unite` with `--prune`, or else no `expunge` and no `divide`
 abbrev pub by_its_edit : (Edit → Bool) → Command → Bool
 by_its_edit keeps (command.Edit selection what) = keeps what
 by_its_edit keeps (command.Expunge words) = false
-by_its_edit keeps (command.Graft selection name prune) = false
-by_its_edit keeps (command.Unite names prune) = false
+by_its_edit keeps (command.Graft selection name prune) = prune
+by_its_edit keeps (command.Unite names prune) = prune
 by_its_edit keeps (command.Divide selection) = false
 by_its_edit keeps other = true
 

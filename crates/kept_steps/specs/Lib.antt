@@ -1,3 +1,5 @@
+pub mod Changing
+pub mod Following
 pub mod Keeping
-pub mod Remaining
+pub mod Origins
 pub mod Requests
