@@ -90,14 +90,12 @@ fn settle<F: Write + OpenFile>(file: &mut F) -> io::Result<()> {
     }
 }
 
-// The place of a regular file, or of none; a link is followed. Whatever else is there is written directly, and so is
-// what couldn't be written itself, so that the system says why.
+// The place of a regular file, or of none; a link is followed. Whatever else is there is written directly. What can't be
+// looked at, or not be written itself, is a fault: to write it directly would empty an older file before the next call fails.
 fn place_of<R: Files>(alloc: Global, rt: &R, name: &str) -> io::Result<Option<Place>> {
     match rt.metadata(name) {
         Ok(found) if found.is_file() => {
-            if OpenOptions::new().write(true).open(rt, name).is_err() {
-                return Ok(None);
-            }
+            let _ = OpenOptions::new().write(true).open(rt, name)?;
             let path = rt.canonicalize(alloc, name)?;
             Ok(Some(Place {
                 path,
@@ -105,19 +103,23 @@ fn place_of<R: Files>(alloc: Global, rt: &R, name: &str) -> io::Result<Option<Pl
             }))
         }
         Ok(_) => Ok(None),
-        Err(error) => match error.kind() {
-            ErrorKind::OutOfMemory => Err(error),
-            // Nothing is there, not even a link.
-            ErrorKind::NotFound if rt.symlink_metadata(name).is_err() => {
-                let path = PathBuf::from_str(alloc, name)?;
-                Ok(Some(Place {
-                    path,
-                    permissions: None,
-                }))
-            }
-            // A link to nothing, and what can't be looked at, are written directly.
-            _ => Ok(None),
-        },
+        Err(error) if error.kind() == ErrorKind::NotFound => place_of_none(alloc, rt, name),
+        Err(error) => Err(error),
+    }
+}
+
+// The place of a file where a link leads to nothing, which is written directly, or where nothing is.
+fn place_of_none<R: Files>(alloc: Global, rt: &R, name: &str) -> io::Result<Option<Place>> {
+    match rt.symlink_metadata(name) {
+        Ok(_) => Ok(None),
+        Err(error) if error.kind() == ErrorKind::NotFound => {
+            let path = PathBuf::from_str(alloc, name)?;
+            Ok(Some(Place {
+                path,
+                permissions: None,
+            }))
+        }
+        Err(error) => Err(error),
     }
 }
 
