@@ -65,7 +65,7 @@ fn id_number(id: AnyId) -> u64
     }
 }
 
-/// One above the greatest number of an id, or 1 for an empty table.
+/// One above the greatest number of an id, or 1 for an empty table. It looks at no event.
 pub fn next_number(table: &EventTable) -> u64
     requires { AreIdsBelow (2 ^ 62) table.now }
     ensures value { result ≡ next_number table.now }
@@ -73,7 +73,7 @@ pub fn next_number(table: &EventTable) -> u64
 {
     let mut next: u64 = 1;
     for place in 0..table.count() {
-        next = next.max(id_number(table.nth(place).id()) + 1);
+        next = next.max(id_number(table.id_at(place)) + 1);
     }
     next
 }

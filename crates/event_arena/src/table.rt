@@ -202,6 +202,15 @@ impl EventTable {
         self.row(place).as_ref()
     }
 
+    /// The id of the event at this place, from 0, without a look at the event.
+    pub(crate) fn id_at(&self, place: usize) -> AnyId
+        requires { place < length self.now }
+        ensures { (event : _) × (slice_get self.now place ≡ Some event) × (result ≡ id_of event) }
+    {
+        let _count = self.count();
+        self.rows.as_ref()[place].id
+    }
+
     /// The event with the number, from 1. `None` exactly where the list has no such number.
     pub fn event_numbered(&self, number: u64) -> Option<&PlainEvent>
         ensures event { option_map (λ event. event.now) result ≡ numbered number self.now }
