@@ -1,6 +1,6 @@
 /* Makes calls of the system fail in a program that this is loaded before: those on files and on what is open, but for standard error.
-   Calls are counted from 1. FAIL_AT names one that fails, with the error of the number in FAIL_WITH; where FAIL_ON is set, all after it
-   fail, too; where STOP is set, the process ends there at once. Where PIECE is set, a call reads or writes so many bytes at most. Into
+   Calls are counted from 1. FAIL_AT names one that fails, with the error of the number in FAIL_WITH, and FAIL_TOO a later one that fails
+   as well; where FAIL_ON is set, all after it fail; where STOP is set, the process ends there at once. Where PIECE is set, a call reads or writes so many bytes at most. Into
    the file that CALLS_TO names goes a line for each call: its name, and a path or the number of what is open. tests/failing uses it. */
 #define _GNU_SOURCE
 #include <dlfcn.h>
@@ -43,7 +43,7 @@ static int fails(const char *call, const char *path, int open)
     long at = number_in("FAIL_AT", 0);
     count++;
     note(call, path, open);
-    if (at == 0 || count < at || (count > at && !getenv("FAIL_ON")))
+    if (at == 0 || count < at || (count > at && count != number_in("FAIL_TOO", 0) && !getenv("FAIL_ON")))
         return 0;
     if (getenv("STOP"))
         syscall(SYS_exit_group, 99);
