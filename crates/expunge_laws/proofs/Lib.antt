@@ -12,6 +12,7 @@ pub mod InTurn
 pub mod MovedPaths
 pub mod Nearby
 pub mod OpsAgain
+pub mod OpsOutside
 mod ParentsLeft
 pub mod Replacing
 pub mod Sides

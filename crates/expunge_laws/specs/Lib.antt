@@ -1,3 +1,4 @@
+pub mod Apart
 pub mod Examples
 pub mod Expunged
 pub mod InLine

@@ -2,11 +2,13 @@
 //! and laws of them. Each function's contract is a law, or an example that the checker computes.
 #![tactic(auto)]
 
+mod apart;
 mod examples;
 mod forward;
 mod laws;
 mod operations;
 
+pub use apart::what_names_matched_paths_goes;
 pub use examples::{
     a_merge_begins_without_files, a_tag_goes_to_the_child, an_expunge_of_nothing_changes_nothing,
     an_only_branch_leaves, folders_and_copies_are_written_out, merges_stay,
