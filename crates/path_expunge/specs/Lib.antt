@@ -1,3 +1,4 @@
+pub mod Apart
 pub mod Fates
 pub mod Forms
 pub mod Tests

@@ -10,9 +10,12 @@ ghost use Rattle.plain_model.specs.Histories.{begun, tree};
 ghost use Rattle.plain_model.specs.Lookups.{find_event, id_of};
 ghost use Rattle.plain_model.specs.Soundness.{IsCommitOf};
 
+use crate::leaving::leave_out;
 use crate::matching::Matching;
+use crate::naming::named_apart;
 use crate::replacing::{may_touch, replaced_all};
 use event_arena::{Events, Plan};
+use expunge_laws::what_names_matched_paths_goes;
 use manifest_cache::Manifests;
 use path_tree::PathTree;
 use plain_model::{CommitId, FileOp, NoMemory, PlainEvent, Steps};
@@ -95,8 +98,8 @@ fn replace_at(
     plan.set_ops(*id, made)
 }
 
-/// Gives all commits what is in the place of their operations, in one pass.
-pub fn replace_ops(
+// Gives all commits what is in the place of their operations, in one pass.
+fn replace_with_trees(
     alloc: Global,
     events: &Events,
     manifests: &mut Manifests,
@@ -122,4 +125,28 @@ pub fn replace_ops(
         )?;
     }
     Ok(())
+}
+
+/// Gives all commits what is in the place of their operations. Where the paths of a history stand apart, as in nearly
+/// each one, what names a matched path just goes, and no tree is asked for.
+pub fn replace_ops(
+    alloc: Global,
+    events: &Events,
+    manifests: &mut Manifests,
+    matching: &mut Matching<'_>,
+    plan: &mut Plan,
+) -> Result<(), NoMemory>
+    requires agrees { AgreesWith events.now.list manifests.old }
+    requires whole { plan.old.after ≡ events.now.list }
+    ensures changed { OnOk result (plan.new ≡ record plan.old {
+      after = replaced_events (matched_by matching.old) events.now.list;
+    }) }
+    ensures kept { AgreesWith events.now.list manifests.new }
+{
+    let _count = events.count();
+    if let Some(named) = named_apart(alloc, events, matching)? {
+        what_names_matched_paths_goes();
+        return leave_out(alloc, events, &named, plan);
+    }
+    replace_with_trees(alloc, events, manifests, matching, plan)
 }

@@ -8,7 +8,7 @@ use Rattle.expunge_laws.specs.Expunged.{replaced_event}
 use Rattle.expunge_laws.specs.Matching.{Matches, matched_by}
 use Rattle.path_expunge.proofs.Nodes.{replaced_id}
 use Rattle.plan_steps.proofs.Steps.{step_changed, step_found}
-use Rattle.path_expunge.proofs.commits.replace_ops.Goals as goal
+use Rattle.path_expunge.proofs.commits.replace_with_trees.Goals as goal
 
 pub replace_at-requires-clause-found : goal.replace_at-requires-clause-found
 replace_at-requires-clause-found c =

@@ -3,7 +3,7 @@ use Rattle.expunge_laws.specs.Expunged.{replaced_event}
 use Rattle.manifest_cache.specs.Kept.{AgreesWith}
 use Rattle.expunge_laws.specs.Matching.{matched_by}
 use Rattle.plan_steps.proofs.Steps.{so_far}
-use Rattle.path_expunge.proofs.commits.replace_ops.Given as goal
+use Rattle.path_expunge.proofs.commits.replace_with_trees.Given as goal
 
 abbrev pub invariant-loop-place : goal.invariant-loop-place
 invariant-loop-place l = record {

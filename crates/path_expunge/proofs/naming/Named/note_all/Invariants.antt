@@ -1,0 +1,13 @@
+use Rattle.std.proofs.Common.{◌≡◌, ◌∷◌, [], take}
+use Rattle.std.specs.List.{AllByRecursion}
+use Rattle.expunge_laws.specs.Apart.{AllOps}
+use Rattle.expunge_laws.specs.Matching.{matched_by}
+use Rattle.path_expunge.specs.Apart.{AreSides, IsNoted}
+use Rattle.path_expunge.proofs.naming.Named.note_all.Given as goal
+
+abbrev pub invariant-loop-place : goal.invariant-loop-place
+invariant-loop-place l = record {
+  same : l.matching ≡ l.fn.matching;
+  sides : AreSides (matched_by l.fn.matching) l.self;
+  noted : AllByRecursion (λ e. AllOps (IsNoted l.self) (e ∷ [])) (take l.place l.events.list);
+}

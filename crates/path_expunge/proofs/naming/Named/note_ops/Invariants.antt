@@ -1,0 +1,13 @@
+use Rattle.std.proofs.Common.{◌≡◌, take}
+use Rattle.std.specs.List.{AllByRecursion}
+use Rattle.expunge_laws.specs.Matching.{matched_by}
+use Rattle.path_expunge.specs.Apart.{AreSides, GoesOn, IsNoted}
+use Rattle.path_expunge.proofs.naming.Named.note_ops.Given as goal
+
+abbrev pub invariant-loop-op : goal.invariant-loop-op
+invariant-loop-op l = record {
+  same : l.matching ≡ l.fn.matching;
+  sides : AreSides (matched_by l.fn.matching) l.self;
+  more : GoesOn l.fn.self l.self;
+  noted : AllByRecursion (IsNoted l.self) (take l.op-index l.ops);
+}
