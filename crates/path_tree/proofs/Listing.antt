@@ -3,7 +3,7 @@ use Rattle.std.proofs.Common.{◌≡◌, ℕ, true, cond, List, [], ◌∷◌, �
 use Rattle.std.specs.Option.{option_or}
 use Rattle.plain_model.specs.declared.operation.Entry.{Entry}
 use Rattle.plain_model.specs.Paths.{Bytes, IsPath}
-use Rattle.plain_model.specs.Trees.{Tree, at}
+use Rattle.plain_model.specs.Trees.{Tree, TreeOf, at}
 use Rattle.path_tree.specs.declared.folder.Child.{Child}
 use Rattle.path_tree.specs.Folders.{Member, prefixed, member_tree, flat, total, Fits, AllFit}
 use Rattle.path_tree.specs.Folders.Member.{file, folder}
@@ -12,7 +12,7 @@ use Rattle.history_laws.specs.SoundTrees.{AllPaths}
 use Rattle.history_laws.proofs.TreeMaps.{some_second}
 use Rattle.path_tree.proofs.Keys.{at_append, tied}
 use Rattle.path_tree.specs.Falls.{total_append, total_prefixed, key_long}
-use Rattle.path_tree.proofs.Measures.{flat_push}
+use Rattle.path_tree.proofs.Measures.{flat_append, flat_push}
 
 pub prefixed_append : (k : Bytes) (a b : Tree) → prefixed k (a ++ b) ≡ prefixed k a ++ prefixed k b
 prefixed_append k [] b = refl
@@ -68,3 +68,7 @@ smaller child rest t n is fit h =
 
 pub less_left : (child : Child) (rest : List Child) (n : ℕ) → total (flat (rows_of (child ∷ rest))) ≤ n → total (flat (rows_of rest)) ≤ n
 less_left child rest n h = omega (arith, h, total_append (row_tree child) (flat (rows_of rest)))
+
+-- the paths of one part of the rows, and then those of the other
+pub parts_are : (before : Bytes) (a b : TreeOf Member) → prefixed before (flat (a ++ b)) ≡ prefixed before (flat a) ++ prefixed before (flat b)
+parts_are before a b = ap (prefixed before) (flat_append a b) ∙ prefixed_append before (flat a) (flat b)

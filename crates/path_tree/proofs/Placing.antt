@@ -1,5 +1,5 @@
 -- What is put at a path, key by key.
-use Rattle.std.proofs.Common.{◌≡◌, ℕ, ◌==◌, Bool, true, false, cond, not, [], ◌∷◌, ◌++◌, length, drop, refl, sym, ap, ◌∙◌, Option, Some, None, true≢false, bytes_eq, eq-eqb, append-nil, append_assoc}
+use Rattle.std.proofs.Common.{arith, ◌≡◌, ℕ, ◌==◌, Bool, true, false, cond, not, [], ◌∷◌, ◌++◌, length, drop, refl, sym, ap, ◌∙◌, Option, Some, None, is_some, option_map, subst, true≢false, bytes_eq, eq-eqb, append-nil, append_assoc}
 use Rattle.std.specs.Prelude.{◌&&◌, ◌||◌}
 use Rattle.std.proofs.lemmas.Slice.Eq.{bytes_eq-Decides}
 use Rattle.std.proofs.Math.Bool.{and-false}
@@ -10,9 +10,9 @@ use Rattle.history_laws.proofs.PathLaws.{below_after}
 use Rattle.plain_model.proofs.Numbers.{eqb_turned}
 use Rattle.path_tree.specs.Folders.{Member, key_of, rest_of, is_file_key, is_folder_key, at_member, filled, tree_under, flat, AreSound}
 use Rattle.path_tree.specs.Folders.Member.{file, folder}
-use Rattle.path_tree.specs.Setting.{name_of, suffixes, expected, HasNone, Places, PlacesBelow, PutsUnder, FitsIf}
+use Rattle.path_tree.specs.Setting.{name_of, suffixes, expected, HasNone, Places, PlacesBelow, PutsOver, PutsUnder, FitsIf}
 use Rattle.path_tree.proofs.Keys.{whole, at_prefixed, at_flat, folder_all, AllSplit}
-use Rattle.path_tree.proofs.Looking.{at_filled, at_tree_under, fits_at}
+use Rattle.path_tree.proofs.Looking.{length_both, at_filled, at_tree_under, fits_at}
 use Rattle.path_tree.proofs.Setting.{not_slash, on_the_way, after_path}
 
 -- ---- paths that begin with the same key
@@ -255,26 +255,61 @@ here_places p m clear old new name here q =
 
 -- ---- the two keys of a name
 
-both_puts : (k l : Bytes) (m n : Option Member) (old mid new : Tree) → PutsUnder k m old mid → PutsUnder l n mid new → (q : Bytes)
-    → at new q ≡ cond (bytes_eq l (key_of q)) (at_member n (rest_of q)) (cond (bytes_eq k (key_of q)) (at_member m (rest_of q)) (at old q))
-both_puts k l m n old mid new one other q = other q ∙ ap (λ o. cond (bytes_eq l (key_of q)) (at_member n (rest_of q)) o) (one q)
+bytes_apart : (k l : Bytes) → bytes_eq l k ≡ false → bytes_eq k l ≡ false
+bytes_apart k l h = by (bytes_eq k l) refl
+  where
+    by : (t : Bool) → bytes_eq k l ≡ t → bytes_eq k l ≡ false
+    by true e = absurd (true≢false (sym ((bytes_eq-Decides l k).1 (sym ((bytes_eq-Decides k l).0 e))) ∙ h))
+    by false e = e
+
+-- nothing was found under the key
+pub not_there : {A : Type 0} (f : A → Member) (o : Option A) (b : Bool) (key : Bytes) (rows : TreeOf Member) (tree : Tree) → flat rows ≡ tree → AreSound rows
+    → option_map f o ≡ at rows key → b ≡ is_some o → b ≡ false → HasNone key tree
+not_there f None b key rows tree is s found some not_so = subst (λ (t : Tree). HasNone key t) is (none_below key rows s (sym found))
+not_there f (Some x) b key rows tree is s found some not_so = absurd (true≢false (sym some ∙ not_so))
+
+-- on the way there is no file
+pub way_kept : (p : Bytes) (m : Option Member) (clear : Bool) (old mid : Tree) → is_empty (rest_of p) ≡ false
+    → PlacesBelow (key_of p) (rest_of p) m clear old mid → (clear ≡ true → HasNone (name_of p) old) → (q : Bytes)
+    → at mid q ≡ cond (clear && bytes_eq (name_of p) (key_of q)) None (at mid q)
+way_kept p m false old mid some below none q = refl
+way_kept p m true old mid some below none q = by (bytes_eq (name_of p) (key_of q)) refl
+  where
+    by : (t : Bool) → bytes_eq (name_of p) (key_of q) ≡ t → at mid q ≡ cond t None (at mid q)
+    by true e =
+        below q
+        ∙ ap (λ t. cond t (expected (rest_of p) m true (at old q) (rest_of q)) (at old q))
+        (bytes_apart (key_of p) (key_of q) (ap (λ (k : Bytes). bytes_eq k (key_of p)) (sym ((bytes_eq-Decides (name_of p) (key_of q)).0 e)) ∙ name_apart p some))
+        ∙ none refl q e
+    by false e = refl
+
+-- a name isn't itself with a slash
+pub long_apart : (p : Bytes) → bytes_eq p (p ++ 47 ∷ []) ≡ false
+long_apart p = by (bytes_eq p (p ++ 47 ∷ [])) refl
+  where
+    by : (t : Bool) → bytes_eq p (p ++ 47 ∷ []) ≡ t → bytes_eq p (p ++ 47 ∷ []) ≡ false
+    by true e = absurd (omega (arith, ap (λ (l : Bytes). length l) ((bytes_eq-Decides p (p ++ 47 ∷ [])).0 e), length_both p (47 ∷ [])))
+    by false e = e
+
+pub short_apart : (p : Bytes) → bytes_eq (p ++ 47 ∷ []) p ≡ false
+short_apart p = by (bytes_eq (p ++ 47 ∷ []) p) refl
+  where
+    by : (t : Bool) → bytes_eq (p ++ 47 ∷ []) p ≡ t → bytes_eq (p ++ 47 ∷ []) p ≡ false
+    by true e = absurd (omega (arith, ap (λ (l : Bytes). length l) ((bytes_eq-Decides (p ++ 47 ∷ []) p).0 e), length_both p (47 ∷ [])))
+    by false e = e
 
 picked : (s t a b : Bool) (x y z : Option Entry) → s ≡ a → t ≡ b → cond s x (cond t y z) ≡ cond a x (cond b y z)
 picked s t a b x y z e f = ap (λ s. cond s x (cond t y z)) e ∙ ap (λ t. cond a x (cond t y z)) f
 
-pub nothing_here : (p : Bytes) (old mid new : Tree) → PutsUnder p None old mid → PutsUnder (p ++ 47 ∷ []) None mid new → IsHere p None old new
-nothing_here p old mid new one other = record {
+pub nothing_here : (p : Bytes) (old new : Tree) → PutsOver p (p ++ 47 ∷ []) None old new → IsHere p None old new
+nothing_here p old new both = record {
   at_name = λ q e f r. both q ∙ picked _ _ false true None None (at old q) f e;
   below = λ q e f. both q ∙ picked _ _ true false None None (at old q) f e;
   elsewhere = λ q e f. both q ∙ picked _ _ false false None None (at old q) f e;
 }
-  where
-    both : (q : Bytes) → at new q ≡ cond (bytes_eq (p ++ 47 ∷ []) (key_of q)) None (cond (bytes_eq p (key_of q)) None (at old q))
-    both = both_puts p (p ++ 47 ∷ []) None None old mid new one other
 
-pub file_here : (p : Bytes) (x : Entry) (old mid new : Tree) → PutsUnder p (Some (file x)) old mid → PutsUnder (p ++ 47 ∷ []) None mid new
-    → IsHere p (Some (file x)) old new
-file_here p x old mid new one other = record {
+pub file_here : (p : Bytes) (x : Entry) (old new : Tree) → PutsOver p (p ++ 47 ∷ []) (Some (file x)) old new → IsHere p (Some (file x)) old new
+file_here p x old new both = record {
   at_name = λ q e f r. both q ∙ picked _ _ false true None (here (rest_of q)) (at old q) f e ∙ ap here r;
   below = λ q e f. both q ∙ picked _ _ true false None (here (rest_of q)) (at old q) f e;
   elsewhere = λ q e f. both q ∙ picked _ _ false false None (here (rest_of q)) (at old q) f e;
@@ -283,12 +318,8 @@ file_here p x old mid new one other = record {
     here : Bytes → Option Entry
     here r = at (([], x) ∷ []) r
 
-    both : (q : Bytes) → at new q ≡ cond (bytes_eq (p ++ 47 ∷ []) (key_of q)) None (cond (bytes_eq p (key_of q)) (here (rest_of q)) (at old q))
-    both = both_puts p (p ++ 47 ∷ []) (Some (file x)) None old mid new one other
-
-pub folder_here : (p : Bytes) (t old mid new : Tree) → PutsUnder (p ++ 47 ∷ []) (Some (folder t)) old mid → PutsUnder p None mid new
-    → IsHere p (Some (folder t)) old new
-folder_here p t old mid new one other = record {
+pub folder_here : (p : Bytes) (t old new : Tree) → PutsOver (p ++ 47 ∷ []) p (Some (folder t)) old new → IsHere p (Some (folder t)) old new
+folder_here p t old new both = record {
   at_name = λ q e f r. both q ∙ picked _ _ true false None (at t (rest_of q)) (at old q) e f ∙ sym (at_prefixed [] (47 ∷ []) t split);
   below = λ q e f. both q ∙ picked _ _ false true None (at t (rest_of q)) (at old q) e f ∙ sym (at_prefixed (47 ∷ rest_of q) (47 ∷ []) t split);
   elsewhere = λ q e f. both q ∙ picked _ _ false false None (at t (rest_of q)) (at old q) e f;
@@ -296,9 +327,6 @@ folder_here p t old mid new one other = record {
   where
     split : AllSplit (47 ∷ []) t
     split = folder_all (47 ∷ []) t refl
-
-    both : (q : Bytes) → at new q ≡ cond (bytes_eq p (key_of q)) None (cond (bytes_eq (p ++ 47 ∷ []) (key_of q)) (at t (rest_of q)) (at old q))
-    both = both_puts (p ++ 47 ∷ []) p (Some (folder t)) None old mid new one other
 
 -- the name with a slash is a folder's key
 pub long_key : (p : Bytes) → is_file_key p ≡ true → is_folder_key (p ++ 47 ∷ []) ≡ true

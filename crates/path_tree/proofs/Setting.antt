@@ -1,5 +1,5 @@
 -- Where a path leads, key by key.
-use Rattle.std.proofs.Common.{◌≡◌, ℕ, ◌==◌, Bool, true, false, cond, not, [], ◌∷◌, ◌++◌, length, drop, refl, sym, ap, subst, ◌∙◌, true≢false, append-nil, eqb-true, eq-eqb, bytes_eq}
+use Rattle.std.proofs.Common.{◌≡◌, ℕ, ◌==◌, Bool, true, false, cond, not, [], ◌∷◌, ◌++◌, length, drop, refl, sym, ap, subst, ◌∙◌, true≢false, append-nil, eqb-true, bytes_eq}
 use Rattle.std.specs.Prelude.{◌&&◌}
 use Rattle.plain_model.specs.Paths.{Bytes, is_empty, is_below}
 use Rattle.plain_model.proofs.Numbers.{eqb_turned}

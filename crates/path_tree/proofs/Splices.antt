@@ -33,7 +33,7 @@ module _ {X : Type 0} where
   at_own k None = refl
   at_own k (Some x) = ap (λ t. cond t (Some x) None) (turned_bytes k k ∙ (bytes_eq-Decides k k).1 refl)
 
-  or_none : (o : Option X) → option_or o None ≡ o
+  pub or_none : (o : Option X) → option_or o None ≡ o
   or_none None = refl
   or_none (Some x) = refl
 

@@ -1,16 +1,17 @@
 -- The children of a folder as rows: each key with what is under it.
-use Rattle.std.specs.Prelude.{Bool, true, false, is_some, ◌≡◌, ℕ, ◌≤◌, ◌<◌, T, List, [], ◌∷◌, ◌++◌, length, take, drop, slice_index_or, Option, None, Some}
-use Rattle.std.specs.Ordering.{nat_cmp}
+use Rattle.std.specs.Prelude.{Bool, not, MatchOption, ◌+◌, true, false, is_some, ◌≡◌, ℕ, ◌≤◌, ◌<◌, T, List, [], ◌∷◌, ◌++◌, length, take, drop, slice_index_or, Option, None, Some}
+use Rattle.std.specs.Ordering.{nat_cmp, is_lt}
 use Rattle.std.specs.declared.cmp.Ordering.TheVariants.{Less}
 use Rattle.std.specs.Cmp.Lexicographic.{slice_cmp}
 use Rattle.std.specs.FinMap.Entries as entries
 use Rattle.plain_model.specs.Paths.{Bytes}
 use Rattle.plain_model.specs.Trees.{Tree, TreeOf, at}
 use Rattle.path_tree.specs.declared.folder.Child.{Child}
+use Rattle.path_tree.specs.declared.folder.Children.{Children}
 use Rattle.path_tree.specs.declared.folder.extent.Change.{Change}
 use Rattle.path_tree.specs.Folders.{Member, flat, filled, tree_under}
 use Rattle.path_tree.specs.Folders.Member.{file, folder}
-use Rattle.path_tree.specs.Inside.{extent_of, rows_of}
+use Rattle.path_tree.specs.Inside.{extent_of, rows_of, rows_in}
 use Rattle.path_tree.specs.PathMaps.{IsInOrder}
 use Rattle.path_tree.specs.Setting.{Places}
 
@@ -40,6 +41,33 @@ pub record IsPlace (key : Bytes) (children : List Child) (i : ℕ) : Type 0 wher
   pub before : AllBefore key (rows_of (take i children))
   pub after : AllAfter key (rows_of (drop i children))
 
+-- ---- blocks
+
+-- the block's first key isn't after the key
+abbrev pub begins_by : Bytes → TreeOf Member → Bool
+begins_by key [] = true
+begins_by key (r ∷ rs) = not (is_lt (slice_cmp nat_cmp key r.0))
+
+-- all rows with the key are in the block at the index
+pub record IsBlockAt (key : Bytes) (children : Children) (i : ℕ) : Type 0 where
+  pub within : i < length children.rest.items
+  pub before : AllBefore key (rows_of children.first.items ++ rows_in (take i children.rest.items))
+  pub after : AllAfter key (rows_in (drop (i + 1) children.rest.items))
+
+-- or in the first block
+abbrev pub IsBlock : Bytes → Children → Option ℕ → Type 0
+IsBlock key children place = MatchOption place (AllAfter key (rows_in children.rest.items)) (IsBlockAt key children)
+
+-- the block has all rows with the key
+pub record IsAround (key : Bytes) (rows block : TreeOf Member) : Type 0 where
+  pub before : TreeOf Member
+  pub after : TreeOf Member
+  pub all_before : AllBefore key before
+  pub all_after : AllAfter key after
+  pub is : rows ≡ before ++ (block ++ after)
+
+-- ---- changes
+
 -- the key has another member than it had, or none, and the rows around it stay
 pub record IsExchange (key : Bytes) (new : Option Member) (change : Change) (old_rows new_rows : TreeOf Member) : Type 0 where
   pub old : Option Member
@@ -58,6 +86,11 @@ pub record IsSetBelow (key path : Bytes) (member : Option Member) (clear : Bool)
   pub in_order : IsInOrder tree
   pub places : Places path member clear (tree_under (at old_rows key)) tree
   pub exchange : IsExchange key (filled tree) change old_rows new_rows
+
+-- and nothing changes where no folder is under the key
+abbrev pub IsSetUnder : Bytes → Bytes → Option Member → Bool → Option Change → TreeOf Member → TreeOf Member → Type 0
+IsSetUnder key path member clear change old_rows new_rows =
+    MatchOption change ((at old_rows key ≡ None) × (new_rows ≡ old_rows)) (λ change. IsSetBelow key path member clear change old_rows new_rows)
 
 abbrev pub is_folder : Member → Bool
 is_folder (file entry) = false

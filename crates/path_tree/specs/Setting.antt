@@ -55,6 +55,11 @@ abbrev pub PutsUnder : Bytes → Option Member → Tree → Tree → Type 0
 PutsUnder key member old new =
     (q : Bytes) → at new q ≡ (if bytes_eq key (key_of q) then at_member member (rest_of q) else at old q)
 
+-- and nothing is under the other key
+abbrev pub PutsOver : Bytes → Bytes → Option Member → Tree → Tree → Type 0
+PutsOver key other member old new =
+    (q : Bytes) → at new q ≡ (if bytes_eq other (key_of q) then None else if bytes_eq key (key_of q) then at_member member (rest_of q) else at old q)
+
 -- nothing is under the key
 abbrev pub HasNone : Bytes → Tree → Type 0
 HasNone key tree = (q : Bytes) → bytes_eq key (key_of q) ≡ true → at tree q ≡ None

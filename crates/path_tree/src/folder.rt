@@ -1,7 +1,8 @@
 //! A folder, seen as the tree of the paths below it.
 ghost use Rattle.std.specs.Prelude.{◌≡◌, []};
 
-mod children;
+mod block;
+mod blocks;
 mod extent;
 mod finding;
 mod listing;
@@ -18,8 +19,16 @@ use std::rc::Rc;
 #[derive(Drop)]
 #[cycle(tree)]
 pub struct Folder {
-    children: Vec<Child>,
+    children: Children,
     extent: Extent,
+}
+
+/// The children in blocks: the first ones, and where there are more, blocks that may have several owners.
+#[derive(Drop)]
+#[cycle(tree)]
+pub struct Children {
+    first: Vec<Child>,
+    rest: Vec<Rc<Vec<Child>>>,
 }
 
 /// A file under its name, or a folder under its name with a slash after it.
@@ -63,7 +72,10 @@ impl Folder {
         ensures { result ≡ [] }
     {
         Folder {
-            children: Vec::new(alloc),
+            children: Children {
+                first: Vec::new(alloc),
+                rest: Vec::new(alloc),
+            },
             extent: Extent {
                 count: 0,
                 longest: 0,

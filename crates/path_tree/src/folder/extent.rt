@@ -3,12 +3,13 @@ ghost use Rattle.std.specs.Prelude.{◌≡◌, ℕ, ◌++◌, length, max, IfSom
 ghost use Rattle.plain_model.specs.Paths.{Bytes};
 ghost use Rattle.plain_model.specs.Trees.{Tree, TreeOf};
 ghost use Rattle.path_tree.specs.Folders.{Member, flat, longest, member_tree, prefixed, AllFit, Fits};
-ghost use Rattle.path_tree.specs.Inside.{bounded, extent_of, rows_of, member_of};
+ghost use Rattle.path_tree.specs.Inside.{all_rows, bounded, extent_of, rows_of, rows_in, member_of};
 ghost use Rattle.path_tree.specs.PathMaps.{IsInOrder};
 ghost use Rattle.path_tree.specs.Rows.{IsExchange};
 ghost use Rattle.path_tree.specs.Setting.{FitsIf};
 
-use super::{Child, Folder, Node};
+use super::{Child, Children, Folder, Node};
+use std::rc::Rc;
 
 /// How many paths there are, and how many bytes the longest of them has; either stays at the greatest
 /// number where it would be more.
@@ -99,16 +100,42 @@ fn counted(children: &[Child]) -> Extent
     extent
 }
 
+/// The extent of all that is below the children of the blocks.
+fn counted_blocks(blocks: &[Rc<Vec<Child>>]) -> Extent
+    requires { AllFit (rows_in blocks.now) }
+    ensures { result ≡ extent_of (flat (rows_in blocks.now)) }
+{
+    let mut extent = Extent {
+        count: 0,
+        longest: 0,
+    };
+    for block in blocks {
+        extent = joined(extent, counted(block.as_slice()));
+    }
+    extent
+}
+
+/// The extent of all that is below the children.
+fn counted_all(children: &Children) -> Extent
+    requires { AllFit (all_rows children.now) }
+    ensures { result ≡ extent_of (flat (all_rows children.now)) }
+{
+    joined(
+        counted(children.first.as_slice()),
+        counted_blocks(children.rest.as_slice()),
+    )
+}
+
 /// The extent of the children after a change. Only where the longest path went, or the count is at the
 /// greatest number, are they looked at.
-pub(super) fn recounted(before: Extent, change: Change, children: &[Child]) -> Extent
-    requires { AllFit (rows_of children.now) }
+pub(super) fn recounted(before: Extent, change: Change, children: &Children) -> Extent
+    requires { AllFit (all_rows children.now) }
     ensures { (key : Bytes) (new : Option Member) (old : TreeOf Member) → before ≡ extent_of (flat old) →
-        IsExchange key new change old (rows_of children.now) → result ≡ extent_of (flat (rows_of children.now)) }
+        IsExchange key new change old (all_rows children.now) → result ≡ extent_of (flat (all_rows children.now)) }
 {
     match exchanged(before, change) {
         Some(extent) => extent,
-        None => counted(children),
+        None => counted_all(children),
     }
 }
 

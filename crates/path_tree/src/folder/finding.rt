@@ -5,7 +5,8 @@ ghost use Rattle.plain_model.specs.Paths.{Bytes};
 ghost use Rattle.path_tree.specs.Setting.{ends_with_slash};
 ghost use Rattle.plain_model.specs.Trees.{at};
 
-use super::children::{find, folder_under, key_len};
+use super::block::key_len;
+use super::blocks::{find, folder_under};
 use super::{Folder, Node};
 use plain_model::Entry;
 use std::rc::Rc;
@@ -15,10 +16,9 @@ impl Folder {
     pub fn get(&self, path: &[u8]) -> Option<Entry>
         ensures { result ≡ at self.now path.now }
     {
-        let children = self.children.as_slice();
         let len = key_len(path);
         let (key, rest) = path.split_at(len);
-        match find(children, key) {
+        match find(&self.children, key) {
             None => None,
             Some(Node::File(entry)) => { if rest.is_empty() { Some(*entry) } else { None } }
             Some(Node::Subfolder(below)) => below.get(rest),
@@ -31,9 +31,8 @@ impl Folder {
         ensures { (r : Bytes) → at self.now (path.now ++ r)
             ≡ at (unwrap_or (option_map (λ f. f.now.value) result) []) r }
     {
-        let children = self.children.as_slice();
         let (key, rest) = path.split_at(key_len(path));
-        match folder_under(children, key) {
+        match folder_under(&self.children, key) {
             None => None,
             Some(below) => {
                 if rest.is_empty() {

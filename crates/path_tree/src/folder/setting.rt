@@ -1,18 +1,20 @@
 //! What is at a path of a folder, and below it, becomes another file or folder, or nothing. A folder on the
-//! way that has one owner is changed in place; one that has more is copied once, and its children are shared.
+//! way that has one owner is changed in place; one that has more is copied once, and its blocks are shared.
 ghost use Rattle.std.specs.Prelude.{◌≡◌, ◌++◌, ◌∷◌, [], Bool, true, false, IfOk};
-ghost use Rattle.std.specs.Prelude.{OnOk, OnErr, MatchOption, Some, None, option_map, is_some};
-ghost use Rattle.plain_model.specs.Trees.{Tree, at};
-ghost use Rattle.path_tree.specs.Folders.{filled, is_file_key, is_folder_key, tree_under, Fits, AreSound};
+ghost use Rattle.std.specs.Prelude.{OnOk, OnErr, IsFalse, IsTrue, bytes_eq, Some, None, option_map, is_some};
+ghost use Rattle.plain_model.specs.Trees.{at};
+ghost use Rattle.path_tree.specs.Folders.{filled, is_file_key, is_folder_key, Fits, AreSound};
 ghost use Rattle.path_tree.specs.Folders.Member.{folder};
-ghost use Rattle.path_tree.specs.Inside.{member_of, rows_of};
+ghost use Rattle.path_tree.specs.Inside.{all_rows, blocks_of, member_of, rows_of, AreFilled};
 ghost use Rattle.path_tree.specs.PathMaps.{IsInOrder};
-ghost use Rattle.path_tree.specs.Rows.{is_folder, IsSetBelow, IsSetNode};
-ghost use Rattle.path_tree.specs.Setting.{ends_with_slash, FitsNode, HasNone, Places, PlacesBelow, PutsUnder};
+ghost use Rattle.path_tree.specs.Rows.{is_folder, IsSetNode, IsSetUnder};
+ghost use Rattle.path_tree.specs.Setting.{ends_with_slash, name_of, FitsIf, FitsNode, HasNone};
+ghost use Rattle.path_tree.specs.Setting.{Places, PlacesBelow, PutsOver, PutsUnder};
 
-use super::children::{child_extent, key_len, name_of, put_child, remove_child, search, shared};
+use super::block::{child_extent, key_len, name_of, search, share_node, shared};
+use super::blocks::{copied, drop_empty, find, place, put, remove};
 use super::extent::{Change, Extent, recounted};
-use super::{Child, Folder, Node};
+use super::{Child, Children, Folder, Node};
 use plain_model::NoMemory;
 use std::alloc::Global;
 use std::rc::Rc;
@@ -93,10 +95,8 @@ fn set_child(
     requires is_key { is_folder_key key.now ≡ true }
     requires is_file { ends_with_slash path.now ≡ false }
     requires fits { FitsNode (option_map member_of node.now) }
-    ensures set { IfOk result (λ change. MatchOption change
-        ((at (rows_of children.old.items) key.now ≡ None) × (rows_of children.new.items ≡ rows_of children.old.items))
-        (λ change. IsSetBelow key.now path.now (option_map member_of node.now) clear change
-        (rows_of children.old.items) (rows_of children.new.items))) }
+    ensures set { IfOk result (λ change. IsSetUnder key.now path.now (option_map member_of node.now) clear change
+        (rows_of children.old.items) (rows_of children.new.items)) }
     ensures unchanged { OnErr result (rows_of children.new.items ≡ rows_of children.old.items) }
 {
     match search(children.as_slice(), key) {
@@ -118,12 +118,72 @@ fn set_child(
     }
 }
 
+/// Sets a path of the folder under the key, if there is one: in place where this is the block's one owner,
+/// and else in a copy.
+#[cycle(setting)]
+fn set_in(
+    block: &mut Rc<Vec<Child>>,
+    alloc: Global,
+    key: &[u8],
+    path: &[u8],
+    node: &Option<Node>,
+    clear: bool,
+) -> Result<Option<Change>, NoMemory>
+    requires sound { AreSound (rows_of block.old.value.items) }
+    requires is_key { is_folder_key key.now ≡ true }
+    requires is_file { ends_with_slash path.now ≡ false }
+    requires fits { FitsNode (option_map member_of node.now) }
+    ensures set { IfOk result (λ change. IsSetUnder key.now path.now (option_map member_of node.now) clear change
+        (rows_of block.old.value.items) (rows_of block.new.value.items)) }
+    ensures unchanged { OnErr result (rows_of block.new.value.items ≡ rows_of block.old.value.items) }
+{
+    match Rc::get_mut(block) {
+        Some(own) => set_child(own, alloc, key, path, node, clear),
+        None => {
+            let mut copy = shared(alloc, block.as_slice())?;
+            let change = set_child(&mut copy, alloc, key, path, node, clear)?;
+            *block = Rc::new(alloc, copy)?;
+            Ok(change)
+        }
+    }
+}
+
+/// Sets a path of the folder under the key, if there is one.
+#[cycle(setting)]
+fn set_under(
+    children: &mut Children,
+    alloc: Global,
+    key: &[u8],
+    path: &[u8],
+    node: &Option<Node>,
+    clear: bool,
+) -> Result<Option<Change>, NoMemory>
+    requires sound { AreSound (all_rows children.old) }
+    requires filled { AreFilled (blocks_of children.old.rest.items) }
+    requires is_key { is_folder_key key.now ≡ true }
+    requires is_file { ends_with_slash path.now ≡ false }
+    requires fits { FitsNode (option_map member_of node.now) }
+    ensures set { IfOk result (λ change. IsSetUnder key.now path.now (option_map member_of node.now) clear change
+        (all_rows children.old) (all_rows children.new)) }
+    ensures filled { AreFilled (blocks_of children.new.rest.items) }
+    ensures unchanged { OnErr result (all_rows children.new ≡ all_rows children.old) }
+{
+    match place(children, key) {
+        None => set_child(&mut children.first, alloc, key, path, node, clear),
+        Some(index) => {
+            let change = set_in(&mut children.rest[index], alloc, key, path, node, clear)?;
+            drop_empty(&mut children.rest, index);
+            Ok(change)
+        }
+    }
+}
+
 impl Folder {
     /// An equal folder of its own; what is below is shared.
     fn copied(&self, alloc: Global) -> Result<Folder, NoMemory>
         ensures { IfOk result (λ f. f ≡ self.now) }
     {
-        let children = shared(alloc, self.children.as_slice())?;
+        let children = copied(alloc, &self.children)?;
         Ok(Folder {
             children,
             extent: self.extent,
@@ -137,54 +197,76 @@ impl Folder {
         ensures order { OnOk result (IsInOrder self.new) }
         ensures unchanged { OnErr result (self.new ≡ self.old) }
     {
-        let change = put_child(&mut self.children, alloc, key, node)?;
-        self.extent = recounted(self.extent, change, self.children.as_slice());
+        let change = put(&mut self.children, alloc, key, node)?;
+        self.extent = recounted(self.extent, change, &self.children);
         Ok(())
     }
 
     /// Removes what is under the key.
-    fn remove(&mut self, key: &[u8])
-        ensures removed { PutsUnder key.now None self.old self.new }
-        ensures order { IsInOrder self.new }
+    fn remove(&mut self, alloc: Global, key: &[u8]) -> Result<(), NoMemory>
+        ensures removed { OnOk result (PutsUnder key.now None self.old self.new) }
+        ensures order { OnOk result (IsInOrder self.new) }
+        ensures unchanged { OnErr result (self.new ≡ self.old) }
     {
-        let change = remove_child(&mut self.children, key);
-        self.extent = recounted(self.extent, change, self.children.as_slice());
+        let change = remove(&mut self.children, alloc, key)?;
+        self.extent = recounted(self.extent, change, &self.children);
+        Ok(())
     }
 
-    /// Sets what is under the name, and under the name with a slash. What takes memory comes first.
-    fn set_keys(
-        &mut self,
-        alloc: Global,
-        name: &[u8],
-        long: &[u8],
-        node: &Option<Node>,
-    ) -> Result<(), NoMemory>
-        requires is_name { is_file_key name.now ≡ true }
-        requires is_long { long.now ≡ name.now ++ 47 ∷ [] }
-        requires fits { FitsNode (option_map member_of node.now) }
-        ensures places { OnOk result
-            ((clear : Bool) → Places name.now (option_map member_of node.now) clear self.old self.new) }
+    /// Whether something is under the key.
+    fn has(&self, key: &[u8]) -> bool
+        ensures none { IsFalse result → HasNone key.now self.now }
+    {
+        find(&self.children, key).is_some()
+    }
+
+    /// Whether a file is in the place of a folder on the way, and goes if that is asked.
+    fn is_blocked(&self, path: &[u8], clear: bool) -> bool
+        ensures cleared { IsTrue result → clear ≡ true }
+        ensures free { IsFalse result → clear ≡ true → HasNone (name_of path.now) self.now }
+    {
+        clear && self.has(name_of(path))
+    }
+
+    /// Sets what is under the key.
+    fn set_key(&mut self, alloc: Global, key: &[u8], node: &Option<Node>) -> Result<(), NoMemory>
+        requires { FitsIf key.now (option_map member_of node.now) }
+        ensures done { OnOk result (PutsUnder key.now (option_map member_of node.now) self.old self.new) }
         ensures order { OnOk result (IsInOrder self.new) }
         ensures unchanged { OnErr result (self.new ≡ self.old) }
     {
         match node {
-            None => {
-                self.remove(name);
-                self.remove(long);
-                Ok(())
-            }
-            Some(Node::File(entry)) => {
-                self.put(alloc, name, Node::File(*entry))?;
-                self.remove(long);
-                Ok(())
-            }
-            Some(Node::Subfolder(below)) => {
-                let below = below.clone()?;
-                self.put(alloc, long, Node::Subfolder(below))?;
-                self.remove(name);
-                Ok(())
+            None => self.remove(alloc, key),
+            Some(node) => {
+                let node = share_node(node)?;
+                self.put(alloc, key, node)
             }
         }
+    }
+
+    /// Sets what is under the key, and leaves nothing under the other.
+    fn set_keys(
+        &mut self,
+        alloc: Global,
+        key: &[u8],
+        other: &[u8],
+        node: &Option<Node>,
+    ) -> Result<(), NoMemory>
+        requires apart { bytes_eq key.now other.now ≡ false }
+        requires fits { FitsIf key.now (option_map member_of node.now) }
+        ensures done { OnOk result (PutsOver key.now other.now (option_map member_of node.now) self.old self.new) }
+        ensures order { OnOk result (IsInOrder self.new) }
+        ensures unchanged { OnErr result (self.new ≡ self.old) }
+    {
+        if self.has(other) {
+            // Memory may run out between two changes, so that a copy takes both; this is rare.
+            let mut copy = self.copied(alloc)?;
+            copy.set_key(alloc, key, node)?;
+            copy.remove(alloc, other)?;
+            *self = copy;
+            return Ok(());
+        }
+        self.set_key(alloc, key, node)
     }
 
     /// Sets what is at the name and below it.
@@ -197,7 +279,11 @@ impl Folder {
         ensures unchanged { OnErr result (self.new ≡ self.old) }
     {
         let long = with_slash(alloc, name)?;
-        self.set_keys(alloc, name, long.as_slice(), node)
+        match node {
+            None => self.set_keys(alloc, name, long.as_slice(), node),
+            Some(Node::File(_)) => self.set_keys(alloc, name, long.as_slice(), node),
+            Some(Node::Subfolder(_)) => self.set_keys(alloc, long.as_slice(), name, node),
+        }
     }
 
     /// Puts a new folder under the key, with the node at the path, if there is a node.
@@ -247,10 +333,10 @@ impl Folder {
         ensures order { OnOk result (IsInOrder self.new) }
         ensures unchanged { OnErr result (self.new ≡ self.old) }
     {
-        match set_child(&mut self.children, alloc, key, path, node, clear)? {
+        match set_under(&mut self.children, alloc, key, path, node, clear)? {
             None => self.put_new(alloc, key, path, node, clear),
             Some(change) => {
-                self.extent = recounted(self.extent, change, self.children.as_slice());
+                self.extent = recounted(self.extent, change, &self.children);
                 Ok(())
             }
         }
@@ -276,10 +362,14 @@ impl Folder {
         if rest.is_empty() {
             return self.set_here(alloc, path, node);
         }
-        self.set_below(alloc, key, rest, node, clear)?;
-        if clear {
-            self.remove(name_of(path));
+        if self.is_blocked(path, clear) {
+            // Two changes again.
+            let mut copy = self.copied(alloc)?;
+            copy.set_below(alloc, key, rest, node, clear)?;
+            copy.remove(alloc, name_of(path))?;
+            *self = copy;
+            return Ok(());
         }
-        Ok(())
+        self.set_below(alloc, key, rest, node, clear)
     }
 }

@@ -1,6 +1,5 @@
 use Rattle.std.proofs.Common.{sym, ap, subst, ◌∙◌, length, option_map}
 use Rattle.plain_model.specs.Paths.{Bytes}
-use Rattle.plain_model.specs.Trees.{Tree}
 use Rattle.path_tree.specs.Inside.{bounded, member_of}
 use Rattle.path_tree.specs.Setting.{Finds, suffixes}
 use Rattle.path_tree.proofs.Measures.{length_prefixed}

@@ -1,37 +1,29 @@
-use Rattle.std.proofs.Common.{sym, ap, subst, ◌∙◌, List, Some}
+use Rattle.std.proofs.Common.{subst, Some}
 use Rattle.plain_model.specs.Trees.{Tree}
-use Rattle.path_tree.specs.declared.folder.Child.{Child}
 use Rattle.path_tree.specs.Folders.{flat}
-use Rattle.path_tree.specs.Inside.{rows_of, member_of, extent_of}
-use Rattle.path_tree.specs.Rows.{IsExchange}
+use Rattle.path_tree.specs.Inside.{all_rows, member_of}
 use Rattle.path_tree.specs.Setting.{PutsUnder}
 use Rattle.path_tree.proofs.Keys.{flat_in_order}
 use Rattle.path_tree.proofs.Exchanges.{exchange_sound, exchange_puts}
 use Rattle.path_tree.proofs.folder.Folder.put.Goals as goal
 
 pub recounted-self-inside-requires : goal.recounted-self-inside-requires
-recounted-self-inside-requires c =
-    rw c.as_slice.ensures.value (exchange_sound c.in_ok-change.ensures.exchanged c.requires c.self.invariant.rows).all_fit
+recounted-self-inside-requires c = (exchange_sound c.in_ok-change.ensures.exchanged c.requires c.self.invariant.rows).all_fit
 
 pub invariant_of-self-2 : goal.invariant_of-self-2
 invariant_of-self-2 c =
-    let key = c.args.key.now in
     let new = Some (member_of c.args.node) in
-    let old = rows_of c.self.inside.children.items in
-    let exchange = subst (λ (l : List Child). IsExchange key new c.in_ok-change.change old (rows_of l))
-    (sym c.as_slice.ensures.value) c.in_ok-change.ensures.exchanged in
     record {
       rows = exchange_sound c.in_ok-change.ensures.exchanged c.requires c.self.invariant.rows;
-      extent =
-          c.recounted-self-inside.ensures key new old c.self.invariant.extent exchange
-          ∙ ap (λ (l : List Child). extent_of (flat (rows_of l))) c.as_slice.ensures.value;
+      filled = c.in_ok-change.ensures.filled;
+      extent = c.recounted-self-inside.ensures c.args.key.now new (all_rows c.self.inside.children) c.self.invariant.extent c.in_ok-change.ensures.exchanged;
     }
 
 pub returns-clause-done : goal.returns-clause-done
 returns-clause-done c =
-    subst (λ (t : Tree). PutsUnder c.args.key.now (Some (member_of c.args.node)) t (flat (rows_of c.put_child.new.children.items))) c.self.view_is
+    subst (λ (t : Tree). PutsUnder c.args.key.now (Some (member_of c.args.node)) t (flat (all_rows c.put.new.children))) c.self.view_is
     (exchange_puts c.in_ok-change.ensures.exchanged c.requires c.self.invariant.rows)
 
 pub returns-clause-order : goal.returns-clause-order
 returns-clause-order c =
-    flat_in_order (rows_of c.put_child.new.children.items) (exchange_sound c.in_ok-change.ensures.exchanged c.requires c.self.invariant.rows)
+    flat_in_order (all_rows c.put.new.children) (exchange_sound c.in_ok-change.ensures.exchanged c.requires c.self.invariant.rows)

@@ -1,4 +1,4 @@
-use Rattle.std.proofs.Common.{◌≡◌, ◌≤◌, ◌∙◌, ap, length, arith}
+use Rattle.std.proofs.Common.{◌≡◌, ◌∙◌, ap, length, arith}
 use Rattle.plain_model.specs.Paths.{is_at_or_below}
 use Rattle.plain_model.specs.Trees.{Tree, subtree}
 use Rattle.path_tree.specs.Inside.{bounded}
