@@ -7,7 +7,7 @@ ghost use Rattle.path_expunge.specs.Apart.{AreSides, GoesOn, IsNoted, is_named, 
 ghost use Rattle.plain_model.specs.Paths.{Bytes};
 
 use crate::matching::Matching;
-use crate::sides::Side;
+use crate::sides::{Side, is_deep};
 use event_arena::Events;
 use plain_model::{FileOp, NoMemory, PlainEvent};
 use std::alloc::Global;
@@ -41,7 +41,7 @@ impl<'a> Named<'a> {
         }
     }
 
-    // Puts a path that isn't there on its side, unless it conflicts with one of the other side.
+    // Puts a path that isn't there on its side, unless it conflicts with one of the other side, or is deep.
     fn add(&mut self, matching: &mut Matching<'_>, path: &'a [u8]) -> Result<bool, NoMemory>
         requires { AreSides (matched_by matching.old) self.old }
         ensures sides { OnOk result (AreSides (matched_by matching.old) self.new) }
@@ -49,6 +49,10 @@ impl<'a> Named<'a> {
         ensures noted { IfOk result (λ noted. IsTrue noted → IsTrue (is_named self.new path.now)) }
         ensures same { matching.new ≡ matching.old }
     {
+        // The time that folders take grows with their number times the path's length.
+        if is_deep(path) {
+            return Ok(false);
+        }
         if matching.matches(path) {
             if !self.left.is_clear_of(path) {
                 return Ok(false);

@@ -1,11 +1,33 @@
 //! Paths with the folders in which they are.
-ghost use Rattle.std.specs.Prelude.{◌≡◌, ◌||◌, Bool, bytes_eq, false, IsFalse, IsTrue, OnOk};
+ghost use Rattle.std.specs.Prelude.{
+  ◌≡◌,
+  ◌==◌,
+  ◌||◌,
+  bytes_eq,
+  count_by,
+  false,
+  nat_lt,
+  IsFalse,
+  IsTrue,
+  OnOk,
+};
+ghost use Rattle.path_expunge.specs.declared.sides.TheConstants.{MOST_FOLDERS};
 ghost use Rattle.path_expunge.specs.Apart.{IsWhole, is_in};
 ghost use Rattle.plain_model.specs.Paths.{Bytes, do_conflict, is_below};
 
 use byte_sets::ByteSet;
 use plain_model::NoMemory;
 use std::alloc::Global;
+
+// So many folders a path has at most of which each is looked up.
+const MOST_FOLDERS: usize = 32;
+
+/// Whether a path is in too many folders to look each of them up.
+pub fn is_deep(path: &[u8]) -> bool
+    ensures { result ≡ nat_lt MOST_FOLDERS (count_by (λ byte. byte == 47) path.now) }
+{
+    path.iter().filter(|byte| **byte == b'/').count() > MOST_FOLDERS
+}
 
 // Puts each folder of a path into a set.
 fn add_folders<'a>(folders: &mut ByteSet<'a>, path: &'a [u8]) -> Result<(), NoMemory>
