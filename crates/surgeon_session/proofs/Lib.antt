@@ -8,4 +8,5 @@ mod FileEdits
 mod Sent
 pub mod Rounds
 pub mod SessionRounds
+pub mod RunningTo
 mod Sessions

@@ -82,14 +82,14 @@ breaks_here [] w = refl
 breaks_here (t ∷ ts) w = no_part t.to t.bytes w
 
 -- a refusal at which the run ends
-off_refused : (keep limit is_last : Bool) → is_last ≡ limit → (is_last || not keep) ≡ true → (keep && not limit) ≡ false
+pub off_refused : (keep limit is_last : Bool) → is_last ≡ limit → (is_last || not keep) ≡ true → (keep && not limit) ≡ false
 off_refused false limit is_last same stop = refl
 off_refused true true is_last same stop = refl
 off_refused true false true same stop = absurd cc
 off_refused true false false same stop = absurd cc
 
 -- a refusal after which the run goes on
-on_refused : (keep limit is_last : Bool) → (is_last || not keep) ≡ false → is_last ≡ limit → (keep && not limit) ≡ true
+pub on_refused : (keep limit is_last : Bool) → (is_last || not keep) ≡ false → is_last ≡ limit → (keep && not limit) ≡ true
 on_refused true false false g e = refl
 on_refused true true false g e = absurd cc
 on_refused true limit true g e = absurd cc

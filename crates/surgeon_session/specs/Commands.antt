@@ -124,10 +124,12 @@ LineAgrees (line_end.Refused is_last) specified s s' = (s' ≡ s) × RefusesAs i
 LineAgrees (line_end.Broken how) specified s s' = s' ≡ s
 
 -- What a line of a run does that ends so, where this is what is specified among files. Where the world is reported: that. Of every store
--- and sink: it is done or refused as is specified, unless it reads a file; and if it is broken off, the session is as it was.
+-- and sink: it is done or refused as is specified of the files that the store tells, and where it tells none, of some that might be there;
+-- of any, unless it reads a file. If it is broken off, the session is as it was.
 pub record RunsLine (s : StoreState) (k : SinkState) (old : Session) (line : ℕ) (reads_no_file : Type 0) (specified : Files → Result (Effect Session) Fault)
     (result : LineEnd) (new : Session) (s' : StoreState) (k' : SinkState) : Type 0 where
   pub outcome : Outcome (λ w now. EndsLine result old w line (specified w.files) new now) s k (status_of_line result) s' k'
+  pub told : AsTold s.files (λ files. LineAgrees result (specified files) old new)
   pub exact : reads_no_file → (files : Files) → LineAgrees result (specified files) old new
 
 -- the command of a line, if it has one, is not `read`
@@ -145,9 +147,10 @@ LineReadsNoFile (Define name body) = Unit {0}
 abbrev pub ReadNoFile : List ScriptLine → Type 0
 ReadNoFile lines = AllByRecursion LineReadsNoFile lines
 
--- What a run does that ends so, where this is the machine's among files. Where the world is reported: that. Of every store and sink: the
--- session is as the machine says of any world, with its status, or after the lines before the one at which the run was broken off;
--- unless one of its lines reads a file.
-pub record RunsOut (s : StoreState) (k : SinkState) (old : Session) (specified : Files → Run Session) (answer : Status) (new : Session) (s' : StoreState) (k' : SinkState) : Type 0 where
+-- What a run does that ends so, where this is the machine's among files. Where the world is reported: that. Of every store and sink: status
+-- and session are such as the lines come to, one after another; and they are those that the machine says of any world, or the session is as
+-- the lines before the one at which the run was broken off have left it, unless one of the lines reads a file.
+pub record RunsOut (s : StoreState) (k : SinkState) (old : Session) (specified : Files → Run Session) (comes_to : Status → Session → Type 0) (answer : Status) (new : Session) (s' : StoreState) (k' : SinkState) : Type 0 where
   pub outcome : Outcome (λ w now. SessionEndsAs (specified w.files) answer old w new now) s k answer s' k'
+  pub lines : comes_to answer new
   pub exact : (w : World) → ReadNoFile (specified w.files).ran → (now : World) × SessionEndsAs (specified w.files) answer old w new now

@@ -17,6 +17,7 @@ ghost use Rattle.surgeon_session.specs.Commands.{
 };
 ghost use Rattle.surgeon_session.specs.Denials.{Under, UnderAll};
 ghost use Rattle.surgeon_session.specs.Ends.{IsEnd};
+ghost use Rattle.surgeon_session.specs.RunsTo.{RunsTo, ScriptRunsTo};
 ghost use Rattle.surgeon_session.specs.Waits.{AreWithin, EndsPast, IsPastEnd};
 ghost use Rattle.surgeon_session.specs.declared.line_end.LineEnd.TheVariants as line_end;
 ghost use Rattle.surgeon_store.specs.Outside.{Puts, PutsSome, StoreState};
@@ -215,6 +216,7 @@ fn run_lines<S: Store, T: Sink, P: Patterns>(
     ensures runs { UnderAll (P.sizes patterns.old) (P.sizes patterns.new)
         (λ denials. RunsOut (S.state store.old) (T.state out.old) session.old
         (λ files. run_on line_step keep_going MAX_COMMANDS denials Status.Done session.old files lines)
+        (RunsTo line_step keep_going MAX_COMMANDS denials Status.Done session.old lines)
         result session.new (S.state store.new) (T.state out.new)) }
     ensures grows { P.sizes patterns.old ≤ P.sizes patterns.new }
     ensures ends { IsEnd result }
@@ -259,6 +261,7 @@ impl Session {
         ensures runs { UnderAll (P.sizes patterns.old) (P.sizes patterns.new)
             (λ denials. RunsOut (S.state store.old) (T.state out.old) self.old
             (λ files. run_from denials self.old files script.now keep_going)
+            (ScriptRunsTo denials self.old script.now keep_going)
             result self.new (S.state store.new) (T.state out.new)) }
         ensures grows { P.sizes patterns.old ≤ P.sizes patterns.new }
 

@@ -2,6 +2,7 @@ use Rattle.history_machine.specs.Steps.{line_step}
 use Rattle.surgeon_session.specs.Calls.{world}
 use Rattle.std.proofs.Common.{inr, refl, subst, sym}
 use Rattle.surgeon_session.specs.Commands.{RefusesAs}
+use Rattle.surgeon_session.proofs.RunningTo.{told_so}
 use Rattle.surgeon_session.proofs.Readying.{broken_turn, refusal_broken, refusal_printed}
 use Rattle.surgeon_session.proofs.Rounds.{later_later, none_failed_later, printed_later}
 use Rattle.plain_model.proofs.Counts.{rose_before}
@@ -21,6 +22,7 @@ returns-in-Err-SourceFault-clause-runs g c =
           caused = ran.2.outcome.caused;
           later = ran.2.outcome.later;
         };
+        told = told_so (s c.args.store.now).files _ _ (λ files specified. ran.2.kept) ran.2.told;
         exact = λ reads files. ran.2.kept;
       },
     )
@@ -39,6 +41,7 @@ returns-in-Err-SinkFault-clause-runs g c =
           caused = ran.2.outcome.caused;
           later = ran.2.outcome.later;
         };
+        told = told_so (s c.args.store.now).files _ _ (λ files specified. ran.2.kept) ran.2.told;
         exact = λ reads files. ran.2.kept;
       },
     )
@@ -60,6 +63,7 @@ returns-in-Ok-print_refusal-clause-runs g c =
               (record { store = record { read_faults = refl; write_faults = refl }; faults = c.in-Ok-print_refusal.ensures.quiet });
           later = later_later (s c.args.store.now) (s c.carry_out.new.store) (s c.carry_out.new.store) (k c.args.out.now) (k c.carry_out.new.out) (k c.print_refusal.new.out) ran.2.outcome.later later;
         };
+        told = told_so (s c.args.store.now).files _ _ (λ files specified. (ran.2.kept, subst (RefusesAs c.passes_limit.result) (sym specified) c.passes_limit.ensures)) ran.2.told;
         exact = λ reads files. (ran.2.kept, subst (RefusesAs c.passes_limit.result) (sym (ran.2.exact reads files)) c.passes_limit.ensures);
       },
     )
@@ -80,6 +84,7 @@ returns-in-Err-SinkFault-print_refusal-clause-runs g c =
           caused = inr (rose_before (k c.args.out.now).faults (k c.carry_out.new.out).faults (k c.print_refusal.new.out).faults ran.2.outcome.later.faults ((rw c.in-Err-SinkFault-print_refusal.field-0-is at c.in-Err-SinkFault-print_refusal.ensures.failed) refl));
           later = later_later (s c.args.store.now) (s c.carry_out.new.store) (s c.carry_out.new.store) (k c.args.out.now) (k c.carry_out.new.out) (k c.print_refusal.new.out) ran.2.outcome.later later;
         };
+        told = told_so (s c.args.store.now).files _ _ (λ files specified. ran.2.kept) ran.2.told;
         exact = λ reads files. ran.2.kept;
       },
     )
@@ -100,6 +105,7 @@ returns-in-Err-Refused-clause-runs g c =
           caused = tt;
           later = later_later (s c.args.store.now) (s c.carry_out.new.store) (s c.carry_out.new.store) (k c.args.out.now) (k c.carry_out.new.out) (k c.print_refusal.new.out) ran.2.outcome.later later;
         };
+        told = told_so (s c.args.store.now).files _ _ (λ files specified. ran.2.kept) ran.2.told;
         exact = λ reads files. ran.2.kept;
       },
     )

@@ -1,16 +1,19 @@
-use Rattle.std.proofs.Common.{◌≡◌, ◌-◌, ◌||◌, [], ◌∷◌, ◌++◌, List, Option, None, subst, suc, not, true, false, sym, arith, ◌∙◌}
+use Rattle.std.proofs.Common.{◌≡◌, ◌+◌, ◌-◌, ◌||◌, [], ◌∷◌, ◌++◌, List, Option, None, subst, suc, not, true, false, sym, arith, ◌∙◌}
+use Rattle.plain_model.specs.Files.{Files}
 use Rattle.plain_model.specs.declared.limit.TheConstants.{MAX_COMMANDS}
 use Rattle.plain_model.specs.declared.status.Status.{Status}
 use Rattle.plain_model.specs.declared.status.Status.TheVariants as status
 use Rattle.byte_patterns.specs.Judging.{Denial}
-use Rattle.history_machine.specs.Machine.{SessionEndsAs, World, run_on}
+use Rattle.history_machine.specs.Machine.{SessionEndsAs, World, called_by, run_on}
 use Rattle.history_machine.specs.Sessions.{Session}
 use Rattle.history_machine.specs.Steps.{line_step}
 use Rattle.surgeon_session.specs.Calls.{world}
 use Rattle.surgeon_session.specs.Commands.{ReadNoFile, status_of_line}
+use Rattle.surgeon_session.specs.RunsTo.{RunsTo}
 use Rattle.surgeon_session.specs.Waits.{AreWithin}
 use Rattle.surgeon_session.specs.declared.line_end.LineEnd.TheVariants as line_end
 use Rattle.surgeon_session.proofs.Denying.{all_at_once, counted_more, no_more, one_by_one, with_none}
+use Rattle.surgeon_session.proofs.RunningTo.{runs_on_done, runs_on_refused, runs_no_further, runs_nowhere, runs_past, runs_to_broken, runs_to_refused, line_breaks_off, some_told}
 use Rattle.surgeon_session.proofs.Rounds.{caused_later, joined, later_later, none_failed, none_failed_later, mapped, same_later, same_world}
 use Rattle.surgeon_session.proofs.SessionRounds.{breaks_run, caused_quiet, done_goes_on, done_reads_none, ends_in, first_reads_none, line_breaks, memory_after, no_lines, past_ends, past_in, refused_goes_on, refused_reads_none, refused_stops, within_after, within_rest}
 use Rattle.surgeon_session.proofs.run.run_lines.Goals as goal
@@ -34,6 +37,7 @@ loop-next-init g c =
               → SessionEndsAs (run_on line_step c.args.keep_going MAX_COMMANDS more status.Done c.args.session.now w0.files c.args.lines) r c.args.session.now w0 after now)
               (world s k) (λ w more r after now h. h),
           λ w0 more none. (w0, none, λ r after now h. h),
+          λ more r after h. h,
         ),
       );
     }
@@ -68,6 +72,8 @@ returns-then-left-eq0-clause-runs g c =
               at.2 c.refuse_past.result c.loop-next.session last.0
                   (rw (cut, none) (past_ends line_step c.args.keep_going 0 None [] so_far c.loop-next.session c.loop-next.session at.0 last.0 next rest c.refuse_past.result last.1)),
             );
+        lines = p.2.2 (None ∷ []) c.refuse_past.result c.loop-next.session
+            (rw (cut, none) (runs_past line_step c.args.keep_going None [] so_far (None ∷ []) c.loop-next.session next rest c.refuse_past.result c.refuse_past.ensures.past));
       },
     )
 
@@ -106,6 +112,9 @@ returns-in-Err-clause-runs g c =
             let here = at.1 in
             let line = ends_in (line_end.Done c.in-Done.calls) old new at.0 next.line (line_step q.0 old at.0.files next.depth next.what) (q.2.exact (first_reads_none line_step keep (c.loop-next.left - 1) q.0 [] so_far old new at.0 at.0 next rest here) at.0.files) in
             (line.0, at.2 status.Memory new line.0 (memory_after line_step keep (c.loop-next.left - 1) q.0 [] so_far old new at.0 line.0 next rest c.in-Done.calls line.1));
+        lines = p.2.2 (q.0 ∷ []) status.Memory new
+            (rw (cut, more) (runs_on_done line_step keep q.0 [] so_far (c.loop-next.left - 1) old new next rest c.in-Done.calls (some_told _ _ q.2.told) status.Memory new
+            (runs_nowhere line_step keep q.0 [] so_far (c.loop-next.left - 1) [] new (called_by next.line (next.depth + 1) c.in-Done.calls ++ rest) status.Memory tt)));
       },
     )
 
@@ -154,6 +163,10 @@ loop-next-preserved-in-Ok g c =
                     one_by_one (λ denials. SessionEndsAs (run_on line_step keep MAX_COMMANDS denials status.Done c.args.session.now w0.files c.args.lines) r c.args.session.now w0 after now) p.0 q.0 others
                     (at.2 r after now (rw (cut, more) (done_goes_on line_step keep (c.loop-next.left - 1) q.0 others so_far old new at.0 line.0 next rest c.in-Done.calls line.1 r after now (rw c.in-Ok.ensures at h)))),
               ),
+          λ others r after h.
+              one_by_one (λ denials. RunsTo line_step keep MAX_COMMANDS denials status.Done c.args.session.now c.args.lines r after) p.0 q.0 others
+              (p.2.2 (q.0 ∷ others) r after
+              (rw (cut, more) (runs_on_done line_step keep q.0 others so_far (c.loop-next.left - 1) old new next rest c.in-Done.calls (some_told _ _ q.2.told) r after (rw c.in-Ok.ensures at h)))),
         ),
       );
     }
@@ -194,6 +207,8 @@ returns-then-is_stop-clause-runs g c =
             let here = at.1 in
             let line = ends_in (line_end.Refused c.in-Refused.is_last) old new at.0 next.line (line_step q.0 old at.0.files next.depth next.what) (q.2.exact (first_reads_none line_step keep (c.loop-next.left - 1) q.0 [] so_far old new at.0 at.0 next rest here) at.0.files) in
             (line.0, at.2 status.Refused new line.0 (refused_stops line_step keep (c.loop-next.left - 1) q.0 [] so_far old new at.0 line.0 next rest c.in-Refused.is_last stop line.1));
+        lines = p.2.2 (q.0 ∷ []) status.Refused new
+            (rw (cut, more) (runs_to_refused line_step keep q.0 [] so_far (c.loop-next.left - 1) old new next rest c.in-Refused.is_last stop (some_told _ _ q.2.told)));
       },
     )
 
@@ -243,6 +258,10 @@ loop-next-preserved g c =
                     one_by_one (λ denials. SessionEndsAs (run_on line_step keep MAX_COMMANDS denials status.Done c.args.session.now w0.files c.args.lines) r c.args.session.now w0 after now) p.0 q.0 others
                     (at.2 r after now (rw (cut, more) (refused_goes_on line_step keep (c.loop-next.left - 1) q.0 others so_far old new at.0 line.0 next rest c.in-Refused.is_last goes line.1 r after now h))),
               ),
+          λ others r after h.
+              one_by_one (λ denials. RunsTo line_step keep MAX_COMMANDS denials status.Done c.args.session.now c.args.lines r after) p.0 q.0 others
+              (p.2.2 (q.0 ∷ others) r after
+              (rw (cut, more) (runs_on_refused line_step keep q.0 others so_far (c.loop-next.left - 1) old new next rest c.in-Refused.is_last goes (some_told _ _ q.2.told) r after h))),
         ),
       );
     }
@@ -269,6 +288,7 @@ returns-in-Broken-clause-runs g c =
     let later = later_later (s c.args.store.now) (s c.loop-next.store) (s c.run_line.new.store) (k c.args.out.now) (k c.loop-next.out) (k c.run_line.new.out) known.later q.2.outcome.later in
     let counted = counted_more (n c.args.patterns.now) (n c.loop-next.patterns) (n c.run_line.new.patterns) p.0 q.0 known.grows c.run_line.ensures.grows p.1 q.1 in
     let how = c.in-Broken.how in
+    let told : (files : Files) × (new ≡ old) = some_told _ _ q.2.told in
     rw c.broken_status.ensures (
       p.0 ++ q.0 ∷ [],
       counted,
@@ -284,6 +304,8 @@ returns-in-Broken-clause-runs g c =
             let here = at.1 in
             let line = ends_in (line_end.Broken how) old new at.0 next.line (line_step q.0 old at.0.files next.depth next.what) (q.2.exact (first_reads_none line_step keep (c.loop-next.left - 1) q.0 [] so_far old new at.0 at.0 next rest here) at.0.files) in
             (line.0, at.2 (status_of_line (line_end.Broken how)) new line.0 (line_breaks line_step keep (c.loop-next.left - 1) q.0 [] so_far old new at.0 line.0 next rest (status_of_line (line_end.Broken how)) (breaks_run how) line.1));
+        lines = p.2.2 (q.0 ∷ []) (status_of_line (line_end.Broken how)) new
+            (rw (cut, more) (runs_to_broken line_step keep q.0 [] so_far (c.loop-next.left - 1) old new next rest (status_of_line (line_end.Broken how)) (line_breaks_off how) told.1));
       },
     )
 
@@ -310,5 +332,7 @@ returns-clause-runs g c =
               no_more (λ denials. SessionEndsAs (run_on line_step c.args.keep_going MAX_COMMANDS denials status.Done c.args.session.now w0.files c.args.lines) so_far c.args.session.now w0 c.loop-next.session at.0) p.0
                   (at.2 so_far c.loop-next.session at.0 (rw c.in_default.ensures (no_lines so_far c.loop-next.session at.0))),
             );
+        lines = no_more (λ denials. RunsTo line_step c.args.keep_going MAX_COMMANDS denials status.Done c.args.session.now c.args.lines so_far c.loop-next.session) p.0
+            (p.2.2 [] so_far c.loop-next.session (rw c.in_default.ensures (runs_no_further line_step c.args.keep_going None [] so_far c.loop-next.left [] c.loop-next.session)));
       },
     )

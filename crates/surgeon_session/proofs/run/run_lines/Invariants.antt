@@ -9,6 +9,7 @@ use Rattle.history_machine.specs.Steps.{line_step}
 use Rattle.surgeon_session.specs.Calls.{Later, NoneFailed, world}
 use Rattle.surgeon_session.specs.Commands.{ReadNoFile}
 use Rattle.surgeon_session.specs.Denials.{UnderAll}
+use Rattle.surgeon_session.specs.RunsTo.{RunsTo}
 use Rattle.surgeon_session.specs.Waits.{AreWithin}
 use Rattle.surgeon_session.proofs.SessionRounds.{IsQuiet}
 use Rattle.surgeon_session.proofs.run.run_lines.Given as goal
@@ -32,7 +33,9 @@ invariant-loop-next g l =
           → (w : World) × ReadNoFile (run_on line_step l.keep_going l.left more l.so_far l.session w.files l.lines).ran
           × ((r : Status) (after : Session) (now : World)
           → SessionEndsAs (run_on line_step l.keep_going l.left more l.so_far l.session w.files l.lines) r l.session w after now
-          → SessionEndsAs (run_on line_step l.keep_going MAX_COMMANDS (denials ++ more) status.Done l.fn.session w0.files l.fn.lines) r l.fn.session w0 after now)));
+          → SessionEndsAs (run_on line_step l.keep_going MAX_COMMANDS (denials ++ more) status.Done l.fn.session w0.files l.fn.lines) r l.fn.session w0 after now))
+          × ((more : List (Option Denial)) (r : Status) (after : Session) → RunsTo line_step l.keep_going l.left more l.so_far l.session l.lines r after
+          → RunsTo line_step l.keep_going MAX_COMMANDS (denials ++ more) status.Done l.fn.session l.fn.lines r after));
     }
 
 abbrev pub decreases-loop-next : goal.decreases-loop-next

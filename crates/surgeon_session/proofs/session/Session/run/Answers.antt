@@ -1,9 +1,12 @@
-use Rattle.std.proofs.Common.{[], zero, refl}
+use Rattle.std.proofs.Common.{[], None, zero, refl}
+use Rattle.std.specs.Prelude.{map}
 use Rattle.plain_model.specs.declared.limit.TheConstants.{MAX_COMMANDS}
 use Rattle.plain_model.specs.declared.status.Status.TheVariants as status
 use Rattle.history_machine.specs.Machine.{SessionEndsAs}
-use Rattle.history_machine.specs.Whole.{run_from}
+use Rattle.history_machine.specs.Steps.{line_step}
+use Rattle.history_machine.specs.Whole.{run_from, waiting_of}
 use Rattle.surgeon_session.specs.Calls.{world}
+use Rattle.surgeon_session.proofs.RunningTo.{runs_nowhere}
 use Rattle.surgeon_session.proofs.Rounds.{same_later, same_world}
 use Rattle.surgeon_session.proofs.SessionRounds.{breaks_here, items_within}
 use Rattle.surgeon_session.proofs.session.Session.run.Goals as goal
@@ -26,6 +29,7 @@ returns-in-Err-clause-runs g c =
           later = same_later s k;
         };
         exact = λ w none. (w, (zero, refl, breaks_here (run_from [] session w.files c.args.script.now c.args.keep_going).effects w));
+        lines = runs_nowhere line_step c.args.keep_going None [] status.Done MAX_COMMANDS [] session (map waiting_of c.args.script.now) status.Memory tt;
       },
     )
 
