@@ -1,9 +1,14 @@
-use Rattle.std.proofs.Common.{Some, ap, subst, sym, ◌∙◌}
+use Rattle.std.proofs.Common.{Option, Some, ap, subst, sym, ◌∙◌}
 use Rattle.plain_model.specs.Histories.{folded, tree}
 use Rattle.plain_model.specs.Trees.{Tree}
-use Rattle.stream_builder.specs.Lines.{LeadsBack, ops_at}
+use Rattle.stream_builder.specs.Lines.{IsLine, LeadsBack, ops_at}
 use Rattle.stream_builder.proofs.FirstParents.{goes_back}
 use Rattle.stream_builder.proofs.draft_trees.line.line_to.Goals as goal
+
+pub returns-in-Some : goal.returns-in-Some
+returns-in-Some c =
+    let kept = c.requires c.loop-line.at c.in-Some.tree (sym (rw c.in-Some.is at c.in_ok-tree.ensures)) in
+    subst (λ (t : Option Tree). IsLine c.args.drafts.now c.args.commit c.loop-line.line t) kept.0 c.loop-line.invariant
 
 pub returns-in-Root : goal.returns-in-Root
 returns-in-Root c =
