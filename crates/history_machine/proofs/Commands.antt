@@ -26,7 +26,7 @@ use Rattle.surgeon_store.specs.WholeFiles.{file_within}
 use Rattle.script_lines.specs.Answering.{◌>>=◌}
 use Rattle.script_reader.specs.Commands.{IsSpelledCommand, order_of}
 use Rattle.script_reader.specs.Edits.{IsSpelledEdit}
-use Rattle.script_reader.specs.Macros.{called}
+use Rattle.macro_lines.specs.Macros.{called}
 use Rattle.script_lines.specs.Names.{is_repo_name}
 use Rattle.script_reader.specs.declared.command.Command.{Command}
 use Rattle.script_reader.specs.declared.command.FileEdit.{FileEdit}

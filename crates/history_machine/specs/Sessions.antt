@@ -27,7 +27,7 @@ use Rattle.expunge_laws.specs.Matching.{Matches, matched_by}
 use Rattle.renumbering.specs.Renumbered.{renumbered}
 use Rattle.sample_history.specs.Sample.{sample}
 use Rattle.script_lines.specs.Answering.{◌>>=◌}
-use Rattle.script_reader.specs.Macros.{Macro}
+use Rattle.macro_lines.specs.Macros.{Macro}
 use Rattle.script_reader.specs.declared.command.Command.{Command}
 use Rattle.script_reader.specs.declared.command.Command.TheVariants as command
 use Rattle.script_reader.specs.declared.command.FileEdit.{FileEdit}

@@ -11,7 +11,7 @@ use Rattle.script_lines.specs.Answering.{◌>>=◌}
 use Rattle.script_lines.specs.declared.script.ScriptLine.{ScriptLine}
 use Rattle.script_lines.specs.declared.script.ScriptLine.TheVariants.{Define, Plain}
 use Rattle.script_reader.specs.Commands.{order_of}
-use Rattle.script_reader.specs.Macros.{called, with_macro}
+use Rattle.macro_lines.specs.Macros.{called, with_macro}
 use Rattle.script_reader.specs.declared.command.Command.{Command}
 use Rattle.script_reader.specs.declared.command.Command.TheVariants as command
 use Rattle.script_reader.specs.declared.command.Order.{Order}

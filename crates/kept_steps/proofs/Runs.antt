@@ -16,7 +16,7 @@ use Rattle.script_lines.specs.declared.script.ScriptItem.{ScriptItem}
 use Rattle.script_lines.specs.declared.script.ScriptLine.{ScriptLine}
 use Rattle.script_lines.specs.declared.script.ScriptLine.TheVariants.{Define, Plain}
 use Rattle.script_reader.specs.Commands.{IsSpelledCommand, order_of}
-use Rattle.script_reader.specs.Macros.{called}
+use Rattle.macro_lines.specs.Macros.{called}
 use Rattle.script_reader.specs.declared.command.Command.{Command}
 use Rattle.script_reader.specs.declared.command.Order.{Order}
 use Rattle.script_reader.specs.declared.command.Order.TheVariants as order

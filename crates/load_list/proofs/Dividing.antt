@@ -15,7 +15,7 @@ use Rattle.edit_laws.specs.Keeping.{AddsNothing}
 use Rattle.edit_laws.proofs.Edits.{fewer_below}
 use Rattle.event_sets.specs.Sets.{Ids}
 use Rattle.script_lines.specs.Answering.{◌>>=◌}
-use Rattle.script_reader.specs.Macros.{Macro}
+use Rattle.macro_lines.specs.Macros.{Macro}
 use Rattle.history_machine.specs.Sessions.{Repo, Session, chosen, find_repo, read_repo, room, unused, without_repo}
 use Rattle.history_machine.specs.Several.{after_dividing, early_name, halves_of, late_name}
 use Rattle.load_list.specs.Lists.{IfChosen, IfFound, IsChosenAt, LoadList, divided_under, session_of, with_halves}

@@ -15,7 +15,7 @@ use Rattle.event_arena.specs.Graphs.{Change}
 use Rattle.event_sets.specs.Once.{AreLive}
 use Rattle.event_sets.specs.Sets.{Ids}
 use Rattle.script_lines.specs.Answering.{◌>>=◌}
-use Rattle.script_reader.specs.Macros.{Macro}
+use Rattle.macro_lines.specs.Macros.{Macro}
 use Rattle.history_machine.specs.Sessions.{Repo, Session, chosen, edited, find_repo, there, with_remade, with_repo, without_repo}
 use Rattle.history_machine.specs.Several.{after_joining, grafted_with, other_than}
 use Rattle.load_list.specs.Entries.{AreLiveIn, Loaded, made_by, repo_of, repo_under, repos_of}

@@ -20,7 +20,7 @@ use Rattle.event_sets.specs.Sets.{Ids}
 use Rattle.selection_eval.specs.Names.{assigned}
 use Rattle.selection_parser.specs.Reading.{selection_at}
 use Rattle.script_lines.specs.Answering.{◌>>=◌}
-use Rattle.script_reader.specs.Macros.{Macro}
+use Rattle.macro_lines.specs.Macros.{Macro}
 use Rattle.history_machine.specs.Sessions.{Repo, Session, after_assign, chosen, chosen_by, find_repo, or_no_repo, stands_for, unassigned, with_repo}
 use Rattle.history_machine.proofs.Steps.{found}
 use Rattle.load_list.specs.Entries.{AreLiveIn, Loaded, repo_of, repo_under, repos_of, with_given}

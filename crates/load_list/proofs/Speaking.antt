@@ -13,7 +13,7 @@ use Rattle.selection_eval.specs.Given.{GivesLive, GivesOnce}
 use Rattle.selection_parser.specs.Reading.{selection_at}
 use Rattle.expunge_laws.specs.Matching.{Matches}
 use Rattle.history_machine.specs.PathWords.{matches_of}
-use Rattle.script_reader.specs.Macros.{Macro}
+use Rattle.macro_lines.specs.Macros.{Macro}
 use Rattle.history_machine.specs.Sessions.{Repo, Subject, chosen, in_scope, of_events, of_paths, said_paths, selected, stands_for}
 use Rattle.load_list.specs.Lists.{LoadList, chosen_in, selected_in, session_of}
 

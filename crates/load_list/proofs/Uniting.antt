@@ -22,7 +22,7 @@ use Rattle.graft_laws.specs.Unite.{Part, age, by_age, is_before, oldest_place, p
 use Rattle.graft_laws.proofs.Order.{oldest_first}
 use Rattle.selection_eval.specs.Names.{live_names}
 use Rattle.script_lines.specs.Answering.{◌>>=◌}
-use Rattle.script_reader.specs.Macros.{Macro}
+use Rattle.macro_lines.specs.Macros.{Macro}
 use Rattle.history_machine.specs.Sessions.{Repo, Session, find_repo, there, unused, without_repo}
 use Rattle.history_machine.specs.Several.{after_uniting, all_there, as_part, joined_name, united_of, united_repo, without_repos}
 use Rattle.history_machine.proofs.Steps.{own_name}

@@ -16,7 +16,7 @@ use Rattle.event_sets.specs.Sets.{Ids}
 use Rattle.graft_laws.specs.Unite.{Part}
 use Rattle.selection_parser.specs.Reading.{selection_at}
 use Rattle.script_lines.specs.Answering.{◌>>=◌}
-use Rattle.script_reader.specs.Macros.{Macro}
+use Rattle.macro_lines.specs.Macros.{Macro}
 use Rattle.history_machine.specs.Sessions.{Repo, Session, Subject, chosen, chosen_by, edited, find_repo, of_events, read_repo, stands_for, there, unused, with_remade, with_repo, without_repo}
 use Rattle.history_machine.specs.Several.{all_there, as_part, early_name, grafted_with, joined_name, late_name, other_than, united_of, without_repos}
 use Rattle.load_list.specs.Entries.{made_by}

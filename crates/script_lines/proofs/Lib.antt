@@ -2,7 +2,6 @@ mod Boundaries
 mod LastParts
 mod LineCuts
 mod NeverAbsent
-mod PlaceSteps
 mod ScriptSteps
 mod TextSteps
 mod Trims

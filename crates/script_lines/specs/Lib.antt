@@ -1,6 +1,5 @@
 pub mod Answering
 pub mod Names
-pub mod Places
 pub mod Redirections
 pub mod Scripts
 pub mod Texts

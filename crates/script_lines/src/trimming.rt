@@ -43,10 +43,23 @@ pub fn trim_bytes(line: &[u8]) -> &[u8]
     &line[..back_start(line)]
 }
 
+/// The line from its first byte on that counts.
+pub fn trim_front(line: &str) -> &str
+    ensures { result.now ≡ without_front line.now }
+{
+    &line[front_end(line.as_bytes())..]
+}
+
+/// The line up to its last byte that counts.
+pub fn trim_back(line: &str) -> &str
+    ensures { result.now ≡ without_back line.now }
+{
+    &line[..back_start(line.as_bytes())]
+}
+
 /// The line without the blanks and CR at its ends.
 pub fn trim(line: &str) -> &str
     ensures { result.now ≡ trimmed line.now }
 {
-    let line = &line[front_end(line.as_bytes())..];
-    &line[..back_start(line.as_bytes())]
+    trim_back(trim_front(line))
 }

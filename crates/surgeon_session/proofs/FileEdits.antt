@@ -16,7 +16,7 @@ use Rattle.plain_model.specs.declared.fault.Halt.{Halt}
 use Rattle.plain_model.specs.declared.fault.Halt.TheVariants as halt
 use Rattle.plain_model.specs.declared.limit.TheConstants.{MAX_STREAM_BYTES}
 use Rattle.script_lines.specs.Answering.{◌>>=◌}
-use Rattle.script_reader.specs.Macros.{Macro}
+use Rattle.macro_lines.specs.Macros.{Macro}
 use Rattle.surgeon_store.specs.Outside.{StoreState}
 use Rattle.surgeon_store.specs.WholeFiles.{IsFileFault, LeavesAfter, ReturnsOrBreaks, file_within, read_end_of, within}
 use Rattle.surgeon_store.specs.declared.whole_files.ReadEnd.{ReadEnd}

@@ -3,7 +3,7 @@ use Rattle.std.proofs.Common.{◌≡◌, List, Result, Ok, Err, refl, sym, ap, s
 use Rattle.std.specs.Prelude.{OnErr}
 use Rattle.plain_model.specs.declared.fault.Fault.{Fault}
 use Rattle.plain_model.specs.declared.fault.Halt.{Halt}
-use Rattle.script_reader.specs.Macros.{Macro}
+use Rattle.macro_lines.specs.Macros.{Macro}
 use Rattle.surgeon_store.specs.Outside.{StoreState, SinkState}
 use Rattle.history_machine.specs.Sessions.{Session}
 use Rattle.history_machine.specs.Steps.{changes}

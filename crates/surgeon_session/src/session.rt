@@ -5,7 +5,7 @@ ghost use Rattle.byte_patterns.specs.Judging.{Judges};
 ghost use Rattle.event_sets.specs.Once.{IsOnce};
 ghost use Rattle.history_machine.specs.Sessions.{Scope, chosen, empty_session, in_scope, ready};
 ghost use Rattle.history_machine.specs.Steps.{carried, defining, step};
-ghost use Rattle.script_reader.specs.Macros.{called};
+ghost use Rattle.macro_lines.specs.Macros.{called};
 ghost use Rattle.surgeon_session.specs.Commands.{CarriesOut, ReadsNoFile, no_calls};
 ghost use Rattle.surgeon_session.specs.Denials.{Under};
 ghost use Rattle.plain_model.specs.Faults.{Returns};

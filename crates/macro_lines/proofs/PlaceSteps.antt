@@ -8,7 +8,9 @@ use Rattle.plain_model.specs.Paths.{Bytes}
 use Rattle.plain_model.specs.declared.fault.Fault.{Fault}
 use Rattle.plain_model.specs.declared.fault.Halt.{Halt}
 use Rattle.plain_model.specs.declared.fault.Halt.TheVariants as ended
-use Rattle.script_lines.specs.Places.{before, digits_at, filled_from, word_of}
+use Rattle.macro_lines.specs.Places.{before, digits_at, filled_from, word_of}
+use Rattle.macro_lines.specs.Put.{Fills}
+use Rattle.macro_lines.specs.declared.line.Line.{Line}
 
 -- ---- steps that may be refused
 
@@ -84,12 +86,12 @@ module _ (words : List Bytes) where
           ∙ ap (before (text ++ front)) (sym (at_none after is)) ∙ at_brace)
 
       -- how a call ends that a missing word stops
-      pub misses : {X Y : Type 0} (view : X → Bytes) (other : Y → Bytes) (digits : Bytes) (halt : Halt) (r : Result Y Halt) → IsErrAnd r (λ e. e ≡ halt)
-          → digits_at after ≡ Some digits → Returns view (Err halt) (word_of digits (slice_get words (value_after 0 digits))) → Returns other r whole
-      misses view other digits halt (Ok y) e is has = absurd e
-      misses view other digits halt (Err y) e is has = rw e (go halt has)
+      pub misses : {X : Type 0} (view : X → Bytes) (begun : Line) (digits : Bytes) (halt : Halt) (r : Result Line Halt) → IsErrAnd r (λ e. e ≡ halt)
+          → digits_at after ≡ Some digits → Returns view (Err halt) (word_of digits (slice_get words (value_after 0 digits))) → Fills begun r whole
+      misses view begun digits halt (Ok y) e is has = absurd e
+      misses view begun digits halt (Err y) e is has = rw e (go halt has)
         where
-          go : (h : Halt) → Returns view (Err h) (word_of digits (slice_get words (value_after 0 digits))) → Returns other (Err h) whole
+          go : (h : Halt) → Returns view (Err h) (word_of digits (slice_get words (value_after 0 digits))) → Fills begun (Err h) whole
           go (ended.Refused why) has = sym at_brace ∙ ap (before (text ++ front)) (at_missing after digits why is has)
           go ended.Memory has = tt
 

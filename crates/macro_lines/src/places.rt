@@ -16,11 +16,13 @@ ghost use Rattle.std.specs.Prelude.{
 };
 ghost use Rattle.plain_model.specs.Faults.{Returns};
 ghost use Rattle.plain_model.specs.Numbers.{value_after};
-ghost use Rattle.script_lines.specs.Places.{digits_at, filled, word_of};
+ghost use Rattle.macro_lines.specs.Places.{digits_at, filled, word_of};
+ghost use Rattle.macro_lines.specs.Put.{Fills};
 ghost use Rattle.plain_model.specs.declared.fault.Fault.TheVariants.{BadWords};
 
-use crate::script_text::ScriptText;
+use crate::line::{Line, with_piece};
 use plain_model::{Fault, Halt, Items, NoMemory};
+use script_lines::ScriptText;
 use std::alloc::Global;
 
 // A place for a word, without its `{`: the word's number, and its digits as they are spelled.
@@ -83,26 +85,27 @@ fn word_for<'a>(alloc: Global, words: &'a [ScriptText], place: &Place<'_>) -> Re
     }
 }
 
-/// A line with words in its places. What a word puts in isn't looked at again. Refused where the word for a place is missing.
+/// A line with words in its places, put together after what was begun. What a word puts in isn't looked at again. Refused where the word
+/// for a place is missing.
 #[tactic(auto, unfolding(crate::specs::Places::filled))]
-pub fn filled(alloc: Global, words: &[ScriptText], line: &str) -> Result<ScriptText, Halt>
-    ensures { Returns (λ text. text) result (filled words.now line.now) }
+pub fn filled(alloc: Global, words: &[ScriptText], text: &str, begun: Line) -> Result<Line, Halt>
+    ensures { Fills begun result (filled words.now text.now) }
 {
-    let mut text = ScriptText::empty(alloc);
-    let mut rest = line;
+    let mut line = begun;
+    let mut rest = text;
     while let Some((front, after)) = rest.split_once('{') {
-        text.push_str(front)?;
+        line = with_piece(line, front)?;
         match place_at(after.as_bytes()) {
             Some(place) => {
-                text.push_str(word_for(alloc, words, &place)?)?;
+                let word = word_for(alloc, words, &place)?;
+                line = with_piece(line, word)?;
                 rest = &after[place.digits.len() + 1..];
             }
             None => {
-                text.push_str("{")?;
+                line = with_piece(line, "{")?;
                 rest = after;
             }
         }
     }
-    text.push_str(rest)?;
-    Ok(text)
+    Ok(with_piece(line, rest)?)
 }

@@ -1,0 +1,5 @@
+mod Bodies
+mod Counted
+mod Keeping
+mod MacroSteps
+mod PlaceSteps
