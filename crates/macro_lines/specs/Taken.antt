@@ -10,7 +10,7 @@ abbrev pub IsLine : CalledLine → Bytes → Type 0
 IsLine (line.Whole text) bytes = bytes ≡ text
 IsLine line.TooLong bytes = IsTrue (is_long bytes)
 
--- the first of some lines is taken, or there is none
+-- the first of some lines is taken, or there was none and is none
 abbrev pub IsTaken : Option CalledLine → List Bytes → List Bytes → Type 0
-IsTaken None old new = old ≡ []
+IsTaken None old new = (old ≡ []) × (new ≡ [])
 IsTaken (Some taken) old new = (first : Bytes) × IsLine taken first × (old ≡ first ∷ new)

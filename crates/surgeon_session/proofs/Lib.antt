@@ -10,3 +10,4 @@ pub mod Rounds
 pub mod SessionRounds
 pub mod RunningTo
 mod Sessions
+mod Waiting

@@ -16,7 +16,7 @@ use Rattle.surgeon_session.specs.Waits.{IsPastEnd}
 use Rattle.surgeon_session.specs.declared.line_end.Broken.{Broken}
 use Rattle.surgeon_session.specs.declared.line_end.Broken.TheVariants as broken
 use Rattle.surgeon_session.specs.declared.line_end.LineEnd.TheVariants as line_end
-use Rattle.surgeon_session.proofs.SessionRounds.{off_refused, on_refused}
+use Rattle.surgeon_session.proofs.SessionRounds.{off_limit, off_refused, on_refused}
 
 -- ---- what is told
 
@@ -110,6 +110,16 @@ module _ {X C : Type 0} (step : Option C → X → Files → ℕ → ScriptLine 
         by_result (Err fault) is =
             subst (λ b. Either b (RunsTo step keep left more status.Refused s lines status.Refused s') ((s' ≡ s) × (status.Refused ≡ status.Refused))) (sym (off_refused keep (passes_limit fault) is_last is.1 stop))
             (is.0, refl)
+
+    -- by one that is refused so, whatever the files are, where that ends each run
+    pub runs_to_last : (files : Files) (fault : Fault) → found files ≡ Err fault → passes_limit fault ≡ true → (answer : Status) → IsPastEnd answer
+        → RunsTo step keep (suc left) (here ∷ more) so_far s (next ∷ lines) answer s
+    runs_to_last files fault is ends answer past = at (past_ends_here answer past)
+      where
+        at : EndsHere status.Refused answer → RunsTo step keep (suc left) (here ∷ more) so_far s (next ∷ lines) answer s
+        at (inl same) = inr (files, subst (after_it answer s) (sym is)
+            (subst (λ b. Either b (RunsTo step keep left more status.Refused s lines answer s) ((s ≡ s) × (answer ≡ status.Refused))) (sym (off_limit keep (passes_limit fault) ends)) (refl, same)))
+        at (inr broken) = inl (refl, broken)
 
     -- by one at which the run is broken off
     pub runs_to_broken : (answer : Status) → IsBrokenOff answer → s' ≡ s → RunsTo step keep (suc left) (here ∷ more) so_far s (next ∷ lines) answer s'

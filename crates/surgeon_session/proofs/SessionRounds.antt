@@ -96,6 +96,12 @@ on_refused true limit true g e = absurd cc
 on_refused false limit true g e = absurd cc
 on_refused false limit false g e = absurd cc
 
+-- a refusal by a limit of runs, after which no run goes on
+pub off_limit : (keep limit : Bool) → limit ≡ true → (keep && not limit) ≡ false
+off_limit false limit is = refl
+off_limit true true is = refl
+off_limit true false is = absurd cc
+
 -- A run from here on, of which a first line is taken out to which this comes, where so many more may be run.
 module _ {X C : Type 0} (step : Option C → X → Files → ℕ → ScriptLine → Result (Effect X) Fault) (keep : Bool) (left : ℕ) (here : Option C) (more : List (Option C)) (so_far : Status) (s s' : X) (w now : World)
     (next : Waiting) (lines : List Waiting)
@@ -224,7 +230,7 @@ module _ {X C : Type 0} (step : Option C → X → Files → ℕ → ScriptLine 
             (subst (λ (x : X). ReadNoFile (run_on step keep left more status.Refused x w.files lines).ran) (sym refused.0) went)
 
     -- no more lines may be run
-    pub past_ends : (r : Status) → EndsPast next.line next.what r w now → SessionEndsAs (run_on step keep zero (here ∷ more) so_far s w.files (next ∷ lines)) r s w s now
+    pub past_ends : (r : Status) → EndsPast next.line (past next.what) r w now → SessionEndsAs (run_on step keep zero (here ∷ more) so_far s w.files (next ∷ lines)) r s w s now
     past_ends status.Refused h = (refl, (refl, h))
     past_ends status.SinkFault h = (zero, refl, h)
     past_ends status.Memory h = (zero, refl, h)
@@ -233,6 +239,24 @@ module _ {X C : Type 0} (step : Option C → X → Files → ℕ → ScriptLine 
     past_ends status.Usage h = absurd h
     past_ends status.NoScript h = absurd h
     past_ends status.BadScript h = absurd h
+
+    -- a line is refused that ends each run
+    pub last_ends : (fault : Fault) → does ≡ Err fault → passes_limit fault ≡ true → (r : Status) → EndsPast next.line fault r w now
+        → SessionEndsAs whole r s w s now
+    last_ends fault is ends r h =
+        subst (λ specified. SessionEndsAs (from specified) r s w s now) (sym is)
+        (subst (λ b. SessionEndsAs (with_first next.what (effect_of s next.line (Err fault)) (if b then run_on step keep left more status.Refused s w.files lines else ended status.Refused)) r s w s now)
+        (sym (off_limit keep (passes_limit fault) ends)) (at r h))
+      where
+        at : (r : Status) → EndsPast next.line fault r w now → SessionEndsAs (with_first next.what (effect_of s next.line (Err fault)) (ended status.Refused)) r s w s now
+        at status.Refused h = (refl, (refl, h))
+        at status.SinkFault h = (zero, refl, h)
+        at status.Memory h = (zero, refl, h)
+        at status.SourceFault h = absurd h
+        at status.Done h = absurd h
+        at status.Usage h = absurd h
+        at status.NoScript h = absurd h
+        at status.BadScript h = absurd h
 
 -- what breaks a line off breaks the run off
 pub breaks_run : (how : Broken) → IsBreak (status_of_line (line_end.Broken how))
@@ -251,15 +275,15 @@ ends_in (line_end.Refused is_last) s s' w line (Err fault) h = (sent None (refus
 ends_in (line_end.Broken how) s s' w line specified h = (w, (h, no_part (effect_of s line specified).to (effect_of s line specified).bytes w))
 
 -- the last line isn't run
-pub past_in : (line : ℕ) (what : ScriptLine) (r : Status) (w : World) → IsPastEnd r → (now : World) × EndsPast line what r w now
-past_in line what status.Refused w is = (sent None (refusal line (past what)) w, refl)
-past_in line what status.SinkFault w is = (w, no_part None (refusal line (past what)) w)
-past_in line what status.Memory w is = (w, no_part None (refusal line (past what)) w)
-past_in line what status.SourceFault w is = absurd is
-past_in line what status.Done w is = absurd is
-past_in line what status.Usage w is = absurd is
-past_in line what status.NoScript w is = absurd is
-past_in line what status.BadScript w is = absurd is
+pub past_in : (line : ℕ) (fault : Fault) (r : Status) (w : World) → IsPastEnd r → (now : World) × EndsPast line fault r w now
+past_in line fault status.Refused w is = (sent None (refusal line fault) w, refl)
+past_in line fault status.SinkFault w is = (w, no_part None (refusal line fault) w)
+past_in line fault status.Memory w is = (w, no_part None (refusal line fault) w)
+past_in line fault status.SourceFault w is = absurd is
+past_in line fault status.Done w is = absurd is
+past_in line fault status.Usage w is = absurd is
+past_in line fault status.NoScript w is = absurd is
+past_in line fault status.BadScript w is = absurd is
 
 -- ---- how deep lines are
 

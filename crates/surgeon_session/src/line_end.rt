@@ -1,7 +1,6 @@
 //! How a line of a run ends.
 
-use plain_model::Status;
-use script_lines::LineList;
+use macro_lines::CalledLines;
 
 /// What broke a line off.
 #[derive(Clone, Copy)]
@@ -17,7 +16,7 @@ pub enum Broken {
 #[derive(Drop)]
 pub enum LineEnd {
     /// It is done, and these lines are run next.
-    Done(LineList),
+    Done(CalledLines),
     /// It is refused, and that is printed. The last one ends a run that is to keep going, too.
     Refused { is_last: bool },
     Broken(Broken),

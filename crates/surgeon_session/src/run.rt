@@ -24,12 +24,14 @@ ghost use Rattle.surgeon_store.specs.Outside.{Puts, PutsSome, StoreState};
 
 use crate::halted::Halted;
 use crate::line_end::{Broken, LineEnd};
+use crate::next_line::NextLine;
 use crate::session::Session;
 use crate::worklist::Worklist;
 use byte_patterns::Patterns;
 use history_machine::Waiting;
-use plain_model::{Fault, Items, MAX_COMMANDS, NoMemory, Status, Which};
-use script_lines::{LineList, Script, ScriptLine, is_long, too_long};
+use macro_lines::CalledLines;
+use plain_model::{Fault, MAX_COMMANDS, NoMemory, Status, Which};
+use script_lines::{Script, ScriptLine, is_long, too_long};
 use script_reader::Order;
 use std::alloc::Global;
 use surgeon_store::{Sink, Store, WriteEnd, write_all};
@@ -43,7 +45,7 @@ fn carry_out_order<S: Store, T: Sink, P: Patterns>(
     store: &mut S,
     out: &mut T,
     patterns: &mut P,
-) -> Result<LineList, Halted>
+) -> Result<CalledLines, Halted>
     requires { depth ≤ MAX_COMMANDS }
     ensures carries { Under (P.sizes patterns.old) (P.sizes patterns.new)
         (λ denial. CarriesOut (λ calls. calls) (S.state store.old) (T.state out.old) session.old
@@ -55,7 +57,7 @@ fn carry_out_order<S: Store, T: Sink, P: Patterns>(
     match order {
         Order::Step(command) => {
             session.step(command, store, out, patterns)?;
-            Ok(Items::empty(alloc))
+            Ok(CalledLines::none())
         }
         Order::Do(call) => Ok(session.expand(call, depth + 1)?),
     }
@@ -71,7 +73,7 @@ fn carry_out<S: Store, T: Sink, P: Patterns>(
     store: &mut S,
     out: &mut T,
     patterns: &mut P,
-) -> Result<LineList, Halted>
+) -> Result<CalledLines, Halted>
     requires { depth ≤ MAX_COMMANDS }
     ensures carries { Under (P.sizes patterns.old) (P.sizes patterns.new)
         (λ denial. CarriesOut (λ calls. calls) (S.state store.old) (T.state out.old) session.old
@@ -82,7 +84,7 @@ fn carry_out<S: Store, T: Sink, P: Patterns>(
     match what {
         ScriptLine::Define { name, body } => {
             session.define(name, body)?;
-            Ok(Items::empty(alloc))
+            Ok(CalledLines::none())
         }
         ScriptLine::Plain(text) => {
             let order = Order::read(alloc, text.as_str())?;
@@ -167,17 +169,17 @@ fn past(what: &ScriptLine) -> Fault
     }
 }
 
-// Refuses a line, since no more may be run.
-fn refuse_past<T: Sink>(alloc: Global, out: &mut T, next: &Waiting) -> Status
+// Refuses the line at which a run ends, since no more may be run or it is too long.
+fn refuse_last<T: Sink>(alloc: Global, out: &mut T, line: u64, fault: &Fault) -> Status
     ensures prescribed { (s : StoreState) → IfSome (world s (T.state out.old))
         (λ w. IfSome (world s (T.state out.new))
-        (λ now. EndsPast next.now.line next.now.what result w now)) }
+        (λ now. EndsPast line fault.now result w now)) }
     ensures caused { (s : StoreState) → Caused s (T.state out.old) result s (T.state out.new) }
     ensures later { (s : StoreState) → Later s (T.state out.old) s (T.state out.new) }
     ensures ends { IsEnd result }
     ensures past { IsPastEnd result }
 {
-    match print_refusal(alloc, out, next.line, &past(&next.what)) {
+    match print_refusal(alloc, out, line, fault) {
         Ok(()) => Status::Refused,
         Err(WriteEnd::SinkFault) => Status::SinkFault,
         Err(WriteEnd::Memory) => Status::Memory,
@@ -224,24 +226,30 @@ fn run_lines<S: Store, T: Sink, P: Patterns>(
     let mut so_far = Status::Done;
     let mut left = MAX_COMMANDS;
     while let Some(next) = lines.take() {
-        if left == 0 {
-            return refuse_past(alloc, out, &next);
-        }
-        left -= 1;
-        let line = next.line;
-        let depth = next.depth + 1;
-        match run_line(alloc, session, next, store, out, patterns) {
-            LineEnd::Done(calls) => match lines.call(line, depth, calls) {
-                Ok(()) => {}
-                Err(NoMemory) => return Status::Memory,
-            },
-            LineEnd::Refused { is_last } => {
-                if is_stop(keep_going, is_last) {
-                    return Status::Refused;
+        match next {
+            NextLine::Line(next) => {
+                if left == 0 {
+                    return refuse_last(alloc, out, next.line, &past(&next.what));
                 }
-                so_far = Status::Refused;
+                left -= 1;
+                let line = next.line;
+                let depth = next.depth + 1;
+                match run_line(alloc, session, next, store, out, patterns) {
+                    LineEnd::Done(calls) => match lines.call(line, depth, calls) {
+                        Ok(()) => {}
+                        Err(NoMemory) => return Status::Memory,
+                    },
+                    LineEnd::Refused { is_last } => {
+                        if is_stop(keep_going, is_last) {
+                            return Status::Refused;
+                        }
+                        so_far = Status::Refused;
+                    }
+                    LineEnd::Broken(how) => return broken_status(how),
+                }
             }
-            LineEnd::Broken(how) => return broken_status(how),
+            NextLine::TooLong { line } => return refuse_last(alloc, out, line, &too_long()),
+            NextLine::NoMemory => return Status::Memory,
         }
     }
     so_far

@@ -28,9 +28,10 @@ use crate::subject::Subject;
 use byte_patterns::Patterns;
 use listing::all;
 use load_list::{LoadList, matchers_of};
+use macro_lines::{CalledLines, Macros};
 use plain_model::{Halt, Items, NoMemory, Text};
 use script_lines::{LineList, ScriptText};
-use script_reader::{Call, Command, Macros, WrittenSelection};
+use script_reader::{Call, Command, WrittenSelection};
 use selection_eval::sound_histories_are_such;
 use std::alloc::Global;
 use std::marker::Model;
@@ -79,7 +80,7 @@ impl Session {
     }
 
     /// The lines that a `do` puts in its place, where its body is run at this depth.
-    pub(crate) fn expand(&self, call: &Call, depth: u64) -> Result<LineList, Halt>
+    pub(crate) fn expand(&self, call: &Call, depth: u64) -> Result<CalledLines, Halt>
         ensures { Returns (λ lines. lines) result (called self.now.macros call.now depth) }
     {
         self.macros.expand(call, depth)

@@ -1,4 +1,4 @@
-use Rattle.std.proofs.Common.{sym, ap, ◌∙◌, subst, List, ℕ, []}
+use Rattle.std.proofs.Common.{refl, sym, ap, ◌∙◌, subst, List, ℕ, []}
 use Rattle.script_lines.specs.Scripts.{without_back}
 use Rattle.macro_lines.specs.Macros.{run_of}
 use Rattle.macro_lines.specs.Taken.{IsTaken}
@@ -23,4 +23,4 @@ pub returns-in-TooLong : goal.returns-in-TooLong
 returns-in-TooLong c put kept = takes_long c.args.selection.now put (rw c.in-TooLong.is at kept)
 
 pub returns-in-Comment : goal.returns-in-Comment
-returns-in-Comment c put kept = takes_nothing c.args.selection.now put (rw c.in-Comment.is at kept)
+returns-in-Comment c put kept = (takes_nothing c.args.selection.now put (rw c.in-Comment.is at kept), refl)

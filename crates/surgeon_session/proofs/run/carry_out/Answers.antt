@@ -30,7 +30,7 @@ returns-in_err-define-in-Define-clause-carries g c =
 pub returns-in_ok-define-in-Define-clause-carries : goal.returns-in_ok-define-in-Define-clause-carries
 unfolding line_step
 returns-in_ok-define-in-Define-clause-carries g c =
-    rw (c.in-Define.is, c.empty.ensures) (
+    rw (c.in-Define.is, c.none.ensures) (
       None,
       λ sized. absurd cc,
       done_alone (λ (calls : List Bytes). calls) _ _ c.args.session.now c.define.new.self _ _ [] (λ files. ap (λ (s : Session). Ok (quiet s)) (sym c.in_ok-define-in-Define.ensures.ok)),

@@ -26,7 +26,7 @@ returns-in_err-step-in-Step-clause-carries g c =
 pub returns-in_ok-step-in-Step-clause-carries : goal.returns-in_ok-step-in-Step-clause-carries
 returns-in_ok-step-in-Step-clause-carries g c =
     let ran = c.in_ok-step-in-Step.ensures.carries in
-    rw c.in-Step.is (ran.0, ran.1, as_done_line _ _ _ _ c.args.session.now c.step.new.self _ _ c.empty.result c.empty.ensures ran.2)
+    rw c.in-Step.is (ran.0, ran.1, as_done_line _ _ _ _ c.args.session.now c.step.new.self _ _ c.none.result c.none.ensures ran.2)
 
 pub returns-in_ok-expand-in-Do-clause-carries : goal.returns-in_ok-expand-in-Do-clause-carries
 returns-in_ok-expand-in-Do-clause-carries g c =

@@ -1,12 +1,14 @@
-use Rattle.std.proofs.Common.{◌≡◌, ◌+◌, ◌-◌, ◌||◌, [], ◌∷◌, ◌++◌, List, Option, None, subst, suc, not, true, false, sym, arith, ◌∙◌}
+use Rattle.std.proofs.Common.{◌≡◌, ◌+◌, ◌-◌, ◌||◌, [], ◌∷◌, ◌++◌, List, Option, None, refl, subst, zero, suc, not, true, false, sym, arith, ◌∙◌}
 use Rattle.plain_model.specs.Files.{Files}
 use Rattle.plain_model.specs.declared.limit.TheConstants.{MAX_COMMANDS}
 use Rattle.plain_model.specs.declared.status.Status.{Status}
 use Rattle.plain_model.specs.declared.status.Status.TheVariants as status
 use Rattle.byte_patterns.specs.Judging.{Denial}
-use Rattle.history_machine.specs.Machine.{SessionEndsAs, World, called_by, run_on}
+use Rattle.script_lines.specs.Scripts.{too_long}
+use Rattle.history_machine.specs.Machine.{SessionEndsAs, World, called_by, past, run_on}
 use Rattle.history_machine.specs.Sessions.{Session}
 use Rattle.history_machine.specs.Steps.{line_step}
+use Rattle.history_machine.specs.declared.waiting.Waiting.{Waiting}
 use Rattle.surgeon_session.specs.Calls.{world}
 use Rattle.surgeon_session.specs.Commands.{ReadNoFile, status_of_line}
 use Rattle.surgeon_session.specs.RunsTo.{RunsTo}
@@ -15,7 +17,8 @@ use Rattle.surgeon_session.specs.declared.line_end.LineEnd.TheVariants as line_e
 use Rattle.surgeon_session.proofs.Denying.{all_at_once, counted_more, no_more, one_by_one, with_none}
 use Rattle.surgeon_session.proofs.RunningTo.{runs_on_done, runs_on_refused, runs_no_further, runs_nowhere, runs_past, runs_to_broken, runs_to_refused, line_breaks_off, some_told}
 use Rattle.surgeon_session.proofs.Rounds.{caused_later, joined, later_later, none_failed, none_failed_later, mapped, same_later, same_world}
-use Rattle.surgeon_session.proofs.SessionRounds.{breaks_run, caused_quiet, done_goes_on, done_reads_none, ends_in, first_reads_none, line_breaks, memory_after, no_lines, past_ends, past_in, refused_goes_on, refused_reads_none, refused_stops, within_after, within_rest}
+use Rattle.surgeon_session.proofs.SessionRounds.{breaks_here, breaks_run, caused_quiet, done_goes_on, done_reads_none, ends_in, first_reads_none, line_breaks, memory_after, no_lines, past_ends, past_in, refused_goes_on, refused_reads_none, refused_stops, within_after, within_rest}
+use Rattle.surgeon_session.proofs.Waiting.{long_ends, runs_to_long}
 use Rattle.surgeon_session.proofs.run.run_lines.Goals as goal
 
 pub loop-next-init : goal.loop-next-init
@@ -49,31 +52,107 @@ returns-then-left-eq0-clause-runs g c =
     let known = c.loop-next.invariant in
     let p = known.runs in
     let so_far = c.loop-next.so_far in
-    let next = c.in-Some.next in
+    let next = c.in-Line.next in
     let rest = c.take.new.self in
-    let cut = c.in-Some.ensures in
+    let cut = rw c.in-Line.is at c.in-Some.ensures in
     let none : c.loop-next.left ≡ 0 = c.if-left-eq0.true in
     let n = g.P.Patterns.sizes c.args.patterns.now in
     let n' = g.P.Patterns.sizes c.loop-next.patterns in
-    let here = s c.loop-next.store in (
+    let here = s c.loop-next.store in
+    let last = c.refuse_last in
+    let prescribed = rw c.past.ensures at last.ensures.prescribed here in (
       p.0 ++ None ∷ [],
       counted_more n n' n' p.0 None known.grows (omega arith) p.1 (λ sized. absurd cc),
       record {
         outcome = record {
-          prescribed = joined (world (s c.args.store.now) (k c.args.out.now)) (world here (k c.loop-next.out)) (world here (k c.refuse_past.new.out)) known.later.reports p.2.0 (c.refuse_past.ensures.prescribed here)
-              (λ a b d p q. p (None ∷ []) c.refuse_past.result c.loop-next.session d (rw (cut, none) (past_ends line_step c.args.keep_going 0 None [] so_far c.loop-next.session c.loop-next.session b d next rest c.refuse_past.result q)));
-          caused = caused_later (s c.args.store.now) here here (k c.args.out.now) (k c.loop-next.out) (k c.refuse_past.new.out) c.refuse_past.result known.well known.later (c.refuse_past.ensures.caused here);
-          later = later_later (s c.args.store.now) here here (k c.args.out.now) (k c.loop-next.out) (k c.refuse_past.new.out) known.later (c.refuse_past.ensures.later here);
+          prescribed = joined (world (s c.args.store.now) (k c.args.out.now)) (world here (k c.loop-next.out)) (world here (k last.new.out)) known.later.reports p.2.0 prescribed
+              (λ a b d p q. p (None ∷ []) last.result c.loop-next.session d (rw (cut, none) (past_ends line_step c.args.keep_going 0 None [] so_far c.loop-next.session c.loop-next.session b d next rest last.result q)));
+          caused = caused_later (s c.args.store.now) here here (k c.args.out.now) (k c.loop-next.out) (k last.new.out) last.result known.well known.later (last.ensures.caused here);
+          later = later_later (s c.args.store.now) here here (k c.args.out.now) (k c.loop-next.out) (k last.new.out) known.later (last.ensures.later here);
         };
         exact = λ w0 reads.
             let at = p.2.1 w0 (None ∷ []) reads in
-            let last = past_in next.line next.what c.refuse_past.result at.0 c.refuse_past.ensures.past in (
-              last.0,
-              at.2 c.refuse_past.result c.loop-next.session last.0
-                  (rw (cut, none) (past_ends line_step c.args.keep_going 0 None [] so_far c.loop-next.session c.loop-next.session at.0 last.0 next rest c.refuse_past.result last.1)),
+            let end = past_in next.line (past next.what) last.result at.0 last.ensures.past in (
+              end.0,
+              at.2 last.result c.loop-next.session end.0
+                  (rw (cut, none) (past_ends line_step c.args.keep_going 0 None [] so_far c.loop-next.session c.loop-next.session at.0 end.0 next rest last.result end.1)),
             );
-        lines = p.2.2 (None ∷ []) c.refuse_past.result c.loop-next.session
-            (rw (cut, none) (runs_past line_step c.args.keep_going None [] so_far (None ∷ []) c.loop-next.session next rest c.refuse_past.result c.refuse_past.ensures.past));
+        lines = p.2.2 (None ∷ []) last.result c.loop-next.session
+            (rw (cut, none) (runs_past line_step c.args.keep_going None [] so_far (None ∷ []) c.loop-next.session next rest last.result last.ensures.past));
+      },
+    )
+
+pub returns-in-TooLong-clause-runs : goal.returns-in-TooLong-clause-runs
+returns-in-TooLong-clause-runs g c =
+    let s = g.S.Store.state in
+    let k = g.T.Sink.state in
+    let known = c.loop-next.invariant in
+    let p = known.runs in
+    let so_far = c.loop-next.so_far in
+    let long = rw c.in-TooLong.is at c.in-Some.ensures in
+    let next = long.0 in
+    let rest = c.take.new.self in
+    let cut = long.3 in
+    let keep = c.args.keep_going in
+    let left = c.loop-next.left in
+    let n = g.P.Patterns.sizes c.args.patterns.now in
+    let n' = g.P.Patterns.sizes c.loop-next.patterns in
+    let here = s c.loop-next.store in
+    let last = c.refuse_last-in-TooLong in
+    let prescribed = rw (c.too_long.ensures, ← long.1) at last.ensures.prescribed here in (
+      p.0 ++ None ∷ [],
+      counted_more n n' n' p.0 None known.grows (omega arith) p.1 (λ sized. absurd cc),
+      record {
+        outcome = record {
+          prescribed = joined (world (s c.args.store.now) (k c.args.out.now)) (world here (k c.loop-next.out)) (world here (k last.new.out)) known.later.reports p.2.0 prescribed
+              (λ a b d p q. p (None ∷ []) last.result c.loop-next.session d (subst (λ (ls : List Waiting). SessionEndsAs (run_on line_step keep left (None ∷ []) so_far c.loop-next.session b.files ls) last.result c.loop-next.session b c.loop-next.session d) (sym cut)
+              (long_ends keep left so_far c.loop-next.session b d next rest last.result long.2 q)));
+          caused = caused_later (s c.args.store.now) here here (k c.args.out.now) (k c.loop-next.out) (k last.new.out) last.result known.well known.later (last.ensures.caused here);
+          later = later_later (s c.args.store.now) here here (k c.args.out.now) (k c.loop-next.out) (k last.new.out) known.later (last.ensures.later here);
+        };
+        exact = λ w0 reads.
+            let at = p.2.1 w0 (None ∷ []) reads in
+            let end = past_in next.line too_long last.result at.0 last.ensures.past in (
+              end.0,
+              at.2 last.result c.loop-next.session end.0
+                  (subst (λ (ls : List Waiting). SessionEndsAs (run_on line_step keep left (None ∷ []) so_far c.loop-next.session at.0.files ls) last.result c.loop-next.session at.0 c.loop-next.session end.0) (sym cut)
+                  (long_ends keep left so_far c.loop-next.session at.0 end.0 next rest last.result long.2 end.1)),
+            );
+        lines = p.2.2 (None ∷ []) last.result c.loop-next.session 
+            (subst (λ (ls : List Waiting). RunsTo line_step keep left (None ∷ []) so_far c.loop-next.session ls last.result c.loop-next.session) (sym cut)
+            (runs_to_long keep left so_far c.loop-next.session next rest last.result long.2 last.ensures.past));
+      },
+    )
+
+pub returns-in-NoMemory-clause-runs : goal.returns-in-NoMemory-clause-runs
+returns-in-NoMemory-clause-runs g c =
+    let s = g.S.Store.state in
+    let k = g.T.Sink.state in
+    let known = c.loop-next.invariant in
+    let p = known.runs in
+    let so_far = c.loop-next.so_far in
+    let keep = c.args.keep_going in
+    let left = c.loop-next.left in
+    let session = c.loop-next.session in
+    let lines = c.loop-next.lines in (
+      p.0,
+      p.1,
+      record {
+        outcome = record {
+          prescribed = mapped (world (s c.args.store.now) (k c.args.out.now)) (world (s c.loop-next.store) (k c.loop-next.out))
+              (λ a b before. no_more (λ denials. SessionEndsAs (run_on line_step keep MAX_COMMANDS denials status.Done c.args.session.now a.files c.args.lines) status.Memory c.args.session.now a session b) p.0
+              (before [] status.Memory session b (zero, refl, breaks_here (run_on line_step keep left [] so_far session b.files lines).effects b))) p.2.0;
+          caused = tt;
+          later = known.later;
+        };
+        exact = λ w0 none.
+            let at = p.2.1 w0 [] (with_none (λ denials. ReadNoFile (run_on line_step keep MAX_COMMANDS denials status.Done c.args.session.now w0.files c.args.lines).ran) p.0 none) in (
+              at.0,
+              no_more (λ denials. SessionEndsAs (run_on line_step keep MAX_COMMANDS denials status.Done c.args.session.now w0.files c.args.lines) status.Memory c.args.session.now w0 session at.0) p.0
+                  (at.2 status.Memory session at.0 (zero, refl, breaks_here (run_on line_step keep left [] so_far session at.0.files lines).effects at.0)),
+            );
+        lines = no_more (λ denials. RunsTo line_step keep MAX_COMMANDS denials status.Done c.args.session.now c.args.lines status.Memory session) p.0
+            (p.2.2 [] status.Memory session (runs_nowhere line_step keep None [] so_far left [] session lines status.Memory tt));
       },
     )
 
@@ -86,9 +165,9 @@ returns-in-Err-clause-runs g c =
     let p = known.runs in
     let q = c.in-Done.ensures.runs in
     let so_far = c.loop-next.so_far in
-    let next = c.in-Some.next in
+    let next = c.in-Line.next in
     let rest = c.take.new.self in
-    let cut = c.in-Some.ensures in
+    let cut = rw c.in-Line.is at c.in-Some.ensures in
     let more : c.loop-next.left ≡ suc (c.loop-next.left - 1) = omega (arith, c.if-left-eq0.false) in
     let keep = c.args.keep_going in
     let old = c.loop-next.session in
@@ -127,9 +206,9 @@ loop-next-preserved-in-Ok g c =
     let p = known.runs in
     let q = c.in-Done.ensures.runs in
     let so_far = c.loop-next.so_far in
-    let next = c.in-Some.next in
+    let next = c.in-Line.next in
     let rest = c.take.new.self in
-    let cut = c.in-Some.ensures in
+    let cut = rw c.in-Line.is at c.in-Some.ensures in
     let more : c.loop-next.left ≡ suc (c.loop-next.left - 1) = omega (arith, c.if-left-eq0.false) in
     let keep = c.args.keep_going in
     let old = c.loop-next.session in
@@ -180,9 +259,9 @@ returns-then-is_stop-clause-runs g c =
     let p = known.runs in
     let q = c.in-Refused.ensures.runs in
     let so_far = c.loop-next.so_far in
-    let next = c.in-Some.next in
+    let next = c.in-Line.next in
     let rest = c.take.new.self in
-    let cut = c.in-Some.ensures in
+    let cut = rw c.in-Line.is at c.in-Some.ensures in
     let more : c.loop-next.left ≡ suc (c.loop-next.left - 1) = omega (arith, c.if-left-eq0.false) in
     let keep = c.args.keep_going in
     let old = c.loop-next.session in
@@ -221,9 +300,9 @@ loop-next-preserved g c =
     let p = known.runs in
     let q = c.in-Refused.ensures.runs in
     let so_far = c.loop-next.so_far in
-    let next = c.in-Some.next in
+    let next = c.in-Line.next in
     let rest = c.take.new.self in
-    let cut = c.in-Some.ensures in
+    let cut = rw c.in-Line.is at c.in-Some.ensures in
     let more : c.loop-next.left ≡ suc (c.loop-next.left - 1) = omega (arith, c.if-left-eq0.false) in
     let keep = c.args.keep_going in
     let old = c.loop-next.session in
@@ -275,9 +354,9 @@ returns-in-Broken-clause-runs g c =
     let p = known.runs in
     let q = c.in-Broken.ensures.runs in
     let so_far = c.loop-next.so_far in
-    let next = c.in-Some.next in
+    let next = c.in-Line.next in
     let rest = c.take.new.self in
-    let cut = c.in-Some.ensures in
+    let cut = rw c.in-Line.is at c.in-Some.ensures in
     let more : c.loop-next.left ≡ suc (c.loop-next.left - 1) = omega (arith, c.if-left-eq0.false) in
     let keep = c.args.keep_going in
     let old = c.loop-next.session in
@@ -322,7 +401,7 @@ returns-clause-runs g c =
         outcome = record {
           prescribed = mapped (world (s c.args.store.now) (k c.args.out.now)) (world (s c.loop-next.store) (k c.loop-next.out))
               (λ a b before. no_more (λ denials. SessionEndsAs (run_on line_step c.args.keep_going MAX_COMMANDS denials status.Done c.args.session.now a.files c.args.lines) so_far c.args.session.now a c.loop-next.session b) p.0
-              (before [] so_far c.loop-next.session b (rw c.in_default.ensures (no_lines so_far c.loop-next.session b)))) p.2.0;
+              (before [] so_far c.loop-next.session b (rw c.in_default.ensures.0 (no_lines so_far c.loop-next.session b)))) p.2.0;
           caused = caused_quiet (s c.args.store.now) (s c.loop-next.store) (k c.args.out.now) (k c.loop-next.out) so_far known.quiet known.well;
           later = known.later;
         };
@@ -330,9 +409,9 @@ returns-clause-runs g c =
             let at = p.2.1 w0 [] (with_none (λ denials. ReadNoFile (run_on line_step c.args.keep_going MAX_COMMANDS denials status.Done c.args.session.now w0.files c.args.lines).ran) p.0 none) in (
               at.0,
               no_more (λ denials. SessionEndsAs (run_on line_step c.args.keep_going MAX_COMMANDS denials status.Done c.args.session.now w0.files c.args.lines) so_far c.args.session.now w0 c.loop-next.session at.0) p.0
-                  (at.2 so_far c.loop-next.session at.0 (rw c.in_default.ensures (no_lines so_far c.loop-next.session at.0))),
+                  (at.2 so_far c.loop-next.session at.0 (rw c.in_default.ensures.0 (no_lines so_far c.loop-next.session at.0))),
             );
         lines = no_more (λ denials. RunsTo line_step c.args.keep_going MAX_COMMANDS denials status.Done c.args.session.now c.args.lines so_far c.loop-next.session) p.0
-            (p.2.2 [] so_far c.loop-next.session (rw c.in_default.ensures (runs_no_further line_step c.args.keep_going None [] so_far c.loop-next.left [] c.loop-next.session)));
+            (p.2.2 [] so_far c.loop-next.session (rw c.in_default.ensures.0 (runs_no_further line_step c.args.keep_going None [] so_far c.loop-next.left [] c.loop-next.session)));
       },
     )
