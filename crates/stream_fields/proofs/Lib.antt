@@ -4,4 +4,5 @@ pub mod Fronts
 pub mod Places
 pub mod QuoteSteps
 pub mod Rests
+pub mod SpelledFronts
 pub mod WholePeople

@@ -42,6 +42,10 @@ pub enum Extent<'a> {
 fn text_of_data(line: &[u8]) -> Option<&[u8]>
     ensures { option_copied result ≡ data_text line.now }
 {
+    // Mostly the line is so, and no space is searched for.
+    if let [b'd', b'a', b't', b'a', b' ', text @ ..] = line {
+        return Some(text);
+    }
     let (word, text) = words(line);
     if word == b"data".as_slice() {
         text

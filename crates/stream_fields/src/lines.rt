@@ -61,12 +61,30 @@ pub fn skip_line_feed(text: &[u8]) -> &[u8]
     }
 }
 
+// The place of the first space. Words are short: to look at each byte in turn finds it sooner than a search that is made
+// for long texts.
+fn first_space(text: &[u8]) -> Option<usize>
+    ensures value { result ≡ position (λ b. b == 32) text.now }
+    ensures within { IfSome result (λ at. at < length text.now) }
+{
+    text.iter().position(|b| *b == b' ')
+}
+
+// What is before the first space, and what is after it.
+#[tactic(auto, unfolding(plain_model::specs::Parts::cut_at))]
+fn cut_word(text: &[u8]) -> Option<(&[u8], &[u8])>
+    ensures { option_map (λ x. (x.0.now, x.1.now)) result ≡ cut_at 32 text.now }
+{
+    let at = first_space(text)?;
+    Some((&text[..at], &text[at + 1..]))
+}
+
 /// The first word, and what is after the space that ends it, if one does.
 pub fn words(text: &[u8]) -> (&[u8], Option<&[u8]>)
     ensures first { result.0.now ≡ first_word text.now }
     ensures after { option_copied result.1 ≡ after_space text.now }
 {
-    match cut(b' ', text) {
+    match cut_word(text) {
         Some((word, rest)) => (word, Some(rest)),
         None => (text, None),
     }

@@ -1,5 +1,5 @@
 //! Who did something, and when, as it is spelled.
-ghost use Rattle.std.specs.Prelude.{◌≡◌};
+ghost use Rattle.std.specs.Prelude.{◌≡◌, ◌-◌, length, take};
 ghost use Rattle.std.specs.Option.{option_map, option_copied};
 ghost use Rattle.plain_model.specs.Fields.{person_in};
 ghost use Rattle.plain_model.specs.Parts.{name_of, zone_of, when_of, when_after, person_parts};
@@ -89,12 +89,28 @@ pub fn parts_of_person(text: &[u8]) -> Option<(&[u8], &[u8], &[u8])>
     }
 }
 
-// The name and the email, as they are spelled.
-fn before_email_end(text: &[u8]) -> &[u8] {
-    match cut(b'>', text) {
-        Some((spelled, _)) => spelled,
-        None => text,
-    }
+// The text up to its tail.
+fn before_tail<'a>(text: &'a [u8], tail: &[u8]) -> &'a [u8]
+    ensures { result.now ≡ take (length text.now - length tail.now) text.now }
+{
+    &text[..text.len().saturating_sub(tail.len())]
+}
+
+// Who and when, where it isn't whoever was read last.
+#[tactic(auto, unfolding(plain_model::specs::Fields::person_in))]
+fn read_other(alloc: Global, people: &mut People, text: &[u8]) -> Result<Signed, FieldFault>
+    ensures { Gives (λ who. who) result (person_in text.now) }
+{
+    let Some((name, email, tail)) = parts_of_person(text) else {
+        return Err(FieldFault::Bad(Why::BadPerson));
+    };
+    let Some(when) = moment_after(tail) else {
+        return Err(FieldFault::Bad(Why::BadWhen));
+    };
+    let front = before_tail(text, tail);
+    let person = people.shared(alloc, front, name, email)?;
+    people.keep_spelled(front, &person)?;
+    Ok(Signed { person, when })
 }
 
 /// Who and when: a name and a space, or nothing; an email in `<` and `>`; seconds; a sign and four digits.
@@ -103,8 +119,10 @@ fn before_email_end(text: &[u8]) -> &[u8] {
 pub fn read_person(alloc: Global, people: &mut People, text: &[u8]) -> Result<Signed, FieldFault>
     ensures { Gives (λ who. who) result (person_in text.now) }
 {
-    let (name, email, tail) = or_defect(Why::BadPerson, parts_of_person(text))?;
+    let Some((person, tail)) = people.spelled(text) else {
+        return read_other(alloc, people, text);
+    };
+    let person = person.share()?;
     let when = or_defect(Why::BadWhen, moment_after(tail))?;
-    let person = people.shared(alloc, before_email_end(text), name, email)?;
     Ok(Signed { person, when })
 }

@@ -1,9 +1,13 @@
 //! Values of fields that come again and again in a stream: each is kept once, and has many owners.
-ghost use Rattle.std.specs.Prelude.{◌≡◌, true, IfOk, IfSome};
+ghost use Rattle.std.specs.Prelude.{◌≡◌, Some, true, IfOk, IfSome};
+ghost use Rattle.plain_model.specs.Parts.{person_parts};
+ghost use Rattle.stream_fields.specs.Spellings.{Spells};
 
+use crate::lines::strip;
 use plain_model::{Items, NoMemory, Person, Shared, Text};
 use std::alloc::Global;
 use std::collections::HashMap;
+use std::marker::Model;
 
 /// The names of branches so far.
 #[derive(Drop)]
@@ -19,6 +23,58 @@ pub struct People {
     kept: HashMap<Vec<u8>, Shared<Person>>,
     // Whoever was spelled last, who mostly comes next, too.
     last: Option<Shared<Person>>,
+    spelled: Spelled,
+}
+
+/// Whoever was read last, and how: the text up to the end of the email.
+#[derive(Drop)]
+struct Spelled {
+    front: Text,
+    person: Option<Shared<Person>>,
+}
+
+impl Model for Spelled {
+    ghost use Rattle.std.specs.Prelude.{IfSome};
+    ghost use Rattle.stream_fields.specs.Spellings.{Spells};
+
+    ghost Value = { Unit {0} };
+
+    ghost view = { λ _. tt };
+
+    ghost invariant = { λ s. IfSome s.person (Spells s.front) };
+}
+
+impl Spelled {
+    // Nobody yet.
+    fn new(alloc: Global) -> Spelled {
+        Spelled {
+            front: Items::empty(alloc),
+            person: None,
+        }
+    }
+
+    // Whoever was read last, and what is after the email, where the text begins with both as the last one did.
+    fn found<'a>(&self, text: &'a [u8]) -> Option<(&Shared<Person>, &'a [u8])>
+        ensures { IfSome result
+            (λ x. person_parts text.now ≡ Some (x.0.now.name, x.0.now.email, x.1.now)) }
+    {
+        let Some(person) = &self.person else {
+            return None;
+        };
+        let tail = strip(self.front.as_slice(), text)?;
+        Some((person, tail))
+    }
+
+    // The person is whoever was read last.
+    fn keep(&mut self, front: &[u8], person: &Shared<Person>) -> Result<(), NoMemory>
+        requires { Spells front.now person.now }
+    {
+        self.person = None;
+        self.front.truncate(0);
+        self.front.push_all(front)?;
+        self.person = Some(person.share()?);
+        Ok(())
+    }
 }
 
 // What is kept is looked at again where it is found, so that nothing has to be known of the maps.
@@ -88,6 +144,7 @@ impl People {
         People {
             kept: HashMap::new(alloc),
             last: None,
+            spelled: Spelled::new(alloc),
         }
     }
 
@@ -143,5 +200,24 @@ impl People {
         let made = self.kept_or_made(alloc, spelled, name, email)?;
         self.last = Some(made.share()?);
         Ok(made)
+    }
+
+    /// Whoever was read last, and what is after the email, where the text begins with both as the last one did.
+    pub(crate) fn spelled<'a>(&self, text: &'a [u8]) -> Option<(&Shared<Person>, &'a [u8])>
+        ensures { IfSome result
+            (λ x. person_parts text.now ≡ Some (x.0.now.name, x.0.now.email, x.1.now)) }
+    {
+        self.spelled.found(text)
+    }
+
+    /// The person was read last, from this text up to the end of the email.
+    pub(crate) fn keep_spelled(
+        &mut self,
+        front: &[u8],
+        person: &Shared<Person>,
+    ) -> Result<(), NoMemory>
+        requires { Spells front.now person.now }
+    {
+        self.spelled.keep(front, person)
     }
 }

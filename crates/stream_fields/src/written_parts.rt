@@ -9,6 +9,8 @@ ghost use Rattle.std.specs.Prelude.{
   ◌<◌,
   ◌==◌,
   ◌||◌,
+  ◌∷◌,
+  [],
   length,
   take,
   OnOk,
@@ -52,15 +54,27 @@ fn first_digit(number: u16) -> u8
     b'0' + (number / 1000) as u8
 }
 
+fn sign(minus: bool) -> u8
+    ensures { result ∷ [] ≡ (if minus then codes "-" else codes "+") }
+{
+    if minus { b'-' } else { b'+' }
+}
+
+// The zone with its sign, and the space before it.
 #[tactic(auto, using(crate::proofs::Fronts::fronts))]
-fn push_zone(out: &mut Text, offset: u16) -> Result<(), NoMemory>
-    ensures text { OnOk result (out.new ≡ out.old ++ zone offset) }
+fn push_zone(out: &mut Text, minus: bool, offset: u16) -> Result<(), NoMemory>
+    ensures text { OnOk result
+        (out.new ≡ out.old ++ (codes " " ++ (if minus then codes "-" else codes "+") ++ zone offset)) }
     ensures front { take (length out.old) out.new ≡ out.old }
 {
-    out.push(first_digit(offset))?;
-    out.push(digit(offset, 100))?;
-    out.push(digit(offset, 10))?;
-    out.push(digit(offset, 1))
+    out.push_all(&[
+        b' ',
+        sign(minus),
+        first_digit(offset),
+        digit(offset, 100),
+        digit(offset, 10),
+        digit(offset, 1),
+    ])
 }
 
 #[tactic(auto, using(crate::proofs::Fronts::fronts))]
@@ -85,21 +99,13 @@ fn push_address(out: &mut Text, person: &Person) -> Result<(), NoMemory>
     out.push_all(b"> ")
 }
 
-fn sign(minus: bool) -> &'static [u8]
-    ensures { result.now ≡ (if minus then codes "-" else codes "+") }
-{
-    if minus { b"-" } else { b"+" }
-}
-
 #[tactic(auto, using(crate::proofs::Fronts::fronts))]
 pub fn push_date(out: &mut Text, when: &When) -> Result<(), NoMemory>
     ensures text { OnOk result (out.new ≡ out.old ++ date when.now) }
     ensures front { take (length out.old) out.new ≡ out.old }
 {
     out.push_number(when.seconds)?;
-    out.push(b' ')?;
-    out.push_all(sign(when.minus))?;
-    push_zone(out, when.offset)
+    push_zone(out, when.minus, when.offset)
 }
 
 #[tactic(auto, using(crate::proofs::Fronts::fronts))]
