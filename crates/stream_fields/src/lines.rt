@@ -1,15 +1,59 @@
 //! Lines and words of a text, each with what follows it.
-ghost use Rattle.std.specs.Prelude.{◌≡◌, ◌==◌, ◌<◌, count_by, length, IfSome};
-ghost use Rattle.std.specs.List.{position};
+ghost use Rattle.std.specs.Prelude.{
+  ◌≡◌,
+  ◌==◌,
+  ◌≤◌,
+  ◌<◌,
+  not,
+  count_by,
+  length,
+  take,
+  IfSome,
+  if◌then◌else◌,
+};
+ghost use Rattle.std.specs.Int.{w64, trailing_zeros};
+ghost use Rattle.std.specs.List.{position, prefix_len};
 ghost use Rattle.std.specs.Option.{option_map, option_copied};
 ghost use Rattle.plain_model.specs.Fields.{first_word, after_space};
 ghost use Rattle.plain_model.specs.Parts.{line_at, rest_after, is_lf, skip_lf, cut_at};
+
+use std::simd::prelude::*;
+
+// So many bytes are compared at once: more than most lines of a stream have.
+const LANES: usize = 32;
+
+// How many bytes are before the lowest bit that is set, or all of so many.
+fn before_lowest(mask: u64, lanes: usize) -> usize
+    ensures { result ≡ (if mask == 0 then lanes else trailing_zeros w64 mask) }
+{
+    if mask == 0 {
+        lanes
+    } else {
+        mask.trailing_zeros() as usize
+    }
+}
+
+// How many of the first bytes come before the first such byte.
+fn run_before(byte: u8, text: &[u8]) -> usize
+    requires { LANES ≤ length text.now }
+    ensures { result ≡ prefix_len (λ b. not (b == byte)) (take 32 text.now) }
+{
+    let same = u8x32::from_slice(text).simd_eq(u8x32::splat(byte));
+    before_lowest(same.to_bitmask(), LANES)
+}
 
 /// The place of the first such byte.
 pub fn place_of(byte: u8, text: &[u8]) -> Option<usize>
     ensures value { result ≡ position (λ b. b == byte) text.now }
     ensures within { IfSome result (λ at. at < length text.now) }
 {
+    // Mostly the byte is near, and a search for what is far would take longer to begin than this takes.
+    if text.len() >= LANES {
+        let run = run_before(byte, text);
+        if run < LANES {
+            return Some(run);
+        }
+    }
     memchr::memchr(byte, text)
 }
 

@@ -44,9 +44,13 @@ pub fn read_branch(
 ) -> Result<Shared<Text>, FieldFault>
     ensures { Gives (λ name. name) result (name_in text.now) }
 {
-    if fits_name(text) {
-        Ok(names.shared(alloc, text)?)
-    } else {
-        Err(FieldFault::Bad(Why::BadName))
+    if let Some(last) = names.last_branch(text) {
+        return Ok(last.share()?);
     }
+    if !fits_name(text) {
+        return Err(FieldFault::Bad(Why::BadName));
+    }
+    let name = names.shared(alloc, text)?;
+    names.keep_branch(&name)?;
+    Ok(name)
 }

@@ -1,5 +1,6 @@
 //! Values of fields that come again and again in a stream: each is kept once, and has many owners.
-ghost use Rattle.std.specs.Prelude.{◌≡◌, Some, true, IfOk, IfSome};
+ghost use Rattle.std.specs.Prelude.{◌≡◌, Some, true, IfOk, IfSome, IsTrue};
+ghost use Rattle.plain_model.specs.Names.{is_name};
 ghost use Rattle.plain_model.specs.Parts.{person_parts};
 ghost use Rattle.stream_fields.specs.Spellings.{Spells};
 
@@ -15,6 +16,48 @@ pub struct Names {
     kept: HashMap<Vec<u8>, Shared<Text>>,
     // The one that was spelled last, which mostly comes next, too.
     last: Option<Shared<Text>>,
+    branch: LastBranch,
+}
+
+/// The branch that was read last. It is a name, so that it needn't be looked at again.
+#[derive(Drop)]
+struct LastBranch {
+    name: Option<Shared<Text>>,
+}
+
+impl Model for LastBranch {
+    ghost use Rattle.std.specs.Prelude.{IfSome, IsTrue};
+    ghost use Rattle.plain_model.specs.Names.{is_name};
+
+    ghost Value = { Unit {0} };
+
+    ghost view = { λ _. tt };
+
+    ghost invariant = { λ b. IfSome b.name (λ name. IsTrue (is_name name)) };
+}
+
+impl LastBranch {
+    // The branch that was read last, where the text is the same.
+    fn found(&self, text: &[u8]) -> Option<&Shared<Text>>
+        ensures { IfSome result (λ name. (name.now ≡ text.now) × IsTrue (is_name text.now)) }
+    {
+        let Some(name) = &self.name else {
+            return None;
+        };
+        if is_name(name, text) {
+            Some(name)
+        } else {
+            None
+        }
+    }
+
+    // The name is that of the branch that was read last.
+    fn keep(&mut self, name: &Shared<Text>) -> Result<(), NoMemory>
+        requires { IsTrue (is_name name.now) }
+    {
+        self.name = Some(name.share()?);
+        Ok(())
+    }
 }
 
 /// The people so far, by their names and emails as they were spelled.
@@ -96,6 +139,7 @@ impl Names {
         Names {
             kept: HashMap::new(alloc),
             last: None,
+            branch: LastBranch { name: None },
         }
     }
 
@@ -135,6 +179,22 @@ impl Names {
         let made = self.kept_or_made(alloc, name)?;
         self.last = Some(made.share()?);
         Ok(made)
+    }
+}
+
+impl Names {
+    /// The branch that was read last, where the text is the same.
+    pub(crate) fn last_branch(&self, text: &[u8]) -> Option<&Shared<Text>>
+        ensures { IfSome result (λ name. (name.now ≡ text.now) × IsTrue (is_name text.now)) }
+    {
+        self.branch.found(text)
+    }
+
+    /// The name is that of the branch that was read last.
+    pub(crate) fn keep_branch(&mut self, name: &Shared<Text>) -> Result<(), NoMemory>
+        requires { IsTrue (is_name name.now) }
+    {
+        self.branch.keep(name)
     }
 }
 
