@@ -6,6 +6,7 @@ mod closing;
 mod draft_trees;
 mod fault;
 mod known;
+mod line_texts;
 mod open;
 mod operations;
 mod references;

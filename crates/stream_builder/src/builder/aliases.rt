@@ -28,6 +28,7 @@ impl Builder {
         Ok(())
     }
 
+    #[inline(never)]
     pub(crate) fn judge_to(&mut self, line: &[u8]) -> Result<(), LineFault>
         ensures { Judges self.new result (judged_within word.To line.now self.old) }
     {

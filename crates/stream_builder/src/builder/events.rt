@@ -10,6 +10,7 @@ ghost use Rattle.stream_builder.specs.Judging.{Judges};
 
 use crate::builder::Builder;
 use crate::fault::LineFault;
+use crate::line_texts::text_of_commit;
 use crate::open::{Open, OpenCommit};
 use plain_model::{CommitId, Items, NoMemory, ParentList, Why};
 use std::alloc::Global;
@@ -32,6 +33,7 @@ fn is_left_out_feature(line: &[u8]) -> bool
 }
 
 impl Builder {
+    #[inline(never)]
     pub(crate) fn judge_blob(&mut self, alloc: Global, line: &[u8]) -> Result<(), LineFault>
         ensures { Judges self.new result (judged_within word.Blob line.now self.old) }
     {
@@ -39,6 +41,7 @@ impl Builder {
         self.within_events()
     }
 
+    #[inline(never)]
     pub(crate) fn judge_tag(&mut self, alloc: Global, line: &[u8]) -> Result<(), LineFault>
         ensures { Judges self.new result (judged_within word.Tag line.now self.old) }
     {
@@ -58,6 +61,7 @@ impl Builder {
         self.within_events()
     }
 
+    #[inline(never)]
     pub(crate) fn judge_reset(&mut self, alloc: Global, line: &[u8]) -> Result<(), LineFault>
         ensures { Judges self.new result (judged_within word.Reset line.now self.old) }
     {
@@ -67,6 +71,7 @@ impl Builder {
         self.within_events()
     }
 
+    #[inline(never)]
     pub(crate) fn judge_alias(&mut self, alloc: Global, line: &[u8]) -> Result<(), LineFault>
         ensures { Judges self.new result (judged_within word.Alias line.now self.old) }
     {
@@ -84,10 +89,11 @@ impl Builder {
         }
     }
 
+    #[inline(never)]
     pub(crate) fn judge_commit(&mut self, alloc: Global, line: &[u8]) -> Result<(), LineFault>
         ensures { Judges self.new result (judged_within word.Commit line.now self.old) }
     {
-        let branch = read_branch(alloc, &mut self.names, text_of(line))?;
+        let branch = read_branch(alloc, &mut self.names, text_of_commit(line))?;
         self.close(alloc)?;
         let parents = self.tip_list(alloc, branch.as_slice())?;
         let commit = OpenCommit {
@@ -114,6 +120,7 @@ impl Builder {
         Ok(())
     }
 
+    #[inline(never)]
     pub(crate) fn judge_pass(&mut self, alloc: Global, line: &[u8]) -> Result<(), LineFault>
         ensures { Judges self.new result (judged_within word.Pass line.now self.old) }
     {
@@ -124,6 +131,7 @@ impl Builder {
         self.within_events()
     }
 
+    #[inline(never)]
     pub(crate) fn judge_feature_done(&mut self, alloc: Global, line: &[u8]) -> Result<(), LineFault>
         ensures { Judges self.new result (judged_within word.FeatureDone line.now self.old) }
     {

@@ -7,6 +7,7 @@ ghost use Rattle.stream_builder.specs.Judging.{Judges};
 
 use crate::builder::Builder;
 use crate::fault::LineFault;
+use crate::line_texts::{text_of_author, text_of_committer, text_of_mark};
 use crate::open::Open;
 use plain_model::{Items, Mark, Shared, Why};
 use std::alloc::Global;
@@ -29,7 +30,7 @@ impl Builder {
     pub(crate) fn judge_mark(&mut self, line: &[u8]) -> Result<(), LineFault>
         ensures { Judges self.new result (judged_within word.Mark line.now self.old) }
     {
-        let mark = read_mark(text_of(line))?;
+        let mark = read_mark(text_of_mark(line))?;
         if self.drafts.is_marked(mark) || self.aliases.is_alias(mark) {
             return Err(LineFault::Bad(Why::RepeatedMark));
         }
@@ -37,26 +38,29 @@ impl Builder {
         Ok(())
     }
 
+    #[inline(never)]
     pub(crate) fn judge_author(&mut self, alloc: Global, line: &[u8]) -> Result<(), LineFault>
         ensures { Judges self.new result (judged_within word.Author line.now self.old) }
     {
-        let who = self.people.read(alloc, text_of(line))?;
+        let who = self.people.read(alloc, text_of_author(line))?;
         if let Open::Commit(commit) = &mut self.current {
             commit.author = Some(who);
         }
         Ok(())
     }
 
+    #[inline(never)]
     pub(crate) fn judge_committer(&mut self, alloc: Global, line: &[u8]) -> Result<(), LineFault>
         ensures { Judges self.new result (judged_within word.Committer line.now self.old) }
     {
-        let who = self.people.read(alloc, text_of(line))?;
+        let who = self.people.read(alloc, text_of_committer(line))?;
         if let Open::Commit(commit) = &mut self.current {
             commit.committer = Some(who);
         }
         Ok(())
     }
 
+    #[inline(never)]
     pub(crate) fn judge_encoding(&mut self, alloc: Global, line: &[u8]) -> Result<(), LineFault>
         ensures { Judges self.new result (judged_within word.Encoding line.now self.old) }
     {
@@ -67,6 +71,7 @@ impl Builder {
         Ok(())
     }
 
+    #[inline(never)]
     pub(crate) fn judge_tagger(&mut self, alloc: Global, line: &[u8]) -> Result<(), LineFault>
         ensures { Judges self.new result (judged_within word.Tagger line.now self.old) }
     {

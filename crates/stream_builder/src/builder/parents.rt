@@ -7,6 +7,7 @@ ghost use Rattle.std.specs.Prelude.{
   [],
   Ok,
   IfOk,
+  IsTrue,
   OnErr,
   OnOk,
   if◌then◌else◌,
@@ -21,6 +22,7 @@ ghost use Rattle.stream_builder.specs.Judging.{Judges};
 
 use crate::builder::Builder;
 use crate::fault::LineFault;
+use crate::line_texts::text_of_from;
 use crate::open::Open;
 use crate::references::read_reference;
 use plain_model::{
@@ -41,6 +43,16 @@ fn has_parent(parents: &[CommitId], commit: CommitId) -> bool
     ensures { result ≡ list_any (λ q. q == commit) parents.now }
 {
     parents.iter().any(|parent| *parent == commit)
+}
+
+// Whether the commit is the one parent.
+fn is_only(parents: &[CommitId], commit: CommitId) -> bool
+    ensures { IsTrue result → parents.now ≡ commit ∷ [] }
+{
+    match parents {
+        [only] => *only == commit,
+        _ => false,
+    }
 }
 
 // One parent more, if it isn't there.
@@ -64,6 +76,10 @@ impl Builder {
     {
         match &mut self.current {
             Open::Commit(open) => {
+                // Mostly it is the tip of the branch, with which the commit began.
+                if is_only(open.parents.as_slice(), commit) {
+                    return Ok(());
+                }
                 let parents = Items::of(alloc, &[commit])?;
                 let ops = open.ops.as_slice();
                 self.trees
@@ -77,10 +93,11 @@ impl Builder {
         Ok(())
     }
 
+    #[inline(never)]
     pub(crate) fn judge_from(&mut self, alloc: Global, line: &[u8]) -> Result<(), LineFault>
         ensures { Judges self.new result (judged_within word.From line.now self.old) }
     {
-        let commit = read_reference(&self.drafts, &self.aliases, text_of(line))?;
+        let commit = read_reference(&self.drafts, &self.aliases, text_of_from(line))?;
         self.set_from(alloc, commit)?;
         Ok(())
     }
@@ -112,6 +129,7 @@ impl Builder {
         Ok(())
     }
 
+    #[inline(never)]
     pub(crate) fn judge_merge(&mut self, alloc: Global, line: &[u8]) -> Result<(), LineFault>
         ensures { Judges self.new result (judged_within word.Merge line.now self.old) }
     {

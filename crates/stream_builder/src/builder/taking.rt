@@ -14,6 +14,7 @@ use stream_grammar::Word;
 
 impl Builder {
     /// Takes a line that may be where it is. Its fields are judged from left to right, and then the limits.
+    // Each case stays a function of its own, so that what it keeps on the stack isn't made ready for lines of other words.
     pub fn judge(&mut self, alloc: Global, word: Word, line: &[u8]) -> Result<(), LineFault>
         ensures { Judges self.new result (judged_within word line.now self.old) }
     {
