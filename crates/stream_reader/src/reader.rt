@@ -9,6 +9,7 @@ ghost use Rattle.std.specs.Prelude.{
   ℕ,
   [],
   Bool,
+  Err,
   IfErr,
   IfOk,
   List,
@@ -224,12 +225,20 @@ impl StreamReader {
         };
     }
 
+    // A line was refused. It stays a function of its own, so that `stay` is a test and nothing more.
+    #[inline(never)]
+    fn refuse(&mut self, fault: ReadFault)
+        ensures { self.new ≡ record self.old { place = placed (Err fault) } }
+    {
+        self.place = Place::Refused(fault);
+    }
+
     // The place is as it is, unless a line was refused.
     fn stay(&mut self, ended: Result<(), ReadFault>)
         ensures { self.new ≡ record self.old { place = placed (stayed self.old.place ended) } }
     {
         if let Err(fault) = ended {
-            self.place = Place::Refused(fault);
+            self.refuse(fault);
         }
     }
 
@@ -538,8 +547,10 @@ impl StreamReader {
         rest.len()
     }
 
-    // Takes a byte or more, and says how many.
-    fn take(&mut self, rest: &[u8]) -> usize
+    // Takes a byte or more where the next one isn't the first of a line, and says how many. It stays a function of its own, so
+    // that what it keeps on the stack isn't made ready for each line.
+    #[inline(never)]
+    fn take_within(&mut self, rest: &[u8]) -> usize
         requires some { 0 < length rest.now }
         requires room { self.old.come + length rest.now < 2 ^ 63 }
         ensures count { (1 ≤ result) × (result ≤ length rest.now) }
@@ -547,9 +558,6 @@ impl StreamReader {
         ensures reads { (m : StreamMachine) → HasCome self.old m →
             HasCome self.new (after m (take result rest.now)) }
     {
-        if is_between_lines(&self.place) {
-            return self.begin_line(rest);
-        }
         let between = Place::Line {
             begun: Items::empty(self.alloc),
         };
@@ -566,6 +574,22 @@ impl StreamReader {
             Place::EndlessBlock { from } => self.pass_over(Place::EndlessBlock { from }, rest),
             Place::Over => self.pass_over(Place::Over, rest),
             Place::Refused(fault) => self.pass_over(Place::Refused(fault), rest),
+        }
+    }
+
+    // Takes a byte or more, and says how many.
+    fn take(&mut self, rest: &[u8]) -> usize
+        requires some { 0 < length rest.now }
+        requires room { self.old.come + length rest.now < 2 ^ 63 }
+        ensures count { (1 ≤ result) × (result ≤ length rest.now) }
+        ensures come { self.new.come ≡ self.old.come + result }
+        ensures reads { (m : StreamMachine) → HasCome self.old m →
+            HasCome self.new (after m (take result rest.now)) }
+    {
+        if is_between_lines(&self.place) {
+            self.begin_line(rest)
+        } else {
+            self.take_within(rest)
         }
     }
 

@@ -5,7 +5,7 @@ use Rattle.stream_reader.specs.Reading.{HasCome, IsIn, Reading, StreamMachine, a
 use Rattle.stream_reader.proofs.Ends.{stopped_on}
 use Rattle.stream_reader.proofs.Pieces.{ended_on, endless_on}
 use Rattle.stream_reader.proofs.Taken.{passed}
-use Rattle.stream_reader.proofs.reader.StreamReader.take.Goals as goal
+use Rattle.stream_reader.proofs.reader.StreamReader.take_within.Goals as goal
 
 pub returns-in-AfterBlock-clause-reads : goal.returns-in-AfterBlock-clause-reads
 returns-in-AfterBlock-clause-reads c =
