@@ -215,6 +215,15 @@ impl StreamReader {
         }
     }
 
+    // The next byte is there from now on. It stays a function of its own, since to let go of the place before takes room on the
+    // stack, which would be made ready for each line.
+    #[inline(never)]
+    fn go_on_at(&mut self, place: Place)
+        ensures { self.new ≡ record self.old { place = place } }
+    {
+        self.place = place;
+    }
+
     // Where the next byte is, unless a line was refused.
     fn go_to(&mut self, leads: Result<Place, ReadFault>)
         ensures { self.new ≡ record self.old { place = placed leads } }
@@ -304,13 +313,13 @@ impl StreamReader {
         match word {
             Word::Data => match self.end_data(line) {
                 Ok(place) => {
-                    self.place = place;
+                    self.go_on_at(place);
                     Ok(())
                 }
                 Err(fault) => Err(fault),
             },
             Word::Done => {
-                self.place = Place::Over;
+                self.go_on_at(Place::Over);
                 Ok(())
             }
             _ => match self.builder.judge(self.alloc, word, line) {

@@ -15,7 +15,7 @@ returns-in-Ok-end_data-clause-leads c =
     let line = c.args.line.now in
     let old = c.self.inside in
     let next = c.end_data.new.self in
-    subst (λ (r : Reading). (spelled : List Bytes) → IsIn r.standing r.known (c.args.self.now.number + 1) c.args.self.now.come c.in-Ok-end_data.place (after_line c.args.self.now.number (state c.args.self.now.standing spelled c.args.self.now.known) line)) (sym c.self-in-Data.view_is)
+    subst (λ (r : Reading). (spelled : List Bytes) → IsIn r.standing r.known (c.args.self.now.number + 1) c.args.self.now.come r.place (after_line c.args.self.now.number (state c.args.self.now.standing spelled c.args.self.now.known) line)) (sym c.go_on_at.ensures)
     (subst (λ (r : Reading). (spelled : List Bytes) → IsIn next.standing next.known (r.number + 1) r.come c.in-Ok-end_data.place (after_line r.number (state r.standing spelled r.known) line)) c.self.view_is
     (λ spelled. subst (λ (x : Result Place ReadFault). Leads next.standing next.known (old.number + 1) old.come x (after_line old.number (state old.standing spelled old.builder) line)) c.in-Ok-end_data.is
     (subst (λ m. Leads next.standing next.known (old.number + 1) old.come c.end_data.result m)
@@ -36,9 +36,10 @@ returns-in-Err-end_data-clause-leads c =
 pub returns-in-Done-clause-leads : goal.returns-in-Done-clause-leads
 returns-in-Done-clause-leads c =
     let line = c.args.line.now in
-    subst (λ (r : Reading). (spelled : List Bytes) → IsIn c.in-Ok.after c.self.inside.builder (r.number + 1) r.come place.Over (after_line r.number (state r.standing spelled r.known) line)) c.self.view_is
+    subst (λ (r : Reading). (spelled : List Bytes) → IsIn r.standing r.known (c.args.self.now.number + 1) c.args.self.now.come r.place (after_line c.args.self.now.number (state c.args.self.now.standing spelled c.args.self.now.known) line)) (sym c.go_on_at-in-Done.ensures)
+    (subst (λ (r : Reading). (spelled : List Bytes) → IsIn c.in-Ok.after c.self.inside.builder (r.number + 1) r.come place.Over (after_line r.number (state r.standing spelled r.known) line)) c.self.view_is
     (λ spelled. ended c.self.inside.standing c.self.inside.builder c.self.inside.number c.self.inside.come line spelled c.word_of-word.result (sym c.is_comment.ensures ∙ c.if-is_comment.false) c.word_of-word.ensures
-    c.in-Ok.after (sym c.after.ensures ∙ c.in-Ok.is) c.in-Done.is)
+    c.in-Ok.after (sym c.after.ensures ∙ c.in-Ok.is) c.in-Done.is))
 
 pub returns-after-judge : goal.returns-after-judge
 returns-after-judge c =
