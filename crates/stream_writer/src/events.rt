@@ -10,7 +10,7 @@ ghost use Rattle.plain_model.specs.Text.{
   tagger_text,
   target_text,
 };
-ghost use Rattle.stream_writer.specs.Parts.{head_text, body_text};
+ghost use Rattle.stream_writer.specs.Parts.{blob_text, body_text, head_text};
 
 use crate::fields::{push_line, push_mark_line, push_signed_line};
 use crate::marks::commit_mark;
@@ -47,7 +47,7 @@ fn push_mark(out: &mut Text, mark: Option<Mark>) -> Result<(), NoMemory>
     ensures { OnOk result (out.new ≡ out.old ++ mark_text mark) }
 {
     match mark {
-        Some(mark) => push_mark_line(out, b"mark ", mark.number()),
+        Some(mark) => push_mark_line(out, b"mark :", mark.number()),
         None => Ok(()),
     }
 }
@@ -57,8 +57,8 @@ fn push_alias(out: &mut Text, mark: Mark, alias: Mark) -> Result<(), NoMemory>
     ensures { OnOk result (out.new ≡ out.old ++ alias_text mark alias) }
 {
     out.push_all(b"alias\n")?;
-    push_mark_line(out, b"mark ", alias.number())?;
-    push_mark_line(out, b"to ", mark.number())
+    push_mark_line(out, b"mark :", alias.number())?;
+    push_mark_line(out, b"to :", mark.number())
 }
 
 fn push_aliases(out: &mut Text, mark: Mark, aliases: &[Mark]) -> Result<(), NoMemory>
@@ -74,7 +74,7 @@ fn push_target(out: &mut Text, history: &Events, target: Option<CommitId>) -> Re
     ensures { OnOk result (out.new ≡ out.old ++ target_text history.now.list target) }
 {
     match target {
-        Some(commit) => push_mark_line(out, b"from ", commit_mark(history, commit)),
+        Some(commit) => push_mark_line(out, b"from :", commit_mark(history, commit)),
         None => Ok(()),
     }
 }
@@ -109,7 +109,7 @@ fn push_head(
         (out.new ≡ out.old ++ head_text branch.now mark author.now committer.now) }
 {
     push_line(out, b"commit ", branch)?;
-    push_mark_line(out, b"mark ", mark.number())?;
+    push_mark_line(out, b"mark :", mark.number())?;
     push_signed_line(out, b"author ", author)?;
     push_signed_line(out, b"committer ", committer)
 }
@@ -133,6 +133,14 @@ fn push_body(
     out.push(b'\n')
 }
 
+// The lines of a blob and its bytes.
+fn push_blob(out: &mut Text, mark: Mark, bytes: &[u8]) -> Result<(), NoMemory>
+    ensures { OnOk result (out.new ≡ out.old ++ blob_text mark bytes.now) }
+{
+    push_mark_line(out, b"blob\nmark :", mark.number())?;
+    write_data(bytes, out)
+}
+
 /// Puts an event, where the branches are so before it.
 pub fn push_event(
     out: &mut Text,
@@ -143,11 +151,7 @@ pub fn push_event(
     ensures { OnOk result (out.new ≡ out.old ++ event_text history.now.list tips.now event.now) }
 {
     match event {
-        PlainEvent::Blob { mark, bytes, .. } => {
-            out.push_all(b"blob\n")?;
-            push_mark_line(out, b"mark ", mark.number())?;
-            write_data(bytes.as_slice(), out)
-        }
+        PlainEvent::Blob { mark, bytes, .. } => push_blob(out, *mark, bytes.as_slice()),
         PlainEvent::Commit {
             mark,
             branch,

@@ -1,6 +1,7 @@
 //! Lines at the end of a text. Where memory runs out, here and in the other modules, it is
 //! left open how much of them is there: the text is dropped then.
 ghost use Rattle.std.specs.Prelude.{◌≡◌, ◌++◌, OnOk};
+ghost use Rattle.std.specs.Fmt.{decimal};
 ghost use Rattle.plain_model.specs.Text.{line, marked, person};
 
 use plain_model::{NoMemory, Signed, Text};
@@ -23,12 +24,12 @@ pub fn push_marked(out: &mut Text, mark: u64) -> Result<(), NoMemory>
     out.push_number(mark)
 }
 
-/// Puts a line of a word and a mark.
-pub fn push_mark_line(out: &mut Text, word: &[u8], mark: u64) -> Result<(), NoMemory>
-    ensures { OnOk result (out.new ≡ out.old ++ line (word.now ++ marked mark)) }
+/// Puts a line that ends in a mark; what is before that goes up to the colon.
+pub fn push_mark_line(out: &mut Text, front: &[u8], mark: u64) -> Result<(), NoMemory>
+    ensures { OnOk result (out.new ≡ out.old ++ line (front.now ++ decimal mark)) }
 {
-    out.push_all(word)?;
-    push_marked(out, mark)?;
+    out.push_all(front)?;
+    out.push_number(mark)?;
     out.push(b'\n')
 }
 

@@ -4,6 +4,7 @@ ghost use Rattle.plain_model.specs.Snapshots.{commit_mark};
 ghost use Rattle.plain_model.specs.Text.{
   line,
   marked,
+  mode_text,
   raw_content,
   raw_content_text,
   op_text,
@@ -18,7 +19,7 @@ use crate::fields::{push_mark_line, push_marked};
 use crate::marks::{blob_mark, commit_mark};
 use event_arena::Events;
 use plain_model::{CommitId, Content, FileOp, Mode, NoMemory, Path, Place, Text};
-use stream_fields::{mode_digits, write_path};
+use stream_fields::write_path;
 
 fn push_content(out: &mut Text, history: &Events, content: Content) -> Result<(), NoMemory>
     ensures { OnOk result (out.new ≡ out.old ++ raw_content_text (raw_content history.now.list content)) }
@@ -26,6 +27,18 @@ fn push_content(out: &mut Text, history: &Events, content: Content) -> Result<()
     match content {
         Content::Blob(id) => push_marked(out, blob_mark(history, id)),
         Content::Object(id) => out.push_all(id.digits()),
+    }
+}
+
+// What is before the content, in one piece.
+fn front_of_modify(mode: Mode) -> &'static [u8]
+    ensures { result.now ≡ codes "M " ++ mode_text mode ++ codes " " }
+{
+    match mode {
+        Mode::Plain => b"M 100644 ",
+        Mode::Executable => b"M 100755 ",
+        Mode::Link => b"M 120000 ",
+        Mode::Gitlink => b"M 160000 ",
     }
 }
 
@@ -38,9 +51,7 @@ fn push_modify(
 ) -> Result<(), NoMemory>
     ensures { OnOk result (out.new ≡ out.old ++ modify_text history.now.list mode content path.now) }
 {
-    out.push_all(b"M ")?;
-    out.push_all(mode_digits(mode))?;
-    out.push(b' ')?;
+    out.push_all(front_of_modify(mode))?;
     push_content(out, history, content)?;
     out.push(b' ')?;
     write_path(path, Place::Last, out)
@@ -101,7 +112,7 @@ fn push_merges(out: &mut Text, history: &Events, merges: &[CommitId]) -> Result<
     ensures { OnOk result (out.new ≡ out.old ++ merges_text history.now.list merges.now) }
 {
     for merge in merges {
-        push_mark_line(out, b"merge ", commit_mark(history, *merge))?;
+        push_mark_line(out, b"merge :", commit_mark(history, *merge))?;
     }
     Ok(())
 }
@@ -113,7 +124,7 @@ pub fn push_parents(out: &mut Text, history: &Events, parents: &[CommitId]) -> R
     match parents {
         [] => Ok(()),
         [first, further @ ..] => {
-            push_mark_line(out, b"from ", commit_mark(history, *first))?;
+            push_mark_line(out, b"from :", commit_mark(history, *first))?;
             push_merges(out, history, further)
         }
     }

@@ -53,8 +53,7 @@ fn send_piece<W: Sink>(gathered: &mut Text, sink: &mut W) -> Result<(), WriteEnd
 fn push_blob_head(out: &mut Text, mark: Mark, size: usize) -> Result<(), NoMemory>
     ensures { OnOk result (out.new ≡ out.old ++ blob_head mark size) }
 {
-    out.push_all(b"blob\n")?;
-    push_mark_line(out, b"mark ", mark.number())?;
+    push_mark_line(out, b"blob\nmark :", mark.number())?;
     out.push_all(b"data ")?;
     out.push_number(size as u64)?;
     out.push(b'\n')
