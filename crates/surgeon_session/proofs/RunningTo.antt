@@ -117,8 +117,11 @@ module _ {X C : Type 0} (step : Option C → X → Files → ℕ → ScriptLine 
     runs_to_last files fault is ends answer past = at (past_ends_here answer past)
       where
         at : EndsHere status.Refused answer → RunsTo step keep (suc left) (here ∷ more) so_far s (next ∷ lines) answer s
-        at (inl same) = inr (files, subst (after_it answer s) (sym is)
-            (subst (λ b. Either b (RunsTo step keep left more status.Refused s lines answer s) ((s ≡ s) × (answer ≡ status.Refused))) (sym (off_limit keep (passes_limit fault) ends)) (refl, same)))
+        at (inl same) = inr (
+          files,
+          subst (after_it answer s) (sym is)
+              (subst (λ b. Either b (RunsTo step keep left more status.Refused s lines answer s) ((s ≡ s) × (answer ≡ status.Refused))) (sym (off_limit keep (passes_limit fault) ends)) (refl, same)),
+        )
         at (inr broken) = inl (refl, broken)
 
     -- by one at which the run is broken off

@@ -53,11 +53,7 @@ fn lines_of(alloc: Global, script: &Script) -> Result<VecDeque<Waiting>, NoMemor
 }
 
 // Takes the next line of macros out, of the innermost one that has one left.
-fn take_called(
-    alloc: Global,
-    current: &mut Frame,
-    around: &mut Vec<Frame>,
-) -> Option<NextLine>
+fn take_called(alloc: Global, current: &mut Frame, around: &mut Vec<Frame>) -> Option<NextLine>
     ensures { IsNext result (current.old ++ from_last around.old.items)
         (current.new ++ from_last around.new.items) }
 {

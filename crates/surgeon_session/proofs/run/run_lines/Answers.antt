@@ -118,7 +118,7 @@ returns-in-TooLong-clause-runs g c =
                   (subst (λ (ls : List Waiting). SessionEndsAs (run_on line_step keep left (None ∷ []) so_far c.loop-next.session at.0.files ls) last.result c.loop-next.session at.0 c.loop-next.session end.0) (sym cut)
                   (long_ends keep left so_far c.loop-next.session at.0 end.0 next rest last.result long.2 end.1)),
             );
-        lines = p.2.2 (None ∷ []) last.result c.loop-next.session 
+        lines = p.2.2 (None ∷ []) last.result c.loop-next.session
             (subst (λ (ls : List Waiting). RunsTo line_step keep left (None ∷ []) so_far c.loop-next.session ls last.result c.loop-next.session) (sym cut)
             (runs_to_long keep left so_far c.loop-next.session next rest last.result long.2 last.ensures.past));
       },
