@@ -66,17 +66,17 @@ pub struct People {
     kept: HashMap<Vec<u8>, Shared<Person>>,
     // Whoever was spelled last, who mostly comes next, too.
     last: Option<Shared<Person>>,
-    spelled: Spelled,
+    last_read: LastPerson,
 }
 
 /// Whoever was read last, and how: the text up to the end of the email.
 #[derive(Drop)]
-struct Spelled {
+struct LastPerson {
     front: Text,
     person: Option<Shared<Person>>,
 }
 
-impl Model for Spelled {
+impl Model for LastPerson {
     ghost use Rattle.std.specs.Prelude.{IfSome};
     ghost use Rattle.stream_fields.specs.Spellings.{Spells};
 
@@ -87,10 +87,10 @@ impl Model for Spelled {
     ghost invariant = { λ s. IfSome s.person (Spells s.front) };
 }
 
-impl Spelled {
+impl LastPerson {
     // Nobody yet.
-    fn new(alloc: Global) -> Spelled {
-        Spelled {
+    fn new(alloc: Global) -> LastPerson {
+        LastPerson {
             front: Items::empty(alloc),
             person: None,
         }
@@ -204,7 +204,7 @@ impl People {
         People {
             kept: HashMap::new(alloc),
             last: None,
-            spelled: Spelled::new(alloc),
+            last_read: LastPerson::new(alloc),
         }
     }
 
@@ -267,7 +267,7 @@ impl People {
         ensures { IfSome result
             (λ x. person_parts text.now ≡ Some (x.0.now.name, x.0.now.email, x.1.now)) }
     {
-        self.spelled.found(text)
+        self.last_read.found(text)
     }
 
     /// The person was read last, from this text up to the end of the email.
@@ -278,6 +278,6 @@ impl People {
     ) -> Result<(), NoMemory>
         requires { Spells front.now person.now }
     {
-        self.spelled.keep(front, person)
+        self.last_read.keep(front, person)
     }
 }

@@ -5,7 +5,7 @@ use Rattle.plain_model.specs.Parts.{person_parts, rest_after}
 use Rattle.plain_model.specs.Paths.{Bytes}
 use Rattle.field_laws.proofs.Lines.{after_is}
 use Rattle.stream_fields.specs.Spellings.{Spells}
-use Rattle.stream_fields.proofs.repeated.Spelled.found.Goals as goal
+use Rattle.stream_fields.proofs.repeated.LastPerson.found.Goals as goal
 
 pub returns : goal.returns
 returns c =
