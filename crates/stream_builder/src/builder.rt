@@ -85,7 +85,8 @@ impl Builder {
         Ok(())
     }
 
-    // Another event begins, which has no operations yet.
+    // Another event begins, which has no operations yet. It is inlined, so that the event is made where it stays.
+    #[inline(always)]
     fn begin(&mut self, alloc: Global, current: Open) -> Result<(), NoMemory>
         requires { ops_in current ≡ [] }
         ensures { OnOk result (self.new ≡ begun_with self.old (open_of current)) }
