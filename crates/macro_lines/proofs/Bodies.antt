@@ -57,13 +57,6 @@ module _ (selection : Option Bytes) (words : List Bytes) where
       go (Some it) run rest some is lines = (is.0, is.1, lines ∙ ap (λ (ls : List Bytes). ls ++ rest) is.2)
       go None run rest some is lines = absurd cc
 
-  -- nothing is made where no line is left
-  pub none_left : (body : List Bytes) (k : ℕ) → slice_get body k ≡ None → made_lines (expanded selection words (drop k body)) ≡ []
-  none_left [] zero none = refl
-  none_left [] (suc k) none = refl
-  none_left (t ∷ ts) zero none = absurd cc
-  none_left (t ∷ ts) (suc k) none = none_left ts k none
-
   -- words are looked for in a body just as it is made
   pub found_so : (body : List Bytes) → looked_for words body ≡ Ok tt → IsOk (expanded selection words body)
   found_so [] is = refl

@@ -113,6 +113,3 @@ same_start (b ∷ bs) some = go (without_back bs) (is_margin b) refl some
     go [] true is some = absurd (some (rw is refl))
     go [] false is some = rw is refl
     go (x ∷ xs) m is some = refl
-
-pub of_some : (b : ℕ) (bs piece : Bytes) → is_nothing ((b ∷ bs) ++ piece) ≡ is_nothing (b ∷ bs)
-of_some b bs piece = refl

@@ -18,7 +18,6 @@ use Rattle.surgeon_session.specs.Stacks.{from_last}
 use Rattle.surgeon_session.specs.RunsTo.{RunsTo}
 use Rattle.surgeon_session.specs.Waits.{EndsPast, IsLongLine, IsNext, IsPastEnd}
 use Rattle.surgeon_session.specs.declared.next_line.NextLine.{NextLine}
-use Rattle.surgeon_session.specs.declared.next_line.NextLine.TheVariants as taken
 use Rattle.surgeon_session.proofs.RunningTo.{runs_past, runs_to_last}
 use Rattle.surgeon_session.proofs.SessionRounds.{last_ends, past_ends}
 
@@ -28,14 +27,6 @@ use Rattle.surgeon_session.proofs.SessionRounds.{last_ends, past_ends}
 pub last_first : {A : Type 0} (lists : List (List A)) (list : List A) → from_last (lists ++ list ∷ []) ≡ list ++ from_last lists
 last_first [] list = sym (append-nil list)
 last_first (l ∷ lists) list = ap (λ xs. xs ++ l) (last_first lists list) ∙ append_assoc list (from_last lists) l
-
--- ---- the next line
-
--- it is the next of all, where it is that of the first of them
-pub next_of_all : (it : NextLine) (old new rest : List Waiting) → IsNext (Some it) old new → IsNext (Some it) (old ++ rest) (new ++ rest)
-next_of_all (taken.Line first) old new rest is = ap (λ (ws : List Waiting). ws ++ rest) is
-next_of_all (taken.TooLong line) old new rest is = (is.0, is.1, is.2, ap (λ (ws : List Waiting). ws ++ rest) is.3)
-next_of_all taken.NoMemory old new rest is = tt
 
 -- ---- a line that is too long
 
@@ -81,10 +72,3 @@ pub next_of_script : (taken : Option NextLine) (old new : List Waiting) (current
     → IsNext taken (current ++ (from_last around ++ old)) (now ++ (from_last left ++ new))
 next_of_script taken old new current now around left none is =
     rw (sym (append_assoc current (from_last around) old), none.0, sym (append_assoc now (from_last left) new), none.1) is
-
--- a line of macros is the next of all
-pub next_of_macros : (it : NextLine) (current now script : List Waiting) (around left : List (List Waiting))
-    → IsNext (Some it) (current ++ from_last around) (now ++ from_last left)
-    → IsNext (Some it) (current ++ (from_last around ++ script)) (now ++ (from_last left ++ script))
-next_of_macros it current now script around left is =
-    rw (← append_assoc current (from_last around) script, ← append_assoc now (from_last left) script) (next_of_all it (current ++ from_last around) (now ++ from_last left) script is)
