@@ -32,7 +32,7 @@ use Rattle.path_move_laws.proofs.Steadily.{SameBelow, SameWay, below_as_many, be
 
 -- ---- lengths of images
 
-all_short : (f : Bytes → Bytes) (es : Tree) → ((p : Bytes) → has es p ≡ true → nat_lt MAX_PATH_BYTES (length (f p)) ≡ false) → has_long_path (with_images f es) ≡ false
+pub all_short : (f : Bytes → Bytes) (es : Tree) → ((p : Bytes) → has es p ≡ true → nat_lt MAX_PATH_BYTES (length (f p)) ≡ false) → has_long_path (with_images f es) ≡ false
 all_short f [] h = refl
 all_short f (e ∷ es) h =
     or_from (nat_lt MAX_PATH_BYTES (length (f e.0))) (has_long_path (with_images f es)) (h e.0 (first_there e es))

@@ -25,7 +25,8 @@ pub use operations::{an_operation_moves_the_image, operations_are_mapped_in_turn
 pub use path_map::PathMap;
 pub use shortcuts::{
     a_copy_is_right, a_deletion_has_no_fault, a_deletion_is_right, a_deletion_of_nothing_is_known,
-    a_put_is_right, a_rename_is_right, below_a_folder_names_are_enough,
+    a_put_is_right, a_rename_is_right, below_a_folder_a_long_put_is_enough,
+    below_a_folder_names_are_enough, below_a_folder_short_paths_go_by_name,
 };
 pub use trees::{
     a_collision_is_found, a_difference_makes_the_new_tree, a_difference_tells_trees_apart,

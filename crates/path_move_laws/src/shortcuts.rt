@@ -1,14 +1,24 @@
 //! When mapped operations are right is known from what they do to a tree and to its image, without the images of whole
 //! trees. Each function's contract is a law, and its body is empty.
-ghost use Rattle.std.specs.Prelude.{◌≡◌, ◌+◌, ◌<◌, ◌&&◌, [], Ok, length, IsFalse, IsTrue};
+ghost use Rattle.std.specs.Prelude.{◌≡◌, ◌≤◌, ◌+◌, ◌<◌, ◌&&◌, List, [], Ok, Some, length, IsFalse, IsTrue};
+ghost use Rattle.std.specs.List.{list_any};
+ghost use Rattle.plain_model.specs.declared.event.PlainEvent.{PlainEvent};
+ghost use Rattle.plain_model.specs.declared.fault.Fault.TheVariants as fault;
+ghost use Rattle.plain_model.specs.declared.fault.Which.TheVariants as limit;
+ghost use Rattle.plain_model.specs.declared.limit.TheConstants.{MAX_PATH_BYTES};
 ghost use Rattle.plain_model.specs.declared.operation.Content.{Content};
 ghost use Rattle.plain_model.specs.declared.operation.FileOp.TheVariants.{Modify, Delete, Copy, Rename};
 ghost use Rattle.plain_model.specs.declared.operation.Mode.{Mode};
-ghost use Rattle.plain_model.specs.Paths.{Bytes};
+ghost use Rattle.plain_model.specs.Paths.{Bytes, IsPath};
+ghost use Rattle.plain_model.specs.Soundness.{IsSound};
 ghost use Rattle.plain_model.specs.Trees.{IsTree, Tree, apply, has, subtree};
 ghost use Rattle.path_move_laws.specs.Apart.{AreApart, MayMove};
+ghost use Rattle.path_move_laws.specs.ByName.{GoesByName};
 ghost use Rattle.path_move_laws.specs.Images.{image};
+ghost use Rattle.path_move_laws.specs.Lengths.{longest_in};
+ghost use Rattle.path_move_laws.specs.LongPuts.{has_long_put};
 ghost use Rattle.path_move_laws.specs.MovedOps.{is_path, mapped_op, moved_op, names_paths};
+ghost use Rattle.path_move_laws.specs.Moves.{first_of};
 ghost use Rattle.path_move_laws.specs.PathMaps.{image_of};
 ghost use Rattle.path_move_laws.specs.Steady.{GoesAlong, IsRight};
 ghost use Rattle.path_move_laws.specs.declared.path_map.PathMap.TheVariants.{Sub};
@@ -110,4 +120,19 @@ pub fn below_a_folder_names_are_enough()
         MayMove (image_of (Sub folder)) new → apply op old ≡ Ok new →
         IsTrue (names_paths (mapped_op (image_of (Sub folder)) op)) →
         IsRight (image_of (Sub folder)) op old new (image (image_of (Sub folder)) new) }
+{}
+
+/// Below a folder one put whose path gets too long is why a move is refused, whichever tree is the first to have such a
+/// path.
+pub fn below_a_folder_a_long_put_is_enough()
+    ensures { (folder : Bytes) (events : List PlainEvent) → IsSound events →
+        IsTrue (list_any (has_long_put (image_of (Sub folder))) events) →
+        first_of (image_of (Sub folder)) events events ≡ Some (fault.Limit limit.PathBytes MAX_PATH_BYTES) }
+{}
+
+/// Below a folder each operation becomes itself at the images of its paths, and no tree has a fault, where by the
+/// operations alone no path gets too long.
+pub fn below_a_folder_short_paths_go_by_name()
+    ensures { (folder : Bytes) (events : List PlainEvent) → IsPath folder → IsSound events →
+        length folder + 1 + longest_in 0 events ≤ MAX_PATH_BYTES → GoesByName (image_of (Sub folder)) events }
 {}
