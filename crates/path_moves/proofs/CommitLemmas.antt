@@ -1,5 +1,5 @@
 -- Commits one after another, with the trees that they begin with.
-use Rattle.std.proofs.Common.{◌≡◌, ◌∙◌, ℕ, ◌+◌, List, ◌∷◌, arith, refl, sym, ap, subst, inl, inr, true, false, true≢false, Option, Some, None, Result, Ok, Err}
+use Rattle.std.proofs.Common.{◌≡◌, ◌∙◌, ℕ, ◌+◌, List, ◌∷◌, map, arith, refl, sym, ap, subst, inl, inr, true, false, true≢false, Option, Some, None, Result, Ok, Err}
 use Rattle.std.specs.Prelude.{IsOk, IsSome, slice_get}
 use Rattle.std.proofs.lemmas.Bool.{cases_eq}
 use Rattle.std.proofs.lemmas.Option.{same_Some}
@@ -23,6 +23,8 @@ use Rattle.graph_walk.proofs.TurnLemmas.{all_at}
 use Rattle.expunge_laws.proofs.Changed.{fitting}
 use Rattle.plan_steps.proofs.NodeLemmas.{earlier_there}
 use Rattle.plan_steps.proofs.WayLemmas.{commit_own, first_known}
+use Rattle.path_move_laws.specs.ByName.{named_event}
+use Rattle.path_move_laws.specs.MovedOps.{mapped_op}
 use Rattle.path_move_laws.specs.Moves.{event_fault, first_of, moved_event, moved_ops}
 use Rattle.path_move_laws.proofs.OtherOps.{same_id_of}
 use Rattle.path_moves.specs.Commits.{MayMoveOf, MayMoveTo, Reports}
@@ -91,3 +93,17 @@ module _ (f : Bytes → Bytes) (events : List PlainEvent) where
   no_commit (Tag id name target tagger comment mark) h = (refl, refl, refl)
   no_commit (Reset id branch target) h = (refl, refl, refl)
   no_commit (Pass id line) h = (refl, refl, refl)
+
+-- the same where operations go by their names
+pub unnamed : (f : Bytes → Bytes) (e : PlainEvent)
+    → ((id mark : ℕ) (branch : Bytes) (author committer : Signed) (encoding : Option Bytes) (comment : Bytes) (parents : List ℕ) (ops : List FileOp) (aliases : List ℕ)
+    → e ≡ Commit id mark branch author committer encoding comment parents ops aliases → ⊥)
+    → named_event f e ≡ e
+unnamed f (Commit id mark branch author committer encoding comment parents ops aliases) h = absurd (h id mark branch author committer encoding comment parents ops aliases refl)
+unnamed f (Blob id mark bytes) h = refl
+unnamed f (Tag id name target tagger comment mark) h = refl
+unnamed f (Reset id branch target) h = refl
+unnamed f (Pass id line) h = refl
+
+pub named_id : (f : Bytes → Bytes) (e : PlainEvent) → id_of (named_event f e) ≡ id_of e
+named_id f e = same_id_of (λ parents ops. map (mapped_op f) ops) e

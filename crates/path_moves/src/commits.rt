@@ -55,8 +55,13 @@ fn moved_ops(
     Ok(Moved { ops: made, pair })
 }
 
-// Gives a commit of the plan other operations, unless they are those that it has.
-fn give_ops(plan: &mut Plan, commit: CommitId, ops: &[FileOp], made: OpList) -> Result<(), NoMemory>
+/// Gives a commit of the plan other operations, unless they are those that it has.
+pub fn give_ops(
+    plan: &mut Plan,
+    commit: CommitId,
+    ops: &[FileOp],
+    made: OpList,
+) -> Result<(), NoMemory>
     requires { (e : _) × (find_event (Commit commit) plan.old.after ≡ Some e) × (event_ops e ≡ ops.now) }
     ensures { OnOk result (plan.new ≡ record plan.old {
       after = changed (Commit commit) (with_ops made) plan.old.after;

@@ -28,8 +28,8 @@ pub struct Place {
     pub number: u64,
 }
 
-// The fault of images that are too long.
-fn too_long() -> Halt
+/// The fault of images that are too long.
+pub fn too_long() -> Halt
     ensures { result ≡ Halt.Refused (Fault.Limit Which.PathBytes MAX_PATH_BYTES) }
 {
     Halt::Refused(Fault::Limit {

@@ -5,7 +5,7 @@ ghost use Rattle.manifest_cache.specs.Kept.{AgreesWith};
 ghost use Rattle.path_move_laws.specs.Moves.{paths_moved};
 ghost use Rattle.path_move_laws.specs.PathMaps.{image_of};
 
-use crate::commits::move_ops;
+use crate::courses::move_all;
 use crate::wholes::has_paths;
 use event_arena::{Events, Plan};
 use manifest_cache::Manifests;
@@ -32,7 +32,7 @@ pub fn map_paths(
     let _count = events.count();
     has_paths(map);
     let mut plan = Plan::new(alloc, events)?;
-    move_ops(alloc, events, manifests, map, &mut plan)?;
+    move_all(alloc, events, manifests, map, &mut plan)?;
     if let Some(fault) = limit_passed(&plan) {
         return Err(Halt::Refused(fault));
     }

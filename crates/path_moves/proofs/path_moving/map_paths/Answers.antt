@@ -14,12 +14,12 @@ returns-clause-plans c =
     let f = image_of c.args.map.now in
     let events = c.args.events.now.list in
     let new = moved_events f events in
-    let plan = c.move_ops.new.plan in
-    let changed = c.in_ok-move_ops.ensures.changed in
+    let plan = c.move_all.new.plan in
+    let changed = c.in_ok-move_all.ensures.changed in
     let after : plan.after ≡ new = ap (λ (p : Change). p.after) changed in
     let within : limit_fault new ≡ None = ap limit_fault (sym after) ∙ sym c.limit_passed.ensures ∙ c.in_default.is in
     let done : paths_moved f events ≡ Ok plan.after =
-    ap (λ (o : Option Fault). unless_fault o (unless_fault (limit_fault new) (Ok new))) c.in_ok-move_ops.ensures.calm
+    ap (λ (o : Option Fault). unless_fault o (unless_fault (limit_fault new) (Ok new))) c.in_ok-move_all.ensures.calm
     ∙ ap (λ (o : Option Fault). unless_fault o (Ok new)) within
     ∙ ap (λ (es : List PlainEvent). Ok es) (sym after) in
     let made : plan ≡ leaving c.args.events.now new = changed ∙ ap (λ (p : Change). record p { after = new }) c.in_ok-plan.ensures in
