@@ -1,2 +1,3 @@
+pub mod LastTips
 pub mod Noted
 pub mod TipEntries

@@ -43,11 +43,11 @@ module _ {A : Type 0} where
       go Greater h = ap (λ (l : TreeOf ℕ). (e.0.items, e.1) ∷ l) h
 
   -- a branch that is less than all is none of them
-  none_there : (b : Bytes) (es : List (Vec ℕ A × ℕ)) → AllByRecursion (λ (k : Vec ℕ A). by_bytes b k.items ≡ Less) (keys_of es) → lookup (is_at (λ k. by_bytes b k.items)) es ≡ None
+  pub none_there : (b : Bytes) (es : List (Vec ℕ A × ℕ)) → AllByRecursion (λ (k : Vec ℕ A). by_bytes b k.items ≡ Less) (keys_of es) → lookup (is_at (λ k. by_bytes b k.items)) es ≡ None
   none_there b [] h = refl
   none_there b (e ∷ es) h = ap (λ t. cond t (Some e.1) (lookup (is_at (λ k. by_bytes b k.items)) es)) (less_is_no_tie (by_bytes b e.0.items) h.0) ∙ none_there b es h.1
 
-  less_than_all : (b : Bytes) (e : Vec ℕ A) (ks : List (Vec ℕ A)) → by_bytes b e.items ≡ Less → AllByRecursion (λ (k : Vec ℕ A). by_bytes e.items k.items ≡ Less) ks → AllByRecursion (λ (k : Vec ℕ A). by_bytes b k.items ≡ Less) ks
+  pub less_than_all : (b : Bytes) (e : Vec ℕ A) (ks : List (Vec ℕ A)) → by_bytes b e.items ≡ Less → AllByRecursion (λ (k : Vec ℕ A). by_bytes e.items k.items ≡ Less) ks → AllByRecursion (λ (k : Vec ℕ A). by_bytes b k.items ≡ Less) ks
   less_than_all b e ks less h = all_imply (λ (k : Vec ℕ A). by_bytes e.items k.items ≡ Less) (λ k. by_bytes b k.items ≡ Less) (λ k later. nat_list_cmp_total.trans b e.items k.items less later) ks h
 
   -- what is put in the place of another tip

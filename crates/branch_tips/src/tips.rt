@@ -1,8 +1,10 @@
 //! The tips of branches.
-ghost use Rattle.std.specs.Prelude.{◌≡◌, ◌∷◌, [], not, bytes_eq, IfOk, OnOk, OnErr};
+ghost use Rattle.std.specs.Prelude.{◌≡◌, ◌∷◌, [], not, bytes_eq, IfOk, OnOk, OnErr, IsTrue};
 ghost use Rattle.plain_model.specs.Snapshots.{refs_after};
 ghost use Rattle.plain_model.specs.Trees.{at, has, put, where_path};
+ghost use Rattle.branch_tips.specs.Entries.{tips_in, tips_with, is_among, AreInOrder};
 
+use crate::last_tip::LastTip;
 use plain_model::{CommitId, Items, NoMemory, PlainEvent, Text};
 use std::alloc::Global;
 use std::collections::BTreeMap;
@@ -13,21 +15,24 @@ use std::marker::Model;
 #[derive(Drop)]
 pub struct Tips {
     alloc: Global,
+    // The last branch may have an older tip here.
     by_branch: BTreeMap<Vec<u8>, CommitId>,
+    // Most commits go on with the branch of the one before, and to compare two names costs less than a look-up.
+    last: LastTip,
 }
 
 /// Branches with commits.
 pub type TipList = Items<(Text, CommitId)>;
 
 impl Model for Tips {
-    ghost use Rattle.std.specs.Prelude.{List, ℕ};
-    ghost use Rattle.branch_tips.specs.Entries.{tips_in, AreInOrder};
+    ghost use Rattle.std.specs.Prelude.{List, ℕ, IsTrue};
+    ghost use Rattle.branch_tips.specs.Entries.{tips_in, tips_with, is_among, AreInOrder};
 
     ghost Value = { List (List ℕ × ℕ) };
 
-    ghost view = { λ t. tips_in t.by_branch.entries };
+    ghost view = { λ t. tips_with t.last (tips_in t.by_branch.entries) };
 
-    ghost invariant = { λ t. AreInOrder t.by_branch.entries };
+    ghost invariant = { λ t. AreInOrder t.by_branch.entries × IsTrue (is_among t.last (tips_in t.by_branch.entries)) };
 }
 
 impl Tips {
@@ -38,6 +43,7 @@ impl Tips {
         Tips {
             alloc,
             by_branch: BTreeMap::new(alloc),
+            last: LastTip::none(alloc),
         }
     }
 
@@ -45,7 +51,10 @@ impl Tips {
     pub fn tip(&self, branch: &[u8]) -> Option<CommitId>
         ensures { result ≡ at self.now branch.now }
     {
-        self.by_branch.get(branch).copied()
+        match self.last.tip_of(branch) {
+            Some(tip) => Some(tip),
+            None => self.by_branch.get(branch).copied(),
+        }
     }
 
     /// Whether the branch has a tip.
@@ -59,24 +68,20 @@ impl Tips {
     pub fn entries(&self) -> Result<TipList, NoMemory>
         ensures { IfOk result (λ list. list ≡ self.now) }
     {
-        let mut list = Items::new(self.alloc)?;
-        for (branch, tip) in &self.by_branch {
-            list.push((Items::of(self.alloc, branch.as_slice())?, *tip))?;
-        }
-        Ok(list)
+        list_of(self.alloc, &self.by_branch, &self.last)
     }
 
-    /// The branch is on the commit from now on. Only a branch without a tip takes memory.
+    /// The branch is on the commit from now on. Only a branch without a tip needs memory.
     pub fn set(&mut self, branch: &[u8], tip: CommitId) -> Result<(), NoMemory>
         ensures ok { OnOk result (self.new ≡ put branch.now tip self.old) }
         ensures err { OnErr result (self.new ≡ self.old) }
     {
-        if let Some(known) = self.by_branch.get_mut(branch) {
-            *known = tip;
+        if self.last.move_to(branch, tip) {
             return Ok(());
         }
-        let branch = Vec::from_slice(self.alloc, branch)?;
-        self.by_branch.insert(branch, tip)?;
+        self.last.settle(&mut self.by_branch);
+        put_in(self.alloc, &mut self.by_branch, branch, tip)?;
+        self.last.keep(branch, tip);
         Ok(())
     }
 
@@ -84,6 +89,7 @@ impl Tips {
     pub fn remove(&mut self, branch: &[u8])
         ensures { self.new ≡ where_path (λ other. not (bytes_eq branch.now other)) self.old }
     {
+        self.last.settle(&mut self.by_branch);
         self.by_branch.remove(branch);
     }
 
@@ -104,4 +110,43 @@ impl Tips {
             _ => Ok(()),
         }
     }
+}
+
+// Each branch of the map with its tip, of the last one the newer.
+fn list_of(
+    alloc: Global,
+    by_branch: &BTreeMap<Vec<u8>, CommitId>,
+    last: &LastTip,
+) -> Result<TipList, NoMemory>
+    requires in_order { AreInOrder by_branch.now.entries }
+    requires among { IsTrue (is_among last.now (tips_in by_branch.now.entries)) }
+    ensures { IfOk result (λ list. list ≡ tips_with last.now (tips_in by_branch.now.entries)) }
+{
+    let mut list = Items::new(alloc)?;
+    for (branch, tip) in by_branch {
+        let tip = last.tip_of(branch.as_slice()).unwrap_or(*tip);
+        list.push((Items::of(alloc, branch.as_slice())?, tip))?;
+    }
+    Ok(list)
+}
+
+// In the map the branch is on the commit from now on. Only a new entry takes memory.
+fn put_in(
+    alloc: Global,
+    by_branch: &mut BTreeMap<Vec<u8>, CommitId>,
+    branch: &[u8],
+    tip: CommitId,
+) -> Result<(), NoMemory>
+    requires { AreInOrder by_branch.old.entries }
+    ensures in_order { AreInOrder by_branch.new.entries }
+    ensures ok { OnOk result (tips_in by_branch.new.entries ≡ put branch.now tip (tips_in by_branch.old.entries)) }
+    ensures err { OnErr result (by_branch.new.entries ≡ by_branch.old.entries) }
+{
+    if let Some(known) = by_branch.get_mut(branch) {
+        *known = tip;
+        return Ok(());
+    }
+    let branch = Vec::from_slice(alloc, branch)?;
+    by_branch.insert(branch, tip)?;
+    Ok(())
 }

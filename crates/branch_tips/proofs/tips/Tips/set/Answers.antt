@@ -1,20 +1,24 @@
-use Rattle.std.proofs.Common.{◌≡◌, ap, is_some, sym, ◌∙◌}
-use Rattle.std.specs.Option.{option_copied_mut}
+use Rattle.std.proofs.Common.{◌∙◌, ap, sym}
 use Rattle.plain_model.specs.Trees.{put}
-use Rattle.branch_tips.specs.Entries.{tips_in}
-use Rattle.branch_tips.proofs.TipEntries.{put_tips, set_tips}
+use Rattle.branch_tips.specs.Entries.{tips_in, tips_with, is_among}
+use Rattle.branch_tips.proofs.LastTips.{moved_with, kept_with, kept_among}
 use Rattle.branch_tips.proofs.tips.Tips.set.Goals as goal
 
-pub returns-in-Some-clause-ok : goal.returns-in-Some-clause-ok
-returns-in-Some-clause-ok c =
-    let written = c.get_mut.follows.holds c.args.tip in
-    rw (← c.self.view_is) (ap tips_in written.0 ∙ set_tips c.args.branch.now c.args.tip c.self.inside.by_branch.entries c.self.invariant
-    (ap is_some (sym c.get_mut.ensures.value) ∙ ap (λ r. is_some (option_copied_mut r)) c.in-Some.is))
+pub returns-then-move_to-clause-ok : goal.returns-then-move_to-clause-ok
+returns-then-move_to-clause-ok c =
+    let tips = tips_in c.self.inside.by_branch.entries in
+    rw (← c.self.view_is) (ap (λ l. tips_with l tips) c.if-move_to.ensures.moved
+    ∙ moved_with c.self.inside.last c.args.branch.now c.args.tip tips (sym c.if-move_to.ensures.is_last))
+
+pub invariant_of-self-2 : goal.invariant_of-self-2
+invariant_of-self-2 c =
+    let settled = tips_in c.settle.new.by_branch.entries in
+    (c.put_in.ensures.in_order, ap (is_among c.keep.new.self) c.in_ok-put_in.ensures.ok ∙ kept_among c.keep.new.self c.args.branch.now c.args.tip settled c.keep.ensures)
 
 pub returns-clause-ok : goal.returns-clause-ok
 returns-clause-ok c =
-    let branch : c.in_ok-branch.branch.items ≡ c.args.branch.now = c.in_ok-branch.ensures.items in
-    let same = c.get_mut.follows.holds-at-none in
-    rw (← c.self.view_is, ← branch) (ap tips_in c.in_ok-insert.ensures.entries
-    ∙ put_tips c.in_ok-branch.branch c.args.tip c.get_mut.follows.lender-at-none.entries
-    ∙ ap (λ m. put c.in_ok-branch.branch.items c.args.tip (tips_in m.entries)) same)
+    let settled = tips_in c.settle.new.by_branch.entries in
+    let tips = tips_in c.self.inside.by_branch.entries in
+    rw (← c.self.view_is) (ap (tips_with c.keep.new.self) c.in_ok-put_in.ensures.ok
+    ∙ kept_with c.keep.new.self c.args.branch.now c.args.tip settled c.keep.ensures
+    ∙ ap (put c.args.branch.now c.args.tip) (c.settle.ensures.tips ∙ ap (λ l. tips_with l tips) c.if-move_to.ensures.moved))
