@@ -12,7 +12,7 @@ ghost use Rattle.plain_model.specs.Text.{
 };
 ghost use Rattle.stream_writer.specs.Parts.{blob_text, body_text, head_text};
 
-use crate::fields::{push_line, push_mark_line, push_signed_line};
+use crate::fields::{push_line, push_mark_line, push_people, push_signed_line};
 use crate::marks::commit_mark;
 use crate::operations::{push_ops, push_parents};
 use branch_tips::Tips;
@@ -100,6 +100,7 @@ fn push_reset(
 // The lines of a commit up to its people.
 fn push_head(
     out: &mut Text,
+    spelled: &mut Text,
     branch: &[u8],
     mark: Mark,
     author: &Signed,
@@ -110,8 +111,7 @@ fn push_head(
 {
     push_line(out, b"commit ", branch)?;
     push_mark_line(out, b"mark :", mark.number())?;
-    push_signed_line(out, b"author ", author)?;
-    push_signed_line(out, b"committer ", committer)
+    push_people(out, spelled, author, committer)
 }
 
 // The lines of a commit after its people, and the empty one.
@@ -141,9 +141,10 @@ fn push_blob(out: &mut Text, mark: Mark, bytes: &[u8]) -> Result<(), NoMemory>
     write_data(bytes, out)
 }
 
-/// Puts an event, where the branches are so before it.
+/// Puts an event, where the branches are so before it. People are spelled in a text of its own, and what that holds doesn't count.
 pub fn push_event(
     out: &mut Text,
+    spelled: &mut Text,
     history: &Events,
     tips: &Tips,
     event: &PlainEvent,
@@ -165,7 +166,7 @@ pub fn push_event(
             ..
         } => {
             push_reset(out, history, tips, branch.as_slice(), parents.as_slice())?;
-            push_head(out, branch.as_slice(), *mark, author, committer)?;
+            push_head(out, spelled, branch.as_slice(), *mark, author, committer)?;
             push_body(
                 out,
                 history,

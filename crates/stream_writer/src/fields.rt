@@ -1,6 +1,6 @@
 //! Lines at the end of a text. Where memory runs out, here and in the other modules, it is
 //! left open how much of them is there: the text is dropped then.
-ghost use Rattle.std.specs.Prelude.{◌≡◌, ◌++◌, OnOk};
+ghost use Rattle.std.specs.Prelude.{◌≡◌, ◌++◌, codes, true, OnOk};
 ghost use Rattle.std.specs.Fmt.{decimal};
 ghost use Rattle.plain_model.specs.Text.{line, marked, person};
 
@@ -40,4 +40,35 @@ pub fn push_signed_line(out: &mut Text, word: &[u8], signed: &Signed) -> Result<
     out.push_all(word)?;
     write_person(signed, out)?;
     out.push(b'\n')
+}
+
+// Whether both say the same of who and when.
+fn are_same(one: &Signed, other: &Signed) -> bool
+    ensures { result ≡ true → one.now ≡ other.now }
+{
+    let (person, others) = (one.person.as_ref(), other.person.as_ref());
+    one.when == other.when
+        && person.name.as_slice() == others.name.as_slice()
+        && person.email.as_slice() == others.email.as_slice()
+}
+
+/// Puts the lines of who wrote a commit and who put it in. These mostly say the same, which is spelled once then, in a text
+/// of its own.
+pub fn push_people(
+    out: &mut Text,
+    spelled: &mut Text,
+    author: &Signed,
+    committer: &Signed,
+) -> Result<(), NoMemory>
+    ensures { OnOk result (out.new ≡ out.old ++ line (codes "author " ++ person author.now)
+        ++ line (codes "committer " ++ person committer.now)) }
+{
+    spelled.truncate(0);
+    write_person(author, spelled)?;
+    push_line(out, b"author ", spelled.as_slice())?;
+    if !are_same(author, committer) {
+        spelled.truncate(0);
+        write_person(committer, spelled)?;
+    }
+    push_line(out, b"committer ", spelled.as_slice())
 }

@@ -90,6 +90,7 @@ fn gather_event<W: Sink>(
     history: &Events,
     event: &PlainEvent,
     tips: &mut Tips,
+    spelled: &mut Text,
     gathered: &mut Text,
     sink: &mut W,
 ) -> Result<(), WriteEnd>
@@ -105,7 +106,7 @@ fn gather_event<W: Sink>(
     ensures later { (W.state sink.old).faults ≤ (W.state sink.new).faults }
     ensures around { (W.state sink.new).around ≡ (W.state sink.old).around }
 {
-    push_event(gathered, history, tips, event)?;
+    push_event(gathered, spelled, history, tips, event)?;
     tips.note(event)?;
     send_piece(gathered, sink)
 }
@@ -115,6 +116,7 @@ fn write_event<W: Sink>(
     history: &Events,
     event: &PlainEvent,
     tips: &mut Tips,
+    spelled: &mut Text,
     gathered: &mut Text,
     sink: &mut W,
 ) -> Result<(), WriteEnd>
@@ -134,7 +136,7 @@ fn write_event<W: Sink>(
         PlainEvent::Blob { mark, bytes, .. } if bytes.as_slice().len() >= PIECE => {
             send_blob(*mark, bytes.as_slice(), gathered, sink)
         }
-        _ => gather_event(history, event, tips, gathered, sink),
+        _ => gather_event(history, event, tips, spelled, gathered, sink),
     }
 }
 
@@ -181,11 +183,12 @@ pub fn write_stream<W: Sink>(alloc: Global, events: &Events, sink: &mut W) -> Re
 {
     what_is_written_shows_the_history();
     let mut tips = Tips::new(alloc);
+    let mut spelled = Items::empty(alloc);
     let mut gathered = Items::empty(alloc);
     let mut promised = false;
     for place in 0..events.count() {
         let event = events.nth(place);
-        write_event(events, event, &mut tips, &mut gathered, sink)?;
+        write_event(events, event, &mut tips, &mut spelled, &mut gathered, sink)?;
         promised |= is_promise(event);
     }
     write_closing(promised, &mut gathered, sink)
