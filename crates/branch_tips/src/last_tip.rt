@@ -67,8 +67,8 @@ impl LastTip {
         };
     }
 
-    /// Writes the tip to the branch's entry in the map, and there is no last branch any more.
-    pub fn settle(&mut self, by_branch: &mut BTreeMap<Vec<u8>, CommitId>)
+    // Writes the tip to the branch's entry in the map, and there is no last branch any more.
+    fn write_to(&mut self, by_branch: &mut BTreeMap<Vec<u8>, CommitId>)
         requires in_order { AreInOrder by_branch.old.entries }
         requires among { IsTrue (is_among self.old (tips_in by_branch.old.entries)) }
         ensures tips { tips_in by_branch.new.entries ≡ tips_with self.old (tips_in by_branch.old.entries) }
@@ -79,6 +79,23 @@ impl LastTip {
             if let Some(known) = by_branch.get_mut(self.branch.as_slice()) {
                 *known = tip;
             }
+        }
+    }
+
+    /// The map has the tip, which is written there unless it is there, and there is no last branch any more.
+    pub fn settle(&mut self, by_branch: &mut BTreeMap<Vec<u8>, CommitId>, is_there: bool)
+        requires in_order { AreInOrder by_branch.old.entries }
+        requires among { IsTrue (is_among self.old (tips_in by_branch.old.entries)) }
+        requires there { IsTrue is_there →
+            tips_with self.old (tips_in by_branch.old.entries) ≡ tips_in by_branch.old.entries }
+        ensures tips { tips_in by_branch.new.entries ≡ tips_with self.old (tips_in by_branch.old.entries) }
+        ensures in_order { AreInOrder by_branch.new.entries }
+        ensures none { self.new ≡ None }
+    {
+        if is_there {
+            self.tip = None;
+        } else {
+            self.write_to(by_branch);
         }
     }
 }

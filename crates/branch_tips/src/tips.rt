@@ -19,20 +19,23 @@ pub struct Tips {
     by_branch: BTreeMap<Vec<u8>, CommitId>,
     // Most commits go on with the branch of the one before, and to compare two names costs less than a look-up.
     last: LastTip,
+    // The map has the last branch's tip, too: it was set but once.
+    is_settled: bool,
 }
 
 /// Branches with commits.
 pub type TipList = Items<(Text, CommitId)>;
 
 impl Model for Tips {
-    ghost use Rattle.std.specs.Prelude.{List, ℕ, IsTrue};
+    ghost use Rattle.std.specs.Prelude.{◌≡◌, List, ℕ, IsTrue};
     ghost use Rattle.branch_tips.specs.Entries.{tips_in, tips_with, is_among, AreInOrder};
 
     ghost Value = { List (List ℕ × ℕ) };
 
     ghost view = { λ t. tips_with t.last (tips_in t.by_branch.entries) };
 
-    ghost invariant = { λ t. AreInOrder t.by_branch.entries × IsTrue (is_among t.last (tips_in t.by_branch.entries)) };
+    ghost invariant = { λ t. AreInOrder t.by_branch.entries × IsTrue (is_among t.last (tips_in t.by_branch.entries))
+        × (IsTrue t.is_settled → tips_with t.last (tips_in t.by_branch.entries) ≡ tips_in t.by_branch.entries) };
 }
 
 impl Tips {
@@ -44,6 +47,7 @@ impl Tips {
             alloc,
             by_branch: BTreeMap::new(alloc),
             last: LastTip::none(alloc),
+            is_settled: true,
         }
     }
 
@@ -77,9 +81,11 @@ impl Tips {
         ensures err { OnErr result (self.new ≡ self.old) }
     {
         if self.last.move_to(branch, tip) {
+            self.is_settled = false;
             return Ok(());
         }
-        self.last.settle(&mut self.by_branch);
+        self.last.settle(&mut self.by_branch, self.is_settled);
+        self.is_settled = true;
         put_in(self.alloc, &mut self.by_branch, branch, tip)?;
         self.last.keep(branch, tip);
         Ok(())
@@ -89,7 +95,8 @@ impl Tips {
     pub fn remove(&mut self, branch: &[u8])
         ensures { self.new ≡ where_path (λ other. not (bytes_eq branch.now other)) self.old }
     {
-        self.last.settle(&mut self.by_branch);
+        self.last.settle(&mut self.by_branch, self.is_settled);
+        self.is_settled = true;
         self.by_branch.remove(branch);
     }
 

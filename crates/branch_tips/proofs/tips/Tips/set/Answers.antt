@@ -13,7 +13,11 @@ returns-then-move_to-clause-ok c =
 pub invariant_of-self-2 : goal.invariant_of-self-2
 invariant_of-self-2 c =
     let settled = tips_in c.settle.new.by_branch.entries in
-    (c.put_in.ensures.in_order, ap (is_among c.keep.new.self) c.in_ok-put_in.ensures.ok ∙ kept_among c.keep.new.self c.args.branch.now c.args.tip settled c.keep.ensures)
+    let put_there = c.in_ok-put_in.ensures.ok in (
+      c.put_in.ensures.in_order,
+      ap (is_among c.keep.new.self) put_there ∙ kept_among c.keep.new.self c.args.branch.now c.args.tip settled c.keep.ensures,
+      λ there. ap (tips_with c.keep.new.self) put_there ∙ kept_with c.keep.new.self c.args.branch.now c.args.tip settled c.keep.ensures ∙ sym put_there,
+    )
 
 pub returns-clause-ok : goal.returns-clause-ok
 returns-clause-ok c =

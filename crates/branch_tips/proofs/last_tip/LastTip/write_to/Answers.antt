@@ -4,8 +4,8 @@ use Rattle.std.specs.Option.{option_copied_mut}
 use Rattle.plain_model.specs.Trees.{at}
 use Rattle.branch_tips.specs.Entries.{tips_in, tips_with, is_among}
 use Rattle.branch_tips.proofs.TipEntries.{at_tips, set_tips}
-use Rattle.branch_tips.proofs.last_tip.LastTip.settle.Goals as goal
-use Rattle.branch_tips.proofs.last_tip.LastTip.settle.Goals.{in-Some+in-Some-get_mut, in-Some+in_default-get_mut, in_default}
+use Rattle.branch_tips.proofs.last_tip.LastTip.write_to.Goals as goal
+use Rattle.branch_tips.proofs.last_tip.LastTip.write_to.Goals.{in-Some+in-Some-get_mut, in-Some+in_default-get_mut, in_default}
 
 pub returns-clause-tips : goal.returns-clause-tips
 returns-clause-tips c =
