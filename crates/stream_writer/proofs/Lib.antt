@@ -1,3 +1,4 @@
 pub mod BlobLemmas
+pub mod HeadLemmas
 pub mod MarkLemmas
 pub mod SendingLemmas

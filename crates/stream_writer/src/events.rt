@@ -109,8 +109,9 @@ fn push_head(
     ensures { OnOk result
         (out.new ≡ out.old ++ head_text branch.now mark author.now committer.now) }
 {
-    push_line(out, b"commit ", branch)?;
-    push_mark_line(out, b"mark :", mark.number())?;
+    out.push_all(b"commit ")?;
+    out.push_all(branch)?;
+    push_mark_line(out, b"\nmark :", mark.number())?;
     push_people(out, spelled, author, committer)
 }
 

@@ -52,8 +52,16 @@ fn are_same(one: &Signed, other: &Signed) -> bool
         && person.email.as_slice() == others.email.as_slice()
 }
 
-/// Puts the lines of who wrote a commit and who put it in. These mostly say the same, which is spelled once then, in a text
-/// of its own.
+// Spells who and when, and the end of the line, in a text of its own.
+fn spell(spelled: &mut Text, signed: &Signed) -> Result<(), NoMemory>
+    ensures { OnOk result (spelled.new ≡ line (person signed.now)) }
+{
+    spelled.truncate(0);
+    write_person(signed, spelled)?;
+    spelled.push(b'\n')
+}
+
+/// Puts the lines of who wrote a commit and who put it in. These mostly say the same, which is spelled once then.
 pub fn push_people(
     out: &mut Text,
     spelled: &mut Text,
@@ -63,12 +71,12 @@ pub fn push_people(
     ensures { OnOk result (out.new ≡ out.old ++ line (codes "author " ++ person author.now)
         ++ line (codes "committer " ++ person committer.now)) }
 {
-    spelled.truncate(0);
-    write_person(author, spelled)?;
-    push_line(out, b"author ", spelled.as_slice())?;
+    spell(spelled, author)?;
+    out.push_all(b"author ")?;
+    out.push_all(spelled.as_slice())?;
     if !are_same(author, committer) {
-        spelled.truncate(0);
-        write_person(committer, spelled)?;
+        spell(spelled, committer)?;
     }
-    push_line(out, b"committer ", spelled.as_slice())
+    out.push_all(b"committer ")?;
+    out.push_all(spelled.as_slice())
 }
