@@ -1,5 +1,5 @@
 -- Chains of links.
-use Rattle.std.proofs.Common.{◌≡◌, ℕ, zero, suc, ◌+◌, true, false, cond, inl, inr, List, [], ◌∷◌, ◌++◌, Option, None, Some, refl, sym, ap, ◌∙◌, length, ◌<◌, arith, eqb, map, reverse, get_or}
+use Rattle.std.proofs.Common.{◌≡◌, ℕ, zero, suc, ◌+◌, true, false, cond, inl, inr, List, [], ◌∷◌, ◌++◌, Option, None, Some, refl, sym, ap, ◌∙◌, length, ◌<◌, arith, eqb, map, reverse, replicate, get_or}
 use Rattle.std.proofs.lemmas.List.{reverse-append, length-reverse}
 use Rattle.std.proofs.lemmas.Bool.{cases_Bool}
 use Rattle.std.proofs.lemmas.Bool.Decides.{nat_tests}
@@ -50,6 +50,16 @@ all_below_set n (h ∷ hs) (suc place) o b c = (b.0, all_below_set n hs place o 
 pub all_below_push : (n : ℕ) (hs : List (Option ℕ)) → AllBelow n hs → AllBelow n (hs ++ None ∷ [])
 all_below_push n [] b = (tt, tt)
 all_below_push n (h ∷ hs) b = (b.0, all_below_push n hs b.1)
+
+-- where no place has a link, there are no children
+pub none_below : (n m : ℕ) → AllBelow n (replicate m None)
+none_below n zero = tt
+none_below n (suc m) = (tt, none_below n m)
+
+pub no_chains : (chain : ℕ → List ℕ) (m k : ℕ) → get_or (map (follow chain) (replicate m None)) k [] ≡ []
+no_chains chain zero k = refl
+no_chains chain (suc m) zero = refl
+no_chains chain (suc m) (suc k) = no_chains chain m k
 
 pub below_get : (n : ℕ) (hs : List (Option ℕ)) (place : ℕ) → AllBelow n hs → IsBelow n (get_or hs place None)
 below_get n [] place b = tt

@@ -176,6 +176,14 @@ module _ (ids : List AnyId) where
     | inr no_it ↦ rw no_it (ap (λ ys. x ∷ ys) (without_keep es k b e h at is))
   ]
 
+  -- where no place is marked, nothing goes
+  pub without_none : (es : List PlainEvent) (n : ℕ) → ((k : ℕ) → k < n → get_or (map (λ e. is_listed (id_of e) ids) es) k false ≡ false) →
+      without_all ids (take n es) ≡ take n es
+  without_none [] zero h = refl
+  without_none [] (suc n) h = refl
+  without_none (x ∷ es) zero h = refl
+  without_none (x ∷ es) (suc n) h = rw (h 0 (omega arith)) (ap (λ ys. x ∷ ys) (without_none es n (λ k low. h (suc k) (omega arith))))
+
 -- no place is marked where no id is listed
 pub none_listed : (es : List PlainEvent) (n len : ℕ) (old new : List Bool) → n ≡ length es → len ≡ 0 → old ≡ [] → new ≡ take n old ++ replicate (n - len) false →
     new ≡ map (λ e. is_listed (id_of e) []) es

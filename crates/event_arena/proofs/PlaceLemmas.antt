@@ -1,5 +1,5 @@
 -- The places of events in a list, and the places that are noted for them.
-use Rattle.std.proofs.Common.{◌≡◌, ◌∙◌, ℕ, zero, suc, true, cond, ◌⊎◌, inl, inr, List, [], ◌∷◌, ◌++◌, Option, Some, None, refl, ap, sym, length, arith}
+use Rattle.std.proofs.Common.{◌≡◌, ◌∙◌, ℕ, zero, suc, true, cond, ◌⊎◌, inl, inr, List, [], ◌∷◌, ◌++◌, Option, Some, None, refl, ap, sym, length, take, arith}
 use Rattle.std.proofs.Math.ListN.{set}
 use Rattle.std.proofs.lemmas.Bool.{cases_Bool}
 use Rattle.std.proofs.lemmas.Option.{none-some, same_Some}
@@ -93,6 +93,21 @@ placed_more old new e place es last absent note placed id k h = elim (place_more
   | inl there ↦ placed_beside old new (id_of e) place es absent note placed id k there
   | inr it ↦ note id ∙ rw it.0 (last ∙ it.1)
 ]
+
+-- the first events stay in their places
+pub placed_front : (places : Places) (es : List PlainEvent) (n : ℕ) → IsPlaced places es → IsPlaced places (take n es)
+placed_front places es n placed id k h = placed id k (front es n k h)
+  where
+    front : (es : List PlainEvent) (n k : ℕ) → place_of id (take n es) ≡ Some k → place_of id es ≡ Some k
+    front [] zero k h = h
+    front [] (suc n) k h = h
+    front (e ∷ es) zero k h = absurd (none-some k h)
+    front (e ∷ es) (suc n) k h = elim (cases_Bool (same_id id (id_of e))) [
+      | inl it ↦ rw it (rw it at h)
+      | inr no_it ↦
+          let later = some_suc (place_of id (take n es)) k (rw no_it at h) in
+          rw no_it (ap (option_map suc) (front es n later.0 later.1) ∙ ap Some later.2)
+    ]
 
 pub placed_changed : (places : Places) (x : AnyId) (f : PlainEvent → PlainEvent) → ((e : PlainEvent) → id_of (f e) ≡ id_of e) → (es : List PlainEvent) →
     IsPlaced places es → IsPlaced places (changed x f es)

@@ -1,5 +1,5 @@
 -- From the rows of a table to its events.
-use Rattle.std.proofs.Common.{◌≡◌, ℕ, zero, suc, ◌<◌, ◌≤◌, ◌⊎◌, inl, inr, List, [], ◌∷◌, ◌++◌, Option, Some, refl, ap, sym, subst, length, get_or, arith}
+use Rattle.std.proofs.Common.{◌≡◌, ℕ, zero, suc, ◌<◌, ◌≤◌, ◌⊎◌, inl, inr, List, [], ◌∷◌, ◌++◌, Option, Some, refl, ap, sym, subst, length, take, get_or, arith}
 use Rattle.std.proofs.Math.ListN.{set}
 use Rattle.std.proofs.lemmas.List.{length-map, map-append}
 use Rattle.std.proofs.lemmas.Option.{none-some, same_Some}
@@ -98,6 +98,14 @@ module _ (stored : List PlainEvent) where
   names_insert (x ∷ rows) [] k r e z n h = absurd z
   names_insert (x ∷ rows) (y ∷ es) zero r e z n h = (n, z)
   names_insert (x ∷ rows) (y ∷ es) (suc k) r e z n h = (z.0, names_insert rows es k r e z.1 n (omega arith))
+
+  pub names_front : (rows : List Row) (es : List PlainEvent) (n : ℕ) → NameAll stored rows es → NameAll stored (take n rows) (take n es)
+  names_front [] [] zero z = tt
+  names_front [] [] (suc n) z = tt
+  names_front [] (e ∷ es) n z = absurd z
+  names_front (r ∷ rows) [] n z = absurd z
+  names_front (r ∷ rows) (e ∷ es) zero z = tt
+  names_front (r ∷ rows) (e ∷ es) (suc n) z = (z.0, names_front rows es n z.1)
 
   -- events that are added to the store change nothing
   pub names_more : (more : List PlainEvent) (rows : List Row) (es : List PlainEvent) → NameAll stored rows es → NameAll (stored ++ more) rows es

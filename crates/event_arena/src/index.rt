@@ -69,9 +69,8 @@ fn clear_places(count: usize, links: &mut Links)
     ensures place_room { links.new.place_room ≡ links.old.place_room }
     ensures link_room { links.new.link_room ≡ links.old.link_room }
 {
-    let places = links.places().max(count);
     links.clear();
-    for _place in 0..places {
+    for _place in links.places()..count {
         links.add_place();
     }
 }

@@ -118,14 +118,15 @@ impl Links {
         self.heads.len()
     }
 
-    /// Forgets all places and children, and keeps the room.
+    /// Forgets all children, and keeps the places and the room.
     pub fn clear(&mut self)
-        ensures lists { self.new.lists ≡ [] }
+        ensures places { length self.new.lists ≡ length self.old.lists }
+        ensures empty { (k : _) → slice_index_or self.new.lists k [] ≡ [] }
         ensures used { self.new.used ≡ 0 }
         ensures place_room { self.new.place_room ≡ self.old.place_room }
         ensures link_room { self.new.link_room ≡ self.old.link_room }
     {
-        self.heads.clear();
+        self.heads.fill(LinkAt::none());
         self.links.clear();
     }
 

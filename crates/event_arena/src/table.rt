@@ -8,11 +8,14 @@ ghost use Rattle.std.specs.Prelude.{
   [],
   None,
   Some,
+  false,
   length,
   map,
   option_map,
   slice_get,
+  slice_index_or,
   slice_set,
+  true,
   IfOk,
   IfSome,
   IsSome,
@@ -375,16 +378,20 @@ impl EventTable {
         Ok(listed)
     }
 
-    // The table without the events with these ids. At those that stay it doesn't look.
+    // The table without the events with these ids. At those that stay it doesn't look, and up to the first that goes rows
+    // and places stay as they are.
     fn table_without(&self, ids: &[AnyId]) -> Result<EventTable, NoMemory>
         ensures { IfOk result (λ table. table ≡ without_all ids.now self.now) }
     {
+        let count = self.count();
         let gone = self.listed(ids)?;
-        let mut rows = Vec::with_capacity(self.alloc, self.count())?;
-        // Most places stay as they were, and those of events that go may stay.
+        let first = first_flagged(&gone);
+        let mut rows = Vec::with_capacity(self.alloc, count)?;
+        rows.extend_from_slice(&self.rows.as_ref()[..first])?;
+        // The places of events that go may stay.
         let mut places = self.places.as_ref().clone()?;
         let mut weight = self.weight;
-        for place in 0..self.count() {
+        for place in first..count {
             if gone[place] {
                 weight = lighter(weight, self.nth(place));
             } else {
@@ -456,6 +463,19 @@ fn note_place(places: &mut Rc<Places>, id: AnyId, place: usize) -> Result<(), No
         ((other : AnyId) → noted places.new.value other ≡ noted places.old.value other) }
 {
     Rc::make_mut(places)?.note(id, place)
+}
+
+// The first place that has a flag; the end, where none has.
+fn first_flagged(flags: &[bool]) -> usize
+    ensures within { result ≤ length flags.now }
+    ensures none { (k : _) → k < result → slice_index_or flags.now k false ≡ false }
+    ensures flagged { result < length flags.now → slice_index_or flags.now result false ≡ true }
+{
+    let mut place = 0;
+    while place < flags.len() && !flags[place] {
+        place += 1;
+    }
+    place
 }
 
 // Puts a row at the end; of a copy, where the rows have another owner.
