@@ -14,7 +14,7 @@ use Rattle.plain_model.proofs.Numbers.{eqb_turned}
 
 -- ---- lists that are there
 
-there_push : (w n : ℕ) (xs : List Expansion) (x : Expansion) → AllThere w n xs → IsThere w n x → AllThere w n (xs ++ x ∷ [])
+pub there_push : (w n : ℕ) (xs : List Expansion) (x : Expansion) → AllThere w n xs → IsThere w n x → AllThere w n (xs ++ x ∷ [])
 there_push w n [] x all own = (own, tt)
 there_push w n (y ∷ xs) x all own = (all.0, there_push w n xs x all.1 own)
 

@@ -13,5 +13,6 @@ pub mod ParentLemmas
 pub mod PlaceLemmas
 pub mod SlotLemmas
 pub mod StepLemmas
+pub mod TableLemmas
 pub mod TurnLemmas
 pub mod WaitingLemmas

@@ -17,7 +17,7 @@ abbrev pub expanded : inside.Inside → Expanded
 expanded s = record {
   events = s.events.now.list;
   bounded = s.bounded;
-  entries = map (list_of s.events.now.list s.lists.items) s.entries.items;
+  entries = map (list_of s.events.now.list s.lists.items) s.entries;
 }
 
 -- the place or the list that an entry names is there
@@ -33,4 +33,4 @@ AllThere places count (x ∷ xs) = IsThere places count x × AllThere places cou
 
 -- the table has each list that an entry names, and the history each place
 abbrev pub AreListed : inside.Inside → Type 0
-AreListed s = AllThere (length s.events.now.list) (length s.lists.items) s.entries.items
+AreListed s = AllThere (length s.events.now.list) (length s.lists.items) s.entries

@@ -6,6 +6,7 @@ pub mod Joined
 pub mod Outcome
 pub mod Rows
 pub mod Slots
+pub mod Table
 pub mod Taking
 pub mod UnderWay
 pub mod Waiters

@@ -29,6 +29,7 @@ ghost use Rattle.plain_model.specs.declared.id.AnyId.TheVariants.{Commit};
 
 use crate::children::children_of_all;
 use crate::flags::{flags_of, is_any_flagged};
+use crate::table::ExpansionTable;
 use event_arena::Events;
 use indexmap::IndexSet;
 use plain_model::{
@@ -95,8 +96,8 @@ pub enum Expansion {
     TooMany,
 }
 
-/// For each place of a history what the commit there expands to. A commit that stays is noted by its place, so that only
-/// removed ones are looked at. A removed commit with one parent shares its parent's expansion, so that a long line of
+/// For each place of a history what the commit there expands to. A commit that stays expands to itself, which takes no room,
+/// so that only removed ones are looked at. A removed commit with one parent shares its parent's expansion, so that a long line of
 /// them copies nothing. Where expansions are bounded, none is kept that has more commits than a commit can have parents:
 /// whoever descends from it would have too many.
 #[derive(Drop)]
@@ -104,7 +105,7 @@ pub struct Expansions<'a> {
     alloc: Global,
     events: &'a Events,
     bounded: bool,
-    entries: Vec<Expansion>,
+    entries: ExpansionTable,
     lists: Vec<ParentList>,
 }
 
@@ -120,32 +121,31 @@ impl<'a> Model for Expansions<'a> {
 }
 
 impl<'a> Expansions<'a> {
-    fn empty(alloc: Global, events: &'a Events, bounded: bool) -> Result<Expansions<'a>, NoMemory>
-        ensures events { IfOk result (λ made. made.events ≡ events.now.list) }
-        ensures bounded { IfOk result (λ made. made.bounded ≡ bounded) }
-        ensures entries { IfOk result (λ made. made.entries ≡ []) }
+    fn empty(alloc: Global, events: &'a Events, bounded: bool) -> Expansions<'a>
+        ensures events { result.events ≡ events.now.list }
+        ensures bounded { result.bounded ≡ bounded }
+        ensures entries { result.entries ≡ [] }
     {
-        let entries = Vec::with_capacity(alloc, events.count())?;
-        Ok(Expansions {
+        Expansions {
             alloc,
             events,
             bounded,
-            entries,
+            entries: ExpansionTable::empty(alloc),
             lists: Vec::new(alloc),
-        })
+        }
     }
 
-    // An event that stays, at a place. It is looked at where it is a parent of one that is removed or changes, and not
-    // before.
-    fn push_staying(&mut self, place: usize) -> Result<(), NoMemory>
-        requires { place < length self.old.events }
+    // An event that stays, at the next place. It is looked at where it is a parent of one that is removed or changes, and
+    // not before.
+    fn push_staying(&mut self, place: usize)
+        requires within { place < length self.old.events }
+        requires next { length self.old.entries ≡ place }
         ensures events { self.new.events ≡ self.old.events }
         ensures bounded { self.new.bounded ≡ self.old.bounded }
-        ensures entries { OnOk result
-            (self.new.entries ≡ self.old.entries ++ itself_at self.old.events place ∷ []) }
+        ensures entries { self.new.entries ≡ self.old.entries ++ itself_at self.old.events place ∷ [] }
     {
-        self.entries.push(Expansion::At(place))?;
-        Ok(())
+        let _count = self.events.count();
+        self.entries.push_itself();
     }
 
     // One that expands to what an earlier one expands to.
@@ -156,9 +156,7 @@ impl<'a> Expansions<'a> {
         ensures entries { OnOk result (self.new.entries
             ≡ self.old.entries ++ slice_index_or self.old.entries place None ∷ []) }
     {
-        let entry = self.entries[place];
-        self.entries.push(entry)?;
-        Ok(())
+        self.entries.push(self.entries.at(place))
     }
 
     // One with a list of its own, if that isn't too long.
@@ -206,7 +204,7 @@ impl<'a> Expansions<'a> {
         ensures { IfOk result (λ added. AddsEntry (slice_index_or self.now.entries place None)
             gathered.old gathered.new added) }
     {
-        match self.entries[place] {
+        match self.entries.at(place) {
             Expansion::At(place) => self.add_itself(place, gathered),
             Expansion::Many(at) => {
                 gathered.add_all(self.lists[at].as_slice())?;
@@ -282,11 +280,11 @@ impl<'a> Expansions<'a> {
             → self.new.entries ≡ self.old.entries
             ++ next_entry self.old.bounded self.old.events self.old.entries removed event ∷ []) }
     {
-        if removed {
-            self.push_removed(place)
-        } else {
-            self.push_staying(place)
+        if !removed {
+            self.push_staying(place);
+            return Ok(());
         }
+        self.push_removed(place)
     }
 
     // What the parents of an event expand to, if that isn't too much.
@@ -313,7 +311,7 @@ impl<'a> Expansions<'a> {
         ensures expansions { IfOk result (λ made. AreExpansions events.now.list removed.now made) }
     {
         let flags = flags_of(alloc, events.table(), removed.as_slice())?;
-        let mut made = Expansions::empty(alloc, events, bounded)?;
+        let mut made = Expansions::empty(alloc, events, bounded);
         for place in 0..events.count() {
             made.push_event(place, flags[place])?;
         }

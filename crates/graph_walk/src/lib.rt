@@ -8,6 +8,7 @@ mod expansion;
 mod flags;
 mod referents;
 mod settling;
+mod table;
 mod waiting;
 
 pub use ancestry::{Scratch, ancestors, descendants, is_ancestor};
