@@ -1,5 +1,5 @@
 -- The places near a set in order, and what is the same before and after places that aren't near.
-use Rattle.std.proofs.Common.{◌≡◌, ◌∙◌, ℕ, zero, suc, ◌+◌, ◌-◌, ◌<◌, ◌≤◌, Bool, true, false, cond, inl, inr, ◌⊎◌, List, [], ◌∷◌, ◌++◌, Option, Some, Result, Err, refl, sym, ap, subst, length, get_or, take, map, filter, append-nil, arith, true≢false}
+use Rattle.std.proofs.Common.{◌≡◌, ◌∙◌, ℕ, zero, suc, ◌+◌, ◌-◌, ◌<◌, ◌≤◌, Bool, true, false, cond, inl, inr, ◌⊎◌, List, [], ◌∷◌, ◌++◌, Option, Some, Result, Ok, Err, refl, sym, ap, subst, length, get_or, take, map, filter, append-nil, arith, true≢false}
 use Rattle.std.proofs.lemmas.Bool.{cases_eq, false_from_ne_true}
 use Rattle.std.proofs.lemmas.List.{get_or_append_left, get_or_push, length_push}
 use Rattle.std.proofs.lemmas.List.Sorted.{searched}
@@ -7,7 +7,7 @@ use Rattle.std.proofs.lemmas.Option.{same_Some}
 use Rattle.std.specs.List.{list_any}
 use Rattle.std.specs.List.Sorted.{IsBinarySearchResult}
 use Rattle.std.specs.Ordering.{nat_cmp}
-use Rattle.std.specs.Prelude.{is_some, slice_get}
+use Rattle.std.specs.Prelude.{is_some, option_and_then, slice_get}
 use Rattle.plain_model.specs.declared.id.AnyId.{AnyId}
 use Rattle.plain_model.specs.declared.event.PlainEvent.{PlainEvent}
 use Rattle.plain_model.specs.Lookups.{id_of, is_listed, place_of}
@@ -19,8 +19,11 @@ use Rattle.plan_steps.specs.Flags.{FlagsAll, FlagsNamed}
 use Rattle.plan_steps.specs.Leaving.{goes}
 use Rattle.plan_steps.specs.Near.{AreNear, ArePlacesNear, ArePlacesOf, AreRising, IsPlaceOf, NoneNear, is_near}
 use Rattle.plan_steps.specs.Targets.{AreMoves, lost_target}
+use Rattle.plan_steps.specs.Ways.{AreForwardFrom}
 use Rattle.plan_steps.proofs.NearLemmas.{apart_stays, is_apart}
 use Rattle.plan_steps.proofs.SweepLemmas.{filter_out, filtered_same, passing_item}
+use Rattle.plan_steps.proofs.TargetLemmas.{AreMovesTo, moves_same}
+use Rattle.plan_steps.proofs.WayLemmas.{led_none}
 
 -- ---- places that aren't near
 
@@ -173,6 +176,18 @@ pub gap : (places : List ℕ) (place : ℕ) (r : Result ℕ ℕ) (i : ℕ) → A
     ((j : ℕ) → j < i → get_or places j 0 < place) × ((j : ℕ) → i ≤ j → j < length places → place < get_or places j 0)
 gap places place r i rising found is = let s = rw is at (searched places place r found (no_earlier places rising)) in (s.1, s.2)
 
+-- no earlier one is left out, where one is found or not
+pub near_index : (places : List ℕ) (place : ℕ) (r : Result ℕ ℕ) (i : ℕ) → AreRising places → IsBinarySearchResult (λ y. nat_cmp y place) places r →
+    (r ≡ Ok i) ⊎ (r ≡ Err i) → (i ≤ length places) × ((j : ℕ) → j < i → get_or places j 0 < place) × ((j : ℕ) → i ≤ j → j < length places → place ≤ get_or places j 0)
+near_index places place r i rising found (inl is) =
+    let s = rw is at (searched places place r found (no_earlier places rising)) in
+    let low = s.0 in
+    let at = s.1 in
+    (omega arith, (λ j under. let up = rising j i under s.0 in omega arith), (λ j from under. let up = no_earlier places rising i j from under in omega arith))
+near_index places place r i rising found (inr is) =
+    let s = rw is at (searched places place r found (no_earlier places rising)) in
+    (s.0, s.1, (λ j from under. let up = s.2 j from under in omega arith))
+
 -- ---- what near events alone change
 
 module _ (set : List AnyId) (events : List PlainEvent) where
@@ -197,6 +212,20 @@ module _ (set : List AnyId) (events : List PlainEvent) where
   lost_over a b low within none =
       over_apart NoneLostTo set events a b low within none (λ k e at far so.
       none_item (λ x. is_some (lost_target set x)) events k e at so (ap is_some (is_apart set e far).target))
+
+  -- the ways forward of removed commits, from the end
+  pub forward_over : (table : List (Option ℕ)) (a b : ℕ) → a ≤ b → b ≤ length events → NoneNear set events a b →
+      AreForwardFrom set events b table → AreForwardFrom set events a table
+  forward_over table a b low within none =
+      over_apart (λ k. AreForwardFrom set events k table → AreForwardFrom set events a table) set events a b low within none (λ k e at far so f.
+      so (led_none set events k e table at (is_apart set e far).parents f)) (λ f. f)
+
+  -- where the first tags and resets on removed commits go
+  pub moves_over : (goes_to : ℕ → Option ℕ) (table : List (Option ℕ)) (a b : ℕ) → a ≤ b → b ≤ length events → NoneNear set events a b →
+      AreMovesTo set goes_to events a table → AreMovesTo set goes_to events b table
+  moves_over goes_to table a b low within none =
+      over_apart (λ k. AreMovesTo set goes_to events k table) set events a b low within none (λ k e at far so.
+      moves_same set goes_to events k e table at (ap (option_and_then goes_to) (is_apart set e far).target) so)
 
   -- the first near events are after all that they refer to
   abbrev pub AreReadyTo : List PlainEvent → ℕ → Type 0

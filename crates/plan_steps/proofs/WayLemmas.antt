@@ -1,8 +1,8 @@
 -- The ways back and forward of commits, event by event.
-use Rattle.std.proofs.Common.{◌≡◌, ◌∙◌, ℕ, suc, ◌<◌, Bool, true, false, cond, ◌||◌, inl, inr, List, [], ◌∷◌, ◌++◌, Option, Some, None, refl, sym, ap, subst, length, get_or, take, drop, arith}
+use Rattle.std.proofs.Common.{◌≡◌, ◌∙◌, ℕ, suc, ◌<◌, Bool, true, false, cond, ◌||◌, inl, inr, List, [], ◌∷◌, ◌++◌, Option, Some, None, refl, sym, ap, subst, length, get_or, take, drop, arith, true≢false}
 use Rattle.std.proofs.Math.ListN.{set}
 use Rattle.std.proofs.Math.Bool.{or-false, or-true}
-use Rattle.std.proofs.lemmas.Bool.{cases_Bool, cases_eq, cond-true, cond-false, false_from_ne_true}
+use Rattle.std.proofs.lemmas.Bool.{cases_Bool, cases_eq, cond-true, cond-false, false_from_ne_true, or_from, or_parts}
 use Rattle.std.proofs.lemmas.List.{get_or-set_other, get_or-set_same, length-set}
 use Rattle.std.proofs.lemmas.List.Folds.{list_any-append}
 use Rattle.std.proofs.lemmas.Option.{none-some, same_Some}
@@ -20,6 +20,7 @@ use Rattle.plain_model.specs.Paths.{Bytes}
 use Rattle.plain_model.specs.Soundness.{IsCommitOf, IsSound}
 use Rattle.ancestry_laws.proofs.Pasts.{linked_past}
 use Rattle.history_laws.specs.Once.{AreDistinct}
+use Rattle.history_laws.proofs.SoundOnce.{sound_once}
 use Rattle.event_arena.proofs.ListLemmas.{drop_item}
 use Rattle.edit_laws.specs.Removal.{back, forward}
 use Rattle.edit_laws.proofs.Following.{back_at, back_itself}
@@ -28,7 +29,7 @@ use Rattle.graph_walk.proofs.PlaceLemmas.{event_placed, place_found}
 use Rattle.squash_laws.proofs.Hung.{back_first}
 use Rattle.squash_laws.specs.Removed.{is_removed}
 use Rattle.squash_laws.specs.Takings.{back_of}
-use Rattle.plan_steps.specs.Ways.{AreForwardFrom, AreLed}
+use Rattle.plan_steps.specs.Ways.{AreBackOfRemovedTo, AreForwardFrom, AreLed}
 use Rattle.plan_steps.proofs.NodeLemmas.{found_node, node_of}
 
 -- ---- commits and their ids
@@ -57,6 +58,14 @@ no_id (Blob id mark bytes) h = refl
 no_id (Tag id name target tagger comment mark) h = refl
 no_id (Reset id branch target) h = refl
 no_id (Pass id line) h = refl
+
+-- nor a removed parent
+pub no_parents : (set : List AnyId) (e : PlainEvent) → commit_id e ≡ None → list_any (is_removed set) (event_parents e) ≡ false
+no_parents set (Commit id mark branch author committer encoding comment parents ops aliases) none = absurd (none-some id (sym none))
+no_parents set (Blob id mark bytes) none = refl
+no_parents set (Tag id name target tagger comment mark) none = refl
+no_parents set (Reset id branch target) none = refl
+no_parents set (Pass id line) none = refl
 
 -- the first parent of an event is earlier
 pub first_known : (events : List PlainEvent) → IsSound events → (k p : ℕ) (e : PlainEvent) → slice_get events k ≡ Some e →
@@ -99,6 +108,9 @@ removed_at set c e flag is h = h ∙ ap (λ id. is_listed id set) (sym (own_comm
 
 -- ---- commits that are led one way
 
+number_same : (p c : ℕ) → (p == c) ≡ true → p ≡ c
+number_same p c t = grind (arith)
+
 pub led_more : (events : List PlainEvent) (commits : List ℕ) (p place : ℕ) (way : Option ℕ) (old table : List (Option ℕ)) → AreDistinct events →
     place_of (any.Commit p) events ≡ Some place → place < length old →
     AreLed events commits way old table → AreLed events (commits ++ p ∷ []) way old (set table place way)
@@ -106,9 +118,6 @@ led_more events commits p place way old table once there low l = record { count 
   where
     same_number : (c : ℕ) → (c == c) ≡ true
     same_number c = grind (arith)
-
-    number_same : (p c : ℕ) → (p == c) ≡ true → p ≡ c
-    number_same p c t = grind (arith)
 
     more : (j : ℕ) (e : PlainEvent) (c : ℕ) → slice_get events j ≡ Some e → commit_id e ≡ Some c →
         get_or (set table place way) j None ≡ cond (list_any (λ q. q == c) (commits ++ p ∷ [])) way (get_or old j None)
@@ -171,6 +180,19 @@ module _ (set : List AnyId) (events : List PlainEvent) (h : IsSound events) wher
       by [] first = absurd (none-some p first)
       by (q ∷ ps) first = back_first (is_removed set) (past events) q ps [] ∙ ap (back_of set events) (same_Some q p first)
 
+  -- what stands for an earlier commit is where it goes
+  pub back_earlier : (k p place : ℕ) (table : List (Option ℕ)) → IsCommitOf (take k events) p → place_of (any.Commit p) events ≡ Some place →
+      AreBackOfRemovedTo set events k table → cond (is_removed set p) (get_or table place None) (Some p) ≡ back_of set events p
+  back_earlier k p place table earlier there t =
+      let once = (sound_once events h).ids in
+      let b = is_early events k p place once earlier there in
+      let found : find_event (any.Commit p) events ≡ Some b.event = ap (λ id. find_event id events) (own_commit p b.event b.own) ∙ (place_found events place b.event b.at once).1 in
+      elim (cases_Bool (is_removed set p)) [
+        | inl gone ↦ cond-true (is_removed set p) (get_or table place None) (Some p) gone ∙ t.entry place b.event b.at b.low p b.own gone
+        | inr stays ↦ cond-false (is_removed set p) (get_or table place None) (Some p) stays ∙ sym (back_stays p b.event found stays)
+      ]
+
+module _ (set : List AnyId) (events : List PlainEvent) where
   -- ---- forward
 
   abbrev pub later : ℕ → ℕ → Option ℕ
@@ -186,13 +208,21 @@ module _ (set : List AnyId) (events : List PlainEvent) (h : IsSound events) wher
       AreForwardFrom set events (suc k) old → AreLed events (event_parents e) way old table → AreForwardFrom set events k table
   led_all k own e way old table at is leads f l = record {
     count = l.count ∙ f.count;
-    entry = λ j d here c its.
+    entry = λ j d here c its gone.
         l.entry j d c here its
-        ∙ ap (λ x. cond (list_any (λ p. p == c) (event_parents e)) x (get_or old j None)) (leads ∙ ap (λ x. cond (is_removed set own) x (Some own)) (f.entry k e at own is))
-        ∙ ap (λ x. cond (list_any (λ p. p == c) (event_parents e)) (leads_to k own) x) (f.entry j d here c its)
+        ∙ ap (λ x. cond (list_any (λ p. p == c) (event_parents e)) x (get_or old j None)) (leads ∙ stand)
+        ∙ ap (λ x. cond (list_any (λ p. p == c) (event_parents e)) (leads_to k own) x) (f.entry j d here c its gone)
         ∙ step e c at is;
   }
     where
+      stand : cond (is_removed set own) (get_or old k None) (Some own) ≡ leads_to k own
+      stand = elim (cases_Bool (is_removed set own)) [
+        | inl gone ↦ ap (λ x. cond (is_removed set own) x (Some own)) (f.entry k e at own is gone)
+        | inr stays ↦
+            cond-false (is_removed set own) (get_or old k None) (Some own) stays
+            ∙ sym (cond-false (is_removed set own) (later (suc k) own) (Some own) stays)
+      ]
+
       step : (e : PlainEvent) (c : ℕ) → slice_get events k ≡ Some e → commit_id e ≡ Some own →
           cond (list_any (λ p. p == c) (event_parents e)) (leads_to k own) (later (suc k) c) ≡ later k c
       step (Commit id mark branch author committer encoding comment parents ops aliases) c at is =
@@ -204,17 +234,28 @@ module _ (set : List AnyId) (events : List PlainEvent) (h : IsSound events) wher
       step (Reset id branch target) c at is = absurd (none-some own is)
       step (Pass id line) c at is = absurd (none-some own is)
 
-  -- an event that is no commit leads none
-  pub led_by_none : (k : ℕ) (e : PlainEvent) (table : List (Option ℕ)) → slice_get events k ≡ Some e → commit_id e ≡ None →
+  -- an event that no removed commit is a parent of leads none
+  pub led_none : (k : ℕ) (e : PlainEvent) (table : List (Option ℕ)) → slice_get events k ≡ Some e → list_any (is_removed set) (event_parents e) ≡ false →
       AreForwardFrom set events (suc k) table → AreForwardFrom set events k table
-  led_by_none k e table at none f = record {
+  led_none k e table at none f = record {
     count = f.count;
-    entry = λ j d here c its. f.entry j d here c its ∙ step e c at none;
+    entry = λ j d here c its gone. f.entry j d here c its gone ∙ step e c at none gone;
   }
     where
-      step : (e : PlainEvent) (c : ℕ) → slice_get events k ≡ Some e → commit_id e ≡ None → later (suc k) c ≡ later k c
-      step (Commit id mark branch author committer encoding comment parents ops aliases) c at none = absurd (none-some id (sym none))
-      step (Blob id mark bytes) c at none = ap (λ (es : List PlainEvent). forward (is_removed set) (nodes es) c) (sym (drop_item events k (Blob id mark bytes) at))
-      step (Tag id name target tagger comment mark) c at none = ap (λ (es : List PlainEvent). forward (is_removed set) (nodes es) c) (sym (drop_item events k (Tag id name target tagger comment mark) at))
-      step (Reset id branch target) c at none = ap (λ (es : List PlainEvent). forward (is_removed set) (nodes es) c) (sym (drop_item events k (Reset id branch target) at))
-      step (Pass id line) c at none = ap (λ (es : List PlainEvent). forward (is_removed set) (nodes es) c) (sym (drop_item events k (Pass id line) at))
+      not_among : (ps : List ℕ) (c : ℕ) → list_any (is_removed set) ps ≡ false → is_removed set c ≡ true → list_any (λ p. p == c) ps ≡ false
+      not_among [] c none gone = refl
+      not_among (p ∷ ps) c none gone =
+          let parts = or_parts (is_removed set p) (list_any (is_removed set) ps) none in
+          or_from (p == c) (list_any (λ q. q == c) ps)
+          (false_from_ne_true (p == c) (λ t. true≢false (sym gone ∙ ap (is_removed set) (sym (number_same p c t)) ∙ parts.0)))
+          (not_among ps c parts.1 gone)
+
+      step : (e : PlainEvent) (c : ℕ) → slice_get events k ≡ Some e → list_any (is_removed set) (event_parents e) ≡ false → is_removed set c ≡ true →
+          later (suc k) c ≡ later k c
+      step (Commit id mark branch author committer encoding comment parents ops aliases) c at none gone =
+          sym (cond-false (list_any (λ p. p == c) parents) (leads_to k id) (later (suc k) c) (not_among parents c none gone))
+          ∙ ap (λ (es : List PlainEvent). forward (is_removed set) (nodes es) c) (sym (drop_item events k (Commit id mark branch author committer encoding comment parents ops aliases) at))
+      step (Blob id mark bytes) c at none gone = ap (λ (es : List PlainEvent). forward (is_removed set) (nodes es) c) (sym (drop_item events k (Blob id mark bytes) at))
+      step (Tag id name target tagger comment mark) c at none gone = ap (λ (es : List PlainEvent). forward (is_removed set) (nodes es) c) (sym (drop_item events k (Tag id name target tagger comment mark) at))
+      step (Reset id branch target) c at none gone = ap (λ (es : List PlainEvent). forward (is_removed set) (nodes es) c) (sym (drop_item events k (Reset id branch target) at))
+      step (Pass id line) c at none gone = ap (λ (es : List PlainEvent). forward (is_removed set) (nodes es) c) (sym (drop_item events k (Pass id line) at))

@@ -8,6 +8,11 @@ module _ {X : Type 0} (default : X) (ok : PlainEvent → X → Type 0) (events :
     pub count : length table ≡ k
     pub entry : (j : ℕ) (e : PlainEvent) → slice_get events j ≡ Some e → j < k → ok e (slice_index_or table j default)
 
+  -- the first entries are right, of as many as there are events
+  pub record IsFilledTo (k : ℕ) (table : List X) : Type 0 where
+    pub count : length table ≡ length events
+    pub entry : (j : ℕ) (e : PlainEvent) → slice_get events j ≡ Some e → j < k → ok e (slice_index_or table j default)
+
   -- all of them are
   pub record IsTable (table : List X) : Type 0 where
     pub count : length table ≡ length events

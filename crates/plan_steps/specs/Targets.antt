@@ -1,5 +1,5 @@
 -- To which commits the tags and resets of a history go.
-use Rattle.std.specs.Prelude.{ℕ, ◌≡◌, false, List, length, Option, Some, None, option_and_then, slice_get, slice_index_or, if◌then◌else◌}
+use Rattle.std.specs.Prelude.{ℕ, suc, ◌≡◌, ◌==◌, false, List, length, Option, Some, None, option_and_then, slice_get, slice_index_or, if◌then◌else◌}
 use Rattle.plain_model.specs.declared.id.AnyId.{AnyId}
 use Rattle.plain_model.specs.declared.event.PlainEvent.{PlainEvent}
 use Rattle.plain_model.specs.declared.event.PlainEvent.TheVariants.{Blob, Commit, Tag, Reset, Pass}
@@ -34,3 +34,8 @@ pub record AreMoves (set : List AnyId) (goes_to : ℕ → Option ℕ) (events : 
 -- those of removed commits move, the way to which they lean first
 abbrev pub moving : List AnyId → List PlainEvent → Lean → ℕ → Option ℕ
 moving set events tags c = if is_removed set c then moved set events tags c else Some c
+
+-- a table ends with the place of one that goes to a commit, and the others go where they did
+pub record EndsWith (place target : ℕ) (old new : List (Option ℕ)) : Type 0 where
+  pub count : length new ≡ suc place
+  pub entry : (k : ℕ) → slice_index_or new k None ≡ (if k == place then Some target else slice_index_or old k None)

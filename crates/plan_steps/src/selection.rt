@@ -6,8 +6,10 @@ ghost use Rattle.std.specs.Prelude.{
   Some,
   length,
   slice_get,
+  suc,
   IfOk,
   IsSome,
+  MatchOption,
 };
 ghost use Rattle.plain_model.specs.Lookups.{find_event, id_of, is_listed, place_of};
 ghost use Rattle.plain_model.specs.Soundness.{IsSound};
@@ -133,6 +135,26 @@ impl<'a> Selected<'a> {
             Ok(_) => place,
             Err(index) if index < near.len() => near[index],
             Err(_) => self.list.count(),
+        }
+    }
+
+    /// The last place before this one of an event that may be one of the set or refer to one, if there is one. Those between
+    /// stay as they are.
+    pub fn near_before(&self, place: usize) -> Option<usize>
+        requires { place ≤ length self.now.events }
+        ensures { MatchOption result (NoneNear self.now.set self.now.events 0 place)
+            (λ found. (found < place) × NoneNear self.now.set self.now.events (suc found) place) }
+    {
+        let Some(near) = &self.near else {
+            return place.checked_sub(1);
+        };
+        let index = match near.binary_search(&place) {
+            Ok(index) | Err(index) => index,
+        };
+        if index == 0 {
+            None
+        } else {
+            Some(near[index - 1])
         }
     }
 

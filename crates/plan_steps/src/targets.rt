@@ -2,8 +2,10 @@
 ghost use Rattle.std.specs.Prelude.{
   ◌≡◌,
   ◌<◌,
+  ◌≤◌,
   None,
   Some,
+  true,
   is_some,
   length,
   option_and_then,
@@ -11,12 +13,14 @@ ghost use Rattle.std.specs.Prelude.{
   slice_index_or,
   IfOk,
   IsSome,
+  OnOk,
 };
 ghost use Rattle.std.specs.List.{list_any};
 ghost use Rattle.plain_model.specs.Lookups.{find_event};
 ghost use Rattle.plain_model.specs.declared.id.AnyId.TheVariants.{Commit};
-ghost use Rattle.plan_steps.specs.Targets.{AreMoves, lost_target, moving, target_for};
-ghost use Rattle.plan_steps.specs.Ways.{AreBack, AreForward};
+ghost use Rattle.plan_steps.specs.Targets.{AreMoves, EndsWith, lost_target, moving, target_for};
+ghost use Rattle.plan_steps.specs.Ways.{AreBackOfRemoved, AreForward};
+ghost use Rattle.squash_laws.specs.Removed.{is_removed};
 ghost use Rattle.squash_laws.specs.Takings.{moved, takes};
 
 use crate::selection::Selected;
@@ -83,7 +87,8 @@ fn is_any_lost(removal: &Selected) -> bool
 // Where a tag or a reset of a removed commit goes: the way to which it leans, else the other, if there is one.
 fn moved(removal: &Selected, leads: &Leads, tags: Lean, commit: CommitId) -> Option<CommitId>
     requires there { IsSome (find_event (Commit commit) removal.now.events) }
-    requires back { AreBack removal.now.set removal.now.events leads.now.back.items }
+    requires removed { is_removed removal.now.set commit ≡ true }
+    requires back { AreBackOfRemoved removal.now.set removal.now.events leads.now.back.items }
     requires forward { AreForward removal.now.set removal.now.events leads.now.forward.items }
     ensures { result ≡ moved removal.now.set removal.now.events tags commit }
 {
@@ -98,7 +103,7 @@ fn moved(removal: &Selected, leads: &Leads, tags: Lean, commit: CommitId) -> Opt
 // Where the tag or the reset at a place goes, if it is on a removed commit.
 fn moved_target(removal: &Selected, leads: &Leads, tags: Lean, place: usize) -> Option<CommitId>
     requires place { place < length removal.now.events }
-    requires back { AreBack removal.now.set removal.now.events leads.now.back.items }
+    requires back { AreBackOfRemoved removal.now.set removal.now.events leads.now.back.items }
     requires forward { AreForward removal.now.set removal.now.events leads.now.forward.items }
     ensures { (event : _) → slice_get removal.now.events place ≡ Some event →
         result ≡ option_and_then (moved removal.now.set removal.now.events tags) (lost_target removal.now.set event) }
@@ -108,21 +113,36 @@ fn moved_target(removal: &Selected, leads: &Leads, tags: Lean, place: usize) -> 
     moved(removal, leads, tags, commit)
 }
 
-/// Tags and resets of removed commits move to commits that stay.
+// Ends a table with the place of one that goes to a commit.
+fn end_with(table: &mut Targets, place: usize, target: CommitId) -> Result<(), NoMemory>
+    requires { length table.old.items ≤ place }
+    ensures { OnOk result (EndsWith place target table.old.items table.new.items) }
+{
+    table.resize(place, None)?;
+    table.push(Some(target))?;
+    Ok(())
+}
+
+/// Tags and resets of removed commits, which all are near, move to commits that stay.
 pub fn moved_targets(
     alloc: Global,
     removal: &Selected,
     leads: &Leads,
     tags: Lean,
 ) -> Result<Targets, NoMemory>
-    requires back { AreBack removal.now.set removal.now.events leads.now.back.items }
+    requires back { AreBackOfRemoved removal.now.set removal.now.events leads.now.back.items }
     requires forward { AreForward removal.now.set removal.now.events leads.now.forward.items }
     ensures { IfOk result (λ table. AreMoves removal.now.set
         (moving removal.now.set removal.now.events tags) removal.now.events table.items) }
 {
-    let mut table = Vec::with_capacity(alloc, removal.count())?;
-    for place in 0..removal.count() {
-        table.push(moved_target(removal, leads, tags, place))?;
+    let mut table = Vec::new(alloc);
+    let count = removal.count();
+    let mut place = removal.next_near(0);
+    while place < count {
+        if let Some(target) = moved_target(removal, leads, tags, place) {
+            end_with(&mut table, place, target)?;
+        }
+        place = removal.next_near(place + 1);
     }
     Ok(table)
 }
@@ -135,7 +155,7 @@ fn moved_if_lost(alloc: Global, removal: &Selected, tags: Lean) -> Result<Target
     if !is_any_lost(removal) {
         return Ok(Vec::new(alloc));
     }
-    let leads = Leads::of(alloc, removal)?;
+    let leads = Leads::of_removed(alloc, removal)?;
     moved_targets(alloc, removal, &leads, tags)
 }
 

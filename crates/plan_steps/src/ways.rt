@@ -18,7 +18,16 @@ ghost use Rattle.std.specs.List.{AllByRecursion};
 ghost use Rattle.plain_model.specs.Lookups.{commit_id, find_event};
 ghost use Rattle.plain_model.specs.Soundness.{IsCommitOf};
 ghost use Rattle.plain_model.specs.declared.id.AnyId.TheVariants.{Commit};
-ghost use Rattle.plan_steps.specs.Ways.{AreBack, AreBackTo, AreForward, AreForwardFrom, AreLed};
+ghost use Rattle.plan_steps.specs.Ways.{
+  AreBack,
+  AreBackOfRemoved,
+  AreBackOfRemovedTo,
+  AreBackTo,
+  AreForward,
+  AreForwardFrom,
+  AreLed,
+  RemovedWayIs,
+};
 ghost use Rattle.squash_laws.specs.Removed.{is_removed};
 ghost use Rattle.squash_laws.specs.Takings.{back_of};
 
@@ -79,8 +88,8 @@ pub fn ways_back(alloc: Global, removal: &Selected) -> Result<Ways, NoMemory>
     Ok(ways)
 }
 
-// Where the commit at a place leads its parents: to itself, if it stays, else to where it leads.
-fn leading_to(
+// What stands for the commit at a place: itself, if it stays, else the one to which its way goes.
+fn stand_in(
     removal: &Selected,
     ways: &[Option<CommitId>],
     place: usize,
@@ -97,6 +106,33 @@ fn leading_to(
     } else {
         Some(commit)
     }
+}
+
+// Where a removed commit at a place goes back: to what stands for its first parent.
+fn back_from(removal: &Selected, ways: &[Option<CommitId>], place: usize) -> Option<CommitId>
+    requires place { place < length removal.now.events }
+    requires ways { AreBackOfRemovedTo removal.now.set removal.now.events place ways.now }
+    ensures { (event : _) → slice_get removal.now.events place ≡ Some event →
+        RemovedWayIs removal.now.set (back_of removal.now.set removal.now.events) event result }
+{
+    let _count = removal.count();
+    let parent = removal.nth(place).parents().first()?;
+    stand_in(removal, ways, removal.place(*parent), *parent)
+}
+
+// The ways back of removed commits alone, which all are near.
+fn removed_ways_back(alloc: Global, removal: &Selected) -> Result<Ways, NoMemory>
+    ensures { IfOk result (λ ways. AreBackOfRemoved removal.now.set removal.now.events ways.items) }
+{
+    let count = removal.count();
+    let mut ways = vec![in alloc; None; count]?;
+    let mut place = removal.next_near(0);
+    while place < count {
+        let way = back_from(removal, &ways, place);
+        ways[place] = way;
+        place = removal.next_near(place + 1);
+    }
+    Ok(ways)
 }
 
 // Leads commits one way.
@@ -116,7 +152,7 @@ fn lead(
     }
 }
 
-// Leads the parents of the commit at a place.
+// Leads the parents of the commit at a place to what stands for it.
 fn lead_parents(removal: &Selected, place: usize, ways: &mut [Option<CommitId>])
     requires place { place < length removal.now.events }
     requires ways { AreForwardFrom removal.now.set removal.now.events (suc place) ways.old }
@@ -124,24 +160,27 @@ fn lead_parents(removal: &Selected, place: usize, ways: &mut [Option<CommitId>])
 {
     let _count = removal.count();
     if let PlainEvent::Commit { id, parents, .. } = removal.nth(place) {
-        let way = leading_to(removal, ways, place, *id);
+        let way = stand_in(removal, ways, place, *id);
         lead(removal, parents.as_slice(), &way, ways);
     }
 }
 
-// The ways forward, in one pass from the end, so that the first child of a commit comes last.
+// The ways forward of removed commits, from the last near place to the first, so that the first child of a commit comes
+// last. An event that isn't near leads none of them.
 fn ways_forward(alloc: Global, removal: &Selected) -> Result<Ways, NoMemory>
     ensures { IfOk result (λ ways. AreForward removal.now.set removal.now.events ways.items) }
 {
     let count = removal.count();
     let mut ways = vec![in alloc; None; count]?;
-    for done in 0..count {
-        lead_parents(removal, count - 1 - done, &mut ways);
+    let mut place = count;
+    while let Some(near) = removal.near_before(place) {
+        lead_parents(removal, near, &mut ways);
+        place = near;
     }
     Ok(ways)
 }
 
-/// The ways of a history's commits, without some of them.
+/// The ways of a history's removed commits.
 #[derive(Drop)]
 pub struct Leads {
     pub back: Ways,
@@ -149,13 +188,28 @@ pub struct Leads {
 }
 
 impl Leads {
+    /// With the ways back of all other commits besides, in a pass over all events.
     pub fn of(alloc: Global, removal: &Selected) -> Result<Leads, NoMemory>
         ensures back { IfOk result
             (λ leads. AreBack removal.now.set removal.now.events leads.back.items) }
+        ensures removed { IfOk result
+            (λ leads. AreBackOfRemoved removal.now.set removal.now.events leads.back.items) }
         ensures forward { IfOk result
             (λ leads. AreForward removal.now.set removal.now.events leads.forward.items) }
     {
         let back = ways_back(alloc, removal)?;
+        let forward = ways_forward(alloc, removal)?;
+        Ok(Leads { back, forward })
+    }
+
+    /// Of removed commits alone, looked for near them.
+    pub fn of_removed(alloc: Global, removal: &Selected) -> Result<Leads, NoMemory>
+        ensures removed { IfOk result
+            (λ leads. AreBackOfRemoved removal.now.set removal.now.events leads.back.items) }
+        ensures forward { IfOk result
+            (λ leads. AreForward removal.now.set removal.now.events leads.forward.items) }
+    {
+        let back = removed_ways_back(alloc, removal)?;
         let forward = ways_forward(alloc, removal)?;
         Ok(Leads { back, forward })
     }

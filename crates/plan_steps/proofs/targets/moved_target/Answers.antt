@@ -9,3 +9,8 @@ moved-requires-clause-there c =
     let item = item_at c.args.removal.now.events c.args.place c.requires.place in
     target_there c.args.removal.now.events c.count-count.ensures.sound c.args.place c.in_ok-commit.commit item.0 item.1
     (lost_is c.args.removal.now.set c.in_ok-commit.commit item.0 (sym (c.lost_at.ensures item.0 item.1) ∙ c.in_ok-commit.was)).0
+
+pub moved-requires-clause-removed : goal.moved-requires-clause-removed
+moved-requires-clause-removed c =
+    let item = item_at c.args.removal.now.events c.args.place c.requires.place in
+    (lost_is c.args.removal.now.set c.in_ok-commit.commit item.0 (sym (c.lost_at.ensures item.0 item.1) ∙ c.in_ok-commit.was)).1

@@ -1,8 +1,13 @@
-use Rattle.std.proofs.Common.{None}
-use Rattle.plan_steps.specs.Tables.{IsTableTo}
+use Rattle.std.proofs.Common.{◌≤◌, ◌-◌, length}
 use Rattle.squash_laws.specs.Takings.{moved}
-use Rattle.plan_steps.proofs.TargetLemmas.{MoveIs}
+use Rattle.plan_steps.proofs.TargetLemmas.{AreMovesTo}
 use Rattle.plan_steps.proofs.targets.moved_targets.Given as goal
 
 abbrev pub invariant-loop-place : goal.invariant-loop-place
-invariant-loop-place l = IsTableTo None (MoveIs l.removal.set (moved l.removal.set l.removal.events l.tags)) l.removal.events l.place l.table.items
+invariant-loop-place l = record {
+  within : l.place ≤ length l.removal.events;
+  moves : AreMovesTo l.removal.set (moved l.removal.set l.removal.events l.tags) l.removal.events l.place l.table.items;
+}
+
+abbrev pub decreases-loop-place : goal.decreases-loop-place
+decreases-loop-place l = length l.removal.events - l.place

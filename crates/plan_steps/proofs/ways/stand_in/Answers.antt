@@ -2,7 +2,7 @@ use Rattle.std.proofs.Common.{◌∙◌, Some, None, get_or, sym}
 use Rattle.std.proofs.lemmas.Bool.{cond-false, cond-true}
 use Rattle.squash_laws.specs.Removed.{is_removed}
 use Rattle.plan_steps.proofs.WayLemmas.{removed_at}
-use Rattle.plan_steps.proofs.ways.leading_to.Goals as goal
+use Rattle.plan_steps.proofs.ways.stand_in.Goals as goal
 
 pub returns-then-has_at : goal.returns-then-has_at
 returns-then-has_at c event at own =
