@@ -1,6 +1,7 @@
 pub mod ChainLemmas
 pub mod ChangeLemmas
 pub mod DistinctLemmas
+pub mod KeptMarkLemmas
 pub mod LinkLemmas
 pub mod ListLemmas
 pub mod MarkLemmas
@@ -10,7 +11,10 @@ pub mod OrderLemmas
 pub mod PlaceLemmas
 pub mod Plans
 pub mod PointerLemmas
+pub mod RelinkLemmas
 pub mod RowLemmas
+pub mod ShiftLemmas
 pub mod SpentLemmas
 pub mod StepLemmas
+pub mod TouchedLemmas
 pub mod WeightLemmas

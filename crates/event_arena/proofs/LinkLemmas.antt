@@ -59,12 +59,12 @@ once_before (p ∷ ps) (suc i) d o h =
       | inr no_it ↦ rw no_it (once_before ps i d parts.1 (omega arith))
     ]
 
-set_here : (xs : List (List ℕ)) (k : ℕ) (v : List ℕ) → k < length xs → get_or (set xs k v) k [] ≡ v
+pub set_here : (xs : List (List ℕ)) (k : ℕ) (v : List ℕ) → k < length xs → get_or (set xs k v) k [] ≡ v
 set_here [] k v h = absurd (omega arith)
 set_here (x ∷ xs) zero v h = refl
 set_here (x ∷ xs) (suc k) v h = set_here xs k v (omega arith)
 
-set_there : (xs : List (List ℕ)) (j k : ℕ) (v : List ℕ) → (j ≡ k → ⊥) → get_or (set xs j v) k [] ≡ get_or xs k []
+pub set_there : (xs : List (List ℕ)) (j k : ℕ) (v : List ℕ) → (j ≡ k → ⊥) → get_or (set xs j v) k [] ≡ get_or xs k []
 set_there [] j k v h = refl
 set_there (x ∷ xs) zero zero v h = absurd (h refl)
 set_there (x ∷ xs) zero (suc k) v h = refl

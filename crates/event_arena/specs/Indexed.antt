@@ -7,6 +7,7 @@ use Rattle.event_arena.specs.declared.plan.Plan.TheInside as plan
 use Rattle.event_arena.specs.Graphs.{Change, Graph}
 use Rattle.event_arena.specs.Indices.{HasChildren, IsMarkIndex}
 use Rattle.event_arena.specs.Spent.{BringsNoneBack}
+use Rattle.event_arena.specs.Touched.{DifferAtMost}
 
 abbrev pub graph : events.Inside → Graph
 graph s = record { list = s.table; next_id = s.next_id; slots = length s.links.lists; room = s.room }
@@ -27,9 +28,10 @@ pub record IsIndexed (s : events.Inside) : Type 0 where
 abbrev pub change : plan.Inside → Change
 change s = record { before = s.before; after = s.after; made_at = s.made_at; next = s.next }
 
--- the history before was sound, ids are given from made_at on, and no spent id comes back
+-- the history before was sound, ids are given from made_at on, no spent id comes back, and what the plan touched is told
 pub record IsPlanned (s : plan.Inside) : Type 0 where
   pub sound : IsSound s.before
   pub later : s.made_at ≤ s.next
   pub spent : AreIdsBelow s.next s.after
   pub none_back : BringsNoneBack s.made_at s.before s.after
+  pub touched : DifferAtMost s.touched s.before s.after

@@ -9,6 +9,8 @@ pub mod Needs
 pub mod Numbers
 pub mod Plans
 pub mod Pointers
+pub mod Relinked
 pub mod Rows
 pub mod Spent
+pub mod Touched
 pub mod Weights

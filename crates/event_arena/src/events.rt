@@ -38,11 +38,15 @@ ghost use Rattle.plain_model.specs.declared.id.AnyId.TheVariants.{Commit};
 use crate::index::fill;
 use crate::links::{Children, Links};
 use crate::measure::{greatest_mark, next_number};
+use crate::mending::mend;
 use crate::plan::Plan;
 use crate::table::EventTable;
 use plain_model::{AnyId, CommitId, EventList, IdList, MAX_MARK, Mark, NoMemory, PlainEvent};
 use std::alloc::Global;
 use std::marker::Model;
+
+// So many events are put in order to link one commit to its children anew. Where there are more, all links are filled anew.
+const MOST_NEAR: usize = 256;
 
 /// A sound history. Contracts see its list of events, `next_id`, the number below which all ids are spent, `slots`,
 /// how many places for events it keeps, and `room`, up to which a plan can be carried out without memory.
@@ -50,11 +54,13 @@ use std::marker::Model;
 pub struct Events {
     alloc: Global,
     table: EventTable,
-    // In the order of the marks.
+    // In the order of the marks. Those of events that are gone may stay.
     marks: Vec<(u64, AnyId)>,
     links: Links,
     next_id: u64,
     room: usize,
+    // Room for a few places, while links are mended.
+    near: Vec<usize>,
 }
 
 impl Model for Events {
@@ -89,6 +95,7 @@ impl Events {
         links.reserve(room, room)?;
         fill(&table, &mut marks, &mut links);
         let next_id = next_number(&table);
+        let near = Vec::with_capacity(alloc, MOST_NEAR)?;
         Ok(Events {
             alloc,
             table,
@@ -96,6 +103,7 @@ impl Events {
             links,
             next_id,
             room,
+            near,
         })
     }
 
@@ -185,7 +193,14 @@ impl Events {
             .marks
             .binary_search_by_key(&number, |marked: &(u64, AnyId)| -> u64 { marked.0 })
         {
-            Ok(at) => Some(self.marks[at].1),
+            Ok(at) => {
+                // A mark may stay when its event has gone.
+                if self.table.place(self.marks[at].1).is_some() {
+                    Some(self.marks[at].1)
+                } else {
+                    None
+                }
+            }
             Err(_) => None,
         }
     }
@@ -281,8 +296,16 @@ impl Events {
         ensures spent { self.old.next_id ≤ self.new.next_id }
         ensures none_back { BringsNoneBack self.old.next_id self.old.list self.new.list }
     {
-        let (table, next_id) = plan.into_after();
-        fill(&table, &mut self.marks, &mut self.links);
+        let (table, next_id, touched) = plan.into_after();
+        if !mend(
+            &self.table,
+            &table,
+            &touched,
+            &mut self.near,
+            &mut self.links,
+        ) {
+            fill(&table, &mut self.marks, &mut self.links);
+        }
         self.table = table;
         self.next_id = next_id;
     }

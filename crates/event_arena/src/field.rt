@@ -1,5 +1,5 @@
 //! Fields of events that a plan can set.
-ghost use Rattle.std.specs.Prelude.{◌≡◌, IfOk, OnOk};
+ghost use Rattle.std.specs.Prelude.{◌≡◌, false, IfOk, OnOk};
 ghost use Rattle.event_arena.specs.Changes.{
   with_aliases,
   with_comment,
@@ -11,6 +11,8 @@ ghost use Rattle.event_arena.specs.Changes.{
   with_signed,
   with_target,
 };
+ghost use Rattle.event_arena.specs.Touched.{indexed_of};
+ghost use Rattle.plain_model.specs.declared.event.PlainEvent.{PlainEvent};
 
 use plain_model::{
     CommitId, Copied, Mark, MarkList, NoMemory, OpList, ParentList, PlainEvent, Shared, Signed,
@@ -37,6 +39,20 @@ pub enum Field {
     Target(CommitId),
     Comment(Text),
     Signed(Role, Signed),
+}
+
+impl Field {
+    /// Whether an index is made from this field.
+    pub fn is_indexed(&self) -> bool
+        ensures { result ≡ false → (e : PlainEvent) → indexed_of (with_field self.now e) ≡ indexed_of e }
+    {
+        match self {
+            Field::Parents(_) => true,
+            Field::Mark(_) => true,
+            Field::Aliases(_) => true,
+            _ => false,
+        }
+    }
 }
 
 fn put_parents(event: &mut PlainEvent, new: ParentList)

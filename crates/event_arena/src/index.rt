@@ -16,7 +16,7 @@ ghost use Rattle.std.specs.Prelude.{
   IsTrue,
 };
 ghost use Rattle.event_arena.specs.Indices.{HasChildren, IsLinked, IsLinkedEvent, IsMarkIndex};
-ghost use Rattle.history_laws.specs.Once.{AreParentsOnce, named};
+ghost use Rattle.history_laws.specs.Once.{AreDistinct, AreMarkedOnce, AreParentsOnce, named};
 ghost use Rattle.plain_model.specs.Lookups.{event_parents, marks_of, own_marks};
 ghost use Rattle.plain_model.specs.Soundness.{are_distinct};
 ghost use Rattle.plain_model.specs.declared.id.AnyId.TheVariants.{Commit};
@@ -120,6 +120,8 @@ fn note_event(marks: &mut Vec<(u64, AnyId)>, event: &PlainEvent)
 /// children. It goes from the last event back, and each child is put before the others, so that children are in the
 /// order of the table. Places that are there stay, and may be used again.
 pub fn fill(table: &EventTable, marks: &mut Vec<(u64, AnyId)>, links: &mut Links)
+    requires ids { AreDistinct table.now }
+    requires marked { AreMarkedOnce (marks_of table.now) }
     requires once { AreParentsOnce table.now }
     requires mark_room { length (marks_of table.now) ≤ vec_capacity marks.old }
     requires place_room { length table.now ≤ links.old.place_room }

@@ -11,6 +11,7 @@ ghost use Rattle.std.specs.Prelude.{
   length,
   slice_index_or,
   slice_set,
+  true,
   None,
   OnOk,
 };
@@ -154,6 +155,36 @@ impl Links {
         let next = self.heads[place];
         self.links.push_reserved(Link { child, next });
         self.heads[place] = LinkAt::last_of(self.links.len());
+    }
+
+    /// Gives a place the children of another.
+    pub fn copy(&mut self, from: usize, to: usize)
+        requires there { from < length self.old.lists }
+        requires within { to < length self.old.lists }
+        ensures lists { self.new.lists ≡ slice_set self.old.lists to (slice_index_or self.old.lists from []) }
+        ensures used { self.new.used ≡ self.old.used }
+        ensures place_room { self.new.place_room ≡ self.old.place_room }
+        ensures link_room { self.new.link_room ≡ self.old.link_room }
+    {
+        self.heads[to] = self.heads[from];
+    }
+
+    /// Forgets the children of a place. Their room isn't free again before all are forgotten.
+    pub fn forget(&mut self, place: usize)
+        requires { place < length self.old.lists }
+        ensures lists { self.new.lists ≡ slice_set self.old.lists place [] }
+        ensures used { self.new.used ≡ self.old.used }
+        ensures place_room { self.new.place_room ≡ self.old.place_room }
+        ensures link_room { self.new.link_room ≡ self.old.link_room }
+    {
+        self.heads[place] = LinkAt::none();
+    }
+
+    /// Whether there is room for one child more.
+    pub fn has_room(&self) -> bool
+        ensures { result ≡ true → self.now.used < self.now.link_room }
+    {
+        self.links.len() < self.links.capacity()
     }
 
     /// The children of a place, the youngest link first.

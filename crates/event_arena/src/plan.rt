@@ -45,6 +45,7 @@ ghost use Rattle.event_arena.specs.Changes.{
 ghost use Rattle.history_laws.specs.Once.{AreDistinct};
 ghost use Rattle.event_arena.specs.Plans.{leaving};
 ghost use Rattle.event_arena.specs.Spent.{BringsNoneBack};
+ghost use Rattle.event_arena.specs.Touched.{DifferAtMost};
 ghost use Rattle.event_arena.specs.Weights.{weight_of};
 ghost use Rattle.plain_model.specs.Lookups.{AreIdsBelow, find_event, id_number, id_of, place_of};
 ghost use Rattle.plain_model.specs.Soundness.{IsSound};
@@ -53,6 +54,7 @@ ghost use Rattle.plain_model.specs.declared.id.AnyId.TheVariants.{Commit};
 use crate::events::Events;
 use crate::field::{Field, Role};
 use crate::table::EventTable;
+use crate::touched::Touched;
 use plain_model::{
     AnyId, CommitId, IdList, Mark, MarkList, NoMemory, OpList, ParentList, PlainEvent, Signed, Text,
 };
@@ -67,6 +69,8 @@ pub struct Plan {
     after: EventTable,
     made_at: u64,
     next: u64,
+    // Without these events both lists are the same to an index.
+    touched: Touched,
 }
 
 impl Model for Plan {
@@ -89,11 +93,13 @@ impl Plan {
         let before = events.share(alloc)?;
         let after = before.renewed(alloc)?;
         let next = events.next_id();
+        let touched = Touched::none(alloc)?;
         Ok(Plan {
             before,
             after,
             made_at: next,
             next,
+            touched,
         })
     }
 
@@ -176,14 +182,15 @@ impl Plan {
         self.after.weight()
     }
 
-    pub(crate) fn into_after(self) -> (EventTable, u64)
+    pub(crate) fn into_after(self) -> (EventTable, u64, Touched)
         ensures after { result.0 ≡ self.after }
         ensures next { result.1 ≡ self.next }
         ensures later { self.made_at ≤ self.next }
         ensures spent { AreIdsBelow self.next self.after }
         ensures none_back { BringsNoneBack self.made_at self.before self.after }
+        ensures touched { DifferAtMost result.2 self.before self.after }
     {
-        (self.after, self.next)
+        (self.after, self.next, self.touched)
     }
 
     /// A number that was never an id's in this history. The plan gives each once.
@@ -207,7 +214,10 @@ impl Plan {
             (self.new ≡ record self.old { after = self.old.after ++ event ∷ [] }) }
         ensures err { OnErr result (self.new ≡ self.old) }
     {
-        self.after.append(event)
+        let id = event.id();
+        self.after.append(event)?;
+        self.touched.add(id);
+        Ok(())
     }
 
     /// Puts an event right after the one with the id, under an id that `unused` has given. The later ones
@@ -221,7 +231,10 @@ impl Plan {
             (self.new ≡ record self.old { after = put_after id event self.old.after }) }
         ensures err { OnErr result (self.new ≡ self.old) }
     {
-        self.after.insert_after(id, event)
+        let new = event.id();
+        self.after.insert_after(id, event)?;
+        self.touched.add(new);
+        Ok(())
     }
 
     /// Takes the event with the id away. The later ones move up, which costs a move of each: take many away
@@ -232,7 +245,11 @@ impl Plan {
             (self.new ≡ record self.old { after = without id self.old.after }) }
         ensures err { OnErr result (self.new ≡ self.old) }
     {
-        self.after.remove(id)
+        // By reference, since it is used twice.
+        let own = &id;
+        self.after.remove(*own)?;
+        self.touched.add(*own);
+        Ok(())
     }
 
     /// Takes away the events with these ids, in one pass over the list. Ids that aren't there are passed by.
@@ -241,7 +258,9 @@ impl Plan {
             (self.new ≡ record self.old { after = without_all ids.now self.old.after }) }
         ensures err { OnErr result (self.new ≡ self.old) }
     {
-        self.after.remove_all(ids.as_slice())
+        self.after.remove_all(ids.as_slice())?;
+        self.touched.add_all(ids.as_slice());
+        Ok(())
     }
 
     /// Puts the events in another order, in one pass.
@@ -251,7 +270,9 @@ impl Plan {
             (self.new ≡ record self.old { after = in_order order self.old.after }) }
         ensures err { OnErr result (self.new ≡ self.old) }
     {
-        self.after.set_order(order.as_slice())
+        self.after.set_order(order.as_slice())?;
+        self.touched.give_up();
+        Ok(())
     }
 
     // Puts a value into a field of the event with the id.
@@ -261,7 +282,14 @@ impl Plan {
             (self.new ≡ record self.old { after = changed id (with_field field) self.old.after }) }
         ensures err { OnErr result (self.new ≡ self.old) }
     {
-        self.after.set(id, field)
+        // By reference, since it is used twice.
+        let own = &id;
+        let is_indexed = field.is_indexed();
+        self.after.set(*own, field)?;
+        if is_indexed {
+            self.touched.add(*own);
+        }
+        Ok(())
     }
 
     /// Gives a commit other parents.

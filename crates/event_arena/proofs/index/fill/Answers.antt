@@ -4,6 +4,7 @@ use Rattle.std.specs.List.Sorted.{IsPermutation}
 use Rattle.plain_model.specs.Lookups.{event_parents, marks_of, own_marks}
 use Rattle.event_arena.proofs.LinkLemmas.{linked_step, once_at}
 use Rattle.event_arena.proofs.ListLemmas.{drop_item, length_flat_drop, length_flat_item}
+use Rattle.event_arena.proofs.MarkLemmas.{index_made}
 use Rattle.event_arena.proofs.index.fill.Goals as goal
 
 pub note_event-requires : goal.note_event-requires
@@ -69,7 +70,6 @@ returns-clause-index c =
     let none : c.count-count.result - c.loop-done.done ≡ 0 = omega arith in
     let noted : IsPermutation (marks_of es) c.loop-done.marks.items = rw none at c.loop-done.invariant.marks in
     let sorted = c.sort_unstable_by_key.ensures in
-    record {
-      all = IsPermutation-trans (marks_of es) c.loop-done.marks.items c.sort_unstable_by_key.new.self.items noted sorted.permutation;
-      rising = IsNonDecreasingBy-from_sort_by_key (λ m. m.0) _ sorted.sorted (λ a r q k. search rules);
-    }
+    index_made es _ c.requires.ids c.requires.marked
+    (IsPermutation-trans (marks_of es) c.loop-done.marks.items c.sort_unstable_by_key.new.self.items noted sorted.permutation)
+    (IsNonDecreasingBy-from_sort_by_key (λ m. m.0) _ sorted.sorted (λ a r q k. search rules))

@@ -10,6 +10,12 @@ use Rattle.event_arena.proofs.events.Events.from_plain.Goals as goal
 pub from_list-requires : goal.from_list-requires
 from_list-requires c = (sound_once c.args.list c.requires.sound).ids
 
+pub fill-requires-clause-ids : goal.fill-requires-clause-ids
+fill-requires-clause-ids c = rw c.in_ok-table.ensures ((sound_once c.args.list c.requires.sound).ids)
+
+pub fill-requires-clause-marked : goal.fill-requires-clause-marked
+fill-requires-clause-marked c = rw c.in_ok-table.ensures ((sound_once c.args.list c.requires.sound).marks)
+
 pub fill-requires-clause-once : goal.fill-requires-clause-once
 fill-requires-clause-once c = rw c.in_ok-table.ensures ((sound_once c.args.list c.requires.sound).parents)
 
