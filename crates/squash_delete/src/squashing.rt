@@ -185,6 +185,8 @@ pub fn squash(
         return Err(Halt::Refused(fault));
     }
     let mut plan = Plan::new(alloc, events)?;
-    remove_all(alloc, events, manifests, &removal, &mut plan, how)?;
-    Ok(plan)
+    match remove_all(alloc, events, manifests, &removal, &mut plan, how) {
+        Ok(()) => Ok(plan),
+        Err(halt) => Err(halt),
+    }
 }
