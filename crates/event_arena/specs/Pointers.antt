@@ -1,9 +1,11 @@
 -- Tags and resets: the events that are on a commit. (own)
-use Rattle.std.specs.Prelude.{◌≡◌, ◌≤◌, ℕ, Bool, true, false, List, Some}
+use Rattle.std.specs.Prelude.{◌≡◌, ◌≤◌, ℕ, Bool, true, false, List, Some, slice_index_or}
+use Rattle.std.specs.List.{Contains}
 use Rattle.plain_model.specs.declared.id.AnyId.{AnyId}
 use Rattle.plain_model.specs.declared.id.AnyId.TheVariants as any
 use Rattle.plain_model.specs.declared.event.PlainEvent.{PlainEvent}
 use Rattle.plain_model.specs.Lookups.{is_listed, place_of}
+use Rattle.event_arena.specs.declared.places.ListedPlaces.TheInside as listed
 use Rattle.event_arena.specs.declared.places.Places.{Places}
 use Rattle.event_arena.specs.Rows.{noted}
 
@@ -29,3 +31,7 @@ HasNotedTags places ids = (n : ℕ) → 1 ≤ noted places (any.Tag n) → is_li
 -- the same of resets
 abbrev pub HasNotedResets : Places → List AnyId → Type 0
 HasNotedResets places ids = (n : ℕ) → 1 ≤ noted places (any.Reset n) → is_listed (any.Reset n) ids ≡ true
+
+-- each number under which another place than the first is noted is among the numbers
+abbrev pub AreNumbered : listed.Inside → Type 0
+AreNumbered s = (n : ℕ) → 1 ≤ slice_index_or s.places.items n 0 → Contains s.numbers.items n

@@ -31,8 +31,8 @@ in_rows stored rows = flat_map (λ row. option_to_list (slice_get stored row.at)
 abbrev pub noted : Places → AnyId → ℕ
 noted s (any.Blob n) = slice_index_or s.blobs.items n 0
 noted s (any.Commit n) = slice_index_or s.commits.items n 0
-noted s (any.Tag n) = slice_index_or s.tags.items n 0
-noted s (any.Reset n) = slice_index_or s.resets.items n 0
+noted s (any.Tag n) = slice_index_or s.tags n 0
+noted s (any.Reset n) = slice_index_or s.resets n 0
 noted s (any.Pass n) = slice_index_or s.passes.items n 0
 
 -- the place under one number is changed, and no other

@@ -1,11 +1,84 @@
 //! The places of events, noted under their ids.
-ghost use Rattle.std.specs.Prelude.{◌≡◌, ◌==◌, slice_index_or, if◌then◌else◌, OnErr, OnOk};
+ghost use Rattle.std.specs.Prelude.{◌≡◌, ◌==◌, ◌≤◌, [], slice_index_or, if◌then◌else◌, IfOk, OnErr, OnOk};
+ghost use Rattle.std.specs.List.{Contains};
 ghost use Rattle.event_arena.specs.Pointers.{AreAmong, HasNotedResets, HasNotedTags};
 ghost use Rattle.event_arena.specs.Rows.{IsNoted, IsNotedAt, noted};
 ghost use Rattle.plain_model.specs.declared.id.AnyId.{AnyId};
 
 use plain_model::{AnyId, IdList, NoMemory, ResetId, TagId};
 use std::alloc::{AllocError, Global};
+use std::marker::Model;
+
+/// Places under the numbers of the ids of one kind, where the ids can be listed for which one is noted. Contracts see the place under
+/// each number.
+#[derive(Drop)]
+pub struct ListedPlaces {
+    alloc: Global,
+    places: Vec<u32>,
+    // All numbers under which another place than the first is noted, and perhaps others.
+    numbers: Vec<u64>,
+}
+
+impl Model for ListedPlaces {
+    ghost use Rattle.std.specs.Prelude.{List, ℕ};
+
+    ghost Value = { List ℕ };
+
+    ghost use Rattle.event_arena.specs.Pointers.{AreNumbered};
+
+    ghost view = { λ s. s.places.items };
+
+    ghost invariant = { AreNumbered };
+}
+
+impl ListedPlaces {
+    fn new(alloc: Global) -> ListedPlaces
+        ensures { result ≡ [] }
+    {
+        ListedPlaces {
+            alloc,
+            places: Vec::new(alloc),
+            numbers: Vec::new(alloc),
+        }
+    }
+
+    // The place under a number, or 0.
+    fn noted(&self, number: u64) -> usize
+        ensures { result ≡ slice_index_or self.now number 0 }
+    {
+        noted_at(&self.places, number)
+    }
+
+    // Notes a place under a number.
+    fn note(&mut self, number: u64, place: usize) -> Result<(), NoMemory>
+        ensures ok { OnOk result (IsNotedAt number place self.old self.new) }
+        ensures err { OnErr result (self.new ≡ self.old) }
+    {
+        if self.noted(number) == 0 {
+            self.numbers.push(number)?;
+        }
+        note_at(&mut self.places, number, place)
+    }
+
+    // The numbers under which another place than the first is noted. Others may be among them.
+    fn numbers(&self) -> &[u64]
+        ensures { (n : _) → 1 ≤ slice_index_or self.now n 0 → Contains result.now n }
+    {
+        self.numbers.as_slice()
+    }
+
+    // Equal places, and the same numbers.
+    fn copied(&self) -> Result<ListedPlaces, AllocError>
+        ensures { IfOk result (λ made. made ≡ self.now) }
+    {
+        let alloc = self.alloc;
+        Ok(ListedPlaces {
+            alloc,
+            places: Vec::from_slice(alloc, self.places.as_slice())?,
+            numbers: Vec::from_slice(alloc, self.numbers.as_slice())?,
+        })
+    }
+}
 
 /// For each id the place that was noted for it last, or 0. Ids of each kind have numbers of their own. A place that wants more
 /// than 32 bits counts as out of memory.
@@ -14,8 +87,8 @@ pub struct Places {
     alloc: Global,
     blobs: Vec<u32>,
     commits: Vec<u32>,
-    tags: Vec<u32>,
-    resets: Vec<u32>,
+    tags: ListedPlaces,
+    resets: ListedPlaces,
     passes: Vec<u32>,
 }
 
@@ -56,8 +129,8 @@ impl Places {
             alloc,
             blobs: Vec::new(alloc),
             commits: Vec::new(alloc),
-            tags: Vec::new(alloc),
-            resets: Vec::new(alloc),
+            tags: ListedPlaces::new(alloc),
+            resets: ListedPlaces::new(alloc),
             passes: Vec::new(alloc),
         }
     }
@@ -69,8 +142,8 @@ impl Places {
         match id {
             AnyId::Blob(id) => noted_at(&self.blobs, id.number()),
             AnyId::Commit(id) => noted_at(&self.commits, id.number()),
-            AnyId::Tag(id) => noted_at(&self.tags, id.number()),
-            AnyId::Reset(id) => noted_at(&self.resets, id.number()),
+            AnyId::Tag(id) => self.tags.noted(id.number()),
+            AnyId::Reset(id) => self.resets.noted(id.number()),
             AnyId::Pass(id) => noted_at(&self.passes, id.number()),
         }
     }
@@ -80,10 +153,8 @@ impl Places {
         ensures old { OnOk result (AreAmong list.old list.new) }
         ensures all { OnOk result (HasNotedTags self.now list.new) }
     {
-        for number in 0..self.tags.len() {
-            if self.tags[number] != 0 {
-                list.push(AnyId::Tag(TagId::new(number as u64)))?;
-            }
+        for number in self.tags.numbers() {
+            list.push(AnyId::Tag(TagId::new(*number)))?;
         }
         Ok(())
     }
@@ -93,10 +164,8 @@ impl Places {
         ensures old { OnOk result (AreAmong list.old list.new) }
         ensures all { OnOk result (HasNotedResets self.now list.new) }
     {
-        for number in 0..self.resets.len() {
-            if self.resets[number] != 0 {
-                list.push(AnyId::Reset(ResetId::new(number as u64)))?;
-            }
+        for number in self.resets.numbers() {
+            list.push(AnyId::Reset(ResetId::new(*number)))?;
         }
         Ok(())
     }
@@ -109,8 +178,8 @@ impl Places {
         match id {
             AnyId::Blob(id) => note_at(&mut self.blobs, id.number(), place),
             AnyId::Commit(id) => note_at(&mut self.commits, id.number(), place),
-            AnyId::Tag(id) => note_at(&mut self.tags, id.number(), place),
-            AnyId::Reset(id) => note_at(&mut self.resets, id.number(), place),
+            AnyId::Tag(id) => self.tags.note(id.number(), place),
+            AnyId::Reset(id) => self.resets.note(id.number(), place),
             AnyId::Pass(id) => note_at(&mut self.passes, id.number(), place),
         }
     }
@@ -125,8 +194,8 @@ impl Clone for Places {
             alloc,
             blobs: Vec::from_slice(alloc, self.blobs.as_slice())?,
             commits: Vec::from_slice(alloc, self.commits.as_slice())?,
-            tags: Vec::from_slice(alloc, self.tags.as_slice())?,
-            resets: Vec::from_slice(alloc, self.resets.as_slice())?,
+            tags: self.tags.copied()?,
+            resets: self.resets.copied()?,
             passes: Vec::from_slice(alloc, self.passes.as_slice())?,
         })
     }
