@@ -6,16 +6,17 @@ use Rattle.std.proofs.Math.Bool.{or-false}
 use Rattle.std.specs.Cmp.Lexicographic.{pointwise}
 use Rattle.std.specs.List.{list_any}
 use Rattle.std.specs.Map.{lookup}
+use Rattle.std.specs.Option.{option_eq}
 use Rattle.std.specs.Prelude.{is_some, ◌==◌}
 use Rattle.plain_model.specs.contracts.mark.MarkPartialEq.TheImpl.{eq-value}
 use Rattle.plain_model.specs.declared.id.AnyId.{AnyId}
 use Rattle.plain_model.specs.declared.event.PlainEvent.{PlainEvent}
 use Rattle.plain_model.specs.Lookups.{event_marks, find_event, find_mark, id_of, is_listed, same_id}
 use Rattle.history_laws.proofs.Ids.{same_id_true}
-use Rattle.history_laws.specs.Once.{AreDistinct, OccursOnce}
+use Rattle.history_laws.specs.Once.{OccursOnce}
 use Rattle.event_arena.specs.Changes.{without_all}
 use Rattle.event_arena.specs.Indices.{IsMarkIndex, if_there}
-use Rattle.event_arena.specs.Touched.{AreMarksKept, DifferAtMost, KeepMarks, indexed_of}
+use Rattle.event_arena.specs.Touched.{AreMarksKept, DifferAtMost, IsMarkedAsBefore, KeepMarks, indexed_of}
 use Rattle.event_arena.proofs.ChangeLemmas.{is_listed_append}
 use Rattle.event_arena.proofs.MarkLemmas.{is_marked_by, marked_there, there_marked}
 
@@ -27,6 +28,13 @@ same_mark_lists (x ∷ xs) [] h = absurd (true≢false (sym h))
 same_mark_lists (x ∷ xs) (y ∷ ys) h =
     let parts = and_parts (eq-value.it x y) (pointwise eq-value.it xs ys) h in
     λ i. eqb-true x y parts.0 i ∷ same_mark_lists xs ys parts.1 i
+
+-- marks that may be there
+pub same_mark_options : (a b : Option ℕ) → option_eq eq-value.it a b ≡ true → a ≡ b
+same_mark_options None None h = refl
+same_mark_options None (Some y) h = absurd (true≢false (sym h))
+same_mark_options (Some x) None h = absurd (true≢false (sym h))
+same_mark_options (Some x) (Some y) h = ap Some (eqb-true x y h)
 
 -- an event with an id that isn't listed stays
 unlisted_stays : (ids : List AnyId) (id : AnyId) → is_listed id ids ≡ false → (es : List PlainEvent) → find_event id (without_all ids es) ≡ find_event id es
@@ -45,8 +53,7 @@ unlisted_stays ids id out (e ∷ es) = elim (cases_Bool (is_listed (id_of e) ids
 ]
 
 -- lists that are indexed alike have events with the same ids and marks
-indexed_alike : (olds news : List PlainEvent) → map indexed_of olds ≡ map indexed_of news → (id : AnyId) (new : PlainEvent) → find_event id news ≡ Some new →
-    (old : PlainEvent) × (find_event id olds ≡ Some old) × (event_marks new ≡ event_marks old)
+indexed_alike : (olds news : List PlainEvent) → map indexed_of olds ≡ map indexed_of news → AreMarksKept olds news
 indexed_alike olds [] alike id new h = absurd (none-some new h)
 indexed_alike [] (y ∷ news) alike id new h = absurd cc
 indexed_alike (x ∷ olds) (y ∷ news) alike id new h =
@@ -63,10 +70,9 @@ indexed_alike (x ∷ olds) (y ∷ news) alike id new h =
     ]
 
 -- where the touched events keep their marks, all events do
-pub marks_kept : (ids : List AnyId) (before after : List PlainEvent) → AreDistinct before → AreDistinct after → DifferAtMost (Some ids) before after → KeepMarks ids before after →
-    AreMarksKept before after
-marks_kept ids before after once_before once_after differ kept id new there = elim (cases_Bool (is_listed id ids)) [
-  | inl touched ↦ kept id new touched there
+pub marks_kept : (ids : List AnyId) (before after : List PlainEvent) → DifferAtMost (Some ids) before after → KeepMarks ids before after → AreMarksKept before after
+marks_kept ids before after differ kept id new there = elim (cases_Bool (is_listed id ids)) [
+  | inl touched ↦ kept id touched new there
   | inr untouched ↦
       let stayed = unlisted_stays ids id untouched in
       let was = indexed_alike (without_all ids before) (without_all ids after) differ id new (stayed after ∙ there) in
@@ -122,13 +128,12 @@ index_kept marks before after once_before once_after index kept = record {
 
 module _ (ids : List AnyId) (id : AnyId) (before after : List PlainEvent) (kept : KeepMarks ids before after) where
   -- one more, as far as it is there
-  keep_more : ((new : PlainEvent) → find_event id after ≡ Some new → (old : PlainEvent) × (find_event id before ≡ Some old) × (event_marks new ≡ event_marks old)) →
-      KeepMarks (ids ++ id ∷ []) before after
-  keep_more own other new listed there = elim (or_cases (is_listed other ids) (same_id other id || false) (sym (is_listed_append ids (id ∷ []) other) ∙ listed)) [
-    | inl earlier ↦ kept other new earlier there
+  keep_more : IsMarkedAsBefore id before after → KeepMarks (ids ++ id ∷ []) before after
+  keep_more own other listed new there = elim (or_cases (is_listed other ids) (same_id other id || false) (sym (is_listed_append ids (id ∷ []) other) ∙ listed)) [
+    | inl earlier ↦ kept other earlier new there
     | inr here ↦
         let is : other ≡ id = same_id_true other id (sym (or-false (same_id other id)) ∙ here) in
-        subst (λ i. (old : PlainEvent) × (find_event i before ≡ Some old) × (event_marks new ≡ event_marks old)) (sym is) (own new (ap (λ i. find_event i after) (sym is) ∙ there))
+        subst (λ i. IsMarkedAsBefore i before after) (sym is) own new there
   ]
 
   pub keep_absent : find_event id after ≡ None → KeepMarks (ids ++ id ∷ []) before after

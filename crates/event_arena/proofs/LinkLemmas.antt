@@ -1,7 +1,6 @@
 -- Links between the events of a list.
 use Rattle.std.proofs.Common.{◌≡◌, ◌∙◌, ℕ, zero, suc, ◌+◌, ◌<◌, ◌≤◌, Bool, true, false, cond, not, ◌||◌, ◌&&◌, inl, inr, List, [], ◌∷◌, ◌++◌, Some, None, refl, sym, ap, subst, length, get_or, take, drop, eqb, arith}
-use Rattle.std.proofs.lemmas.Bool.{cases_Bool, eqb-true, true≢false}
-use Rattle.std.proofs.lemmas.Bool.Decides.{nat_tests}
+use Rattle.std.proofs.lemmas.Bool.{cases_Bool, eq-eqb, eqb-true, true≢false}
 use Rattle.std.proofs.lemmas.Option.{none-some, same_Some}
 use Rattle.std.proofs.Math.ListN.{set}
 use Rattle.std.specs.List.{list_any}
@@ -18,8 +17,8 @@ use Rattle.event_arena.proofs.ListLemmas.{drop_item, length_flat_item}
 
 -- ---- places
 
-same_number : (a b : ℕ) → any.Commit a ≡ any.Commit b → a ≡ b
-same_number a b h = cc
+pub same_commit : (a b : ℕ) → any.Commit a ≡ any.Commit b → a ≡ b
+same_commit a b h = cc
 
 -- ---- parents, one after another
 
@@ -31,12 +30,9 @@ among_more c [] i d h = absurd (omega arith)
 among_more c (p ∷ ps) zero d h = or-false (eqb p c)
 among_more c (p ∷ ps) (suc i) d h = ap (λ b. eqb p c || b) (among_more c ps i d (omega arith)) ∙ sym (or_assoc (eqb p c) (among c (take i ps)) (eqb (get_or ps i d) c))
 
-self : (n : ℕ) → eqb n n ≡ true
-self n = grind (arith, nat_tests)
-
 among_get : (ps : List ℕ) (i d : ℕ) → i < length ps → among (get_or ps i d) ps ≡ true
 among_get [] i d h = absurd (omega arith)
-among_get (p ∷ ps) zero d h = rw (self p) refl
+among_get (p ∷ ps) zero d h = rw (eq-eqb p p refl) refl
 among_get (p ∷ ps) (suc i) d h = elim (cases_Bool (eqb p (get_or ps i d))) [
   | inl it ↦ rw it refl
   | inr no_it ↦ rw no_it (among_get ps i d (omega arith))
@@ -71,11 +67,6 @@ set_there (x ∷ xs) zero (suc k) v h = refl
 set_there (x ∷ xs) (suc j) zero v h = refl
 set_there (x ∷ xs) (suc j) (suc k) v h = set_there xs j k v (λ e. h (ap suc e))
 
-pub set_length : (xs : List (List ℕ)) (k : ℕ) (v : List ℕ) → length (set xs k v) ≡ length xs
-set_length [] k v = refl
-set_length (x ∷ xs) zero v = refl
-set_length (x ∷ xs) (suc k) v = ap suc (set_length xs k v)
-
 -- a parent that is in the list
 pub linked_more : (child : ℕ) (ps : List ℕ) (i p q : ℕ) (events : List PlainEvent) (old mid : List (List ℕ)) →
     IsTrue (are_distinct ps) → i < length ps → p ≡ get_or ps i p → place_of (any.Commit p) events ≡ Some q → q < length mid →
@@ -89,7 +80,7 @@ linked_more child ps i p q events old mid once h is at within linked c k place =
       rw (now, ← k_is, set_here mid q (child ∷ get_or mid q []) within)
       (ap (λ t. child ∷ t) (linked c q (ap (λ n. place_of (any.Commit n) events) (sym e) ∙ at) ∙ rw before refl))
   | inr no_it ↦
-      let apart : q ≡ k → ⊥ = λ e. true≢false (sym (self p) ∙ ap (λ n. eqb p n) (same_number p c (one_place (any.Commit p) (any.Commit c) events k (at ∙ ap Some e) place)) ∙ no_it) in
+      let apart : q ≡ k → ⊥ = λ e. true≢false (sym (eq-eqb p p refl) ∙ ap (λ n. eqb p n) (same_commit p c (one_place (any.Commit p) (any.Commit c) events k (at ∙ ap Some e) place)) ∙ no_it) in
       let same : among c (take (suc i) ps) ≡ among c (take i ps) = among_more c ps i p h ∙ rw (← is, no_it) (or-false (among c (take i ps))) in
       rw same (set_there mid q k (child ∷ get_or mid q []) apart ∙ linked c k place)
 ]

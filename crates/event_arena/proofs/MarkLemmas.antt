@@ -1,6 +1,6 @@
 -- Marks and the events that have them, and what halving finds among marks that are in order.
 use Rattle.std.proofs.Common.{◌≡◌, ◌∙◌, Less, Greater, ℕ, zero, suc, ◌<◌, ◌≤◌, Bool, true, false, cond, inl, inr, List, [], ◌∷◌, ◌++◌, Option, Some, None, Result, Ok, Err, refl, sym, ap, eqb, length, get_or, is_some, arith}
-use Rattle.std.proofs.lemmas.Bool.{cases_Bool, eqb-true, true≢false}
+use Rattle.std.proofs.lemmas.Bool.{cases_Bool, eq-eqb, eqb-true, true≢false}
 use Rattle.std.proofs.lemmas.Bool.Decides.{nat_tests}
 use Rattle.std.proofs.lemmas.Cmp.{ranked}
 use Rattle.std.proofs.lemmas.List.Sorted.{All-permutation, IsPermutation-sym}
@@ -19,13 +19,10 @@ use Rattle.event_arena.specs.Indices.{IsMarkIndex, if_there}
 use Rattle.history_laws.proofs.Ids.{place_at, placeless, same_id_refl, same_id_true}
 use Rattle.history_laws.specs.Once.{AreDistinct, AreMarkedOnce, named}
 
-self : (n : ℕ) → eqb n n ≡ true
-self n = grind (arith, nat_tests)
-
 -- each mark that occurs once is looked up
 each_found : (ms : List (ℕ × AnyId)) → AreMarkedOnce ms → All (λ m. lookup (λ n. eqb m.0 n) ms ≡ Some m.1) ms
 each_found [] once k d h = absurd (omega arith)
-each_found (m ∷ ms) once zero d h = rw (self m.0) refl
+each_found (m ∷ ms) once zero d h = rw (eq-eqb m.0 m.0 refl) refl
 each_found (m ∷ ms) once (suc k) d h =
     let later = each_found ms once.1 k d (omega arith) in
     let it = get_or ms k d in

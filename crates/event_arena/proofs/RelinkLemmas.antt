@@ -1,10 +1,10 @@
 -- Commits whose children are linked anew.
-use Rattle.std.proofs.Common.{◌≡◌, ◌∙◌, ℕ, zero, suc, ◌<◌, ◌≤◌, Bool, true, false, ◌||◌, inl, inr, List, [], ◌∷◌, ◌++◌, Some, None, refl, sym, ap, append_assoc, subst, length, get_or, drop, eqb, arith}
-use Rattle.std.proofs.lemmas.Bool.{cases_Bool, cases_lt, eqb-true, true≢false}
-use Rattle.std.proofs.lemmas.Bool.Decides.{nat_tests}
+use Rattle.std.proofs.Common.{◌≡◌, ◌∙◌, ℕ, zero, suc, ◌<◌, ◌≤◌, true, false, ◌||◌, inl, inr, List, [], ◌∷◌, ◌++◌, Some, None, refl, sym, ap, append_assoc, subst, length, get_or, drop, eqb, arith}
+use Rattle.std.proofs.lemmas.Bool.{cases_Bool, cases_lt, eq-eqb, eqb-true, or_cases, or_left, or_parts, or_right, true≢false}
 use Rattle.std.proofs.lemmas.List.{append-nil, map-append}
+use Rattle.std.proofs.lemmas.List.Folds.{list_any-append}
 use Rattle.std.proofs.lemmas.Option.{none-some, same_Some}
-use Rattle.std.proofs.Math.Bool.{or_assoc, or-false, or-true}
+use Rattle.std.proofs.Math.Bool.{or-false, or-true}
 use Rattle.std.proofs.Math.ListN.{set}
 use Rattle.std.specs.List.{AllByRecursion, list_any}
 use Rattle.std.specs.List.Sorted.{IsNonDecreasingBy}
@@ -17,29 +17,16 @@ use Rattle.plain_model.specs.Lookups.{children_of, event_parents, find_event, id
 use Rattle.history_laws.proofs.Ids.{each_found, one_place, same_id_refl, same_id_true}
 use Rattle.history_laws.specs.Once.{AreDistinct}
 use Rattle.event_arena.specs.Changes.{without_all}
+use Rattle.event_arena.specs.Families.{Families, IsRoomKept}
 use Rattle.event_arena.specs.Indices.{HasChildren}
 use Rattle.event_arena.specs.Relinked.{AreAllKnown, AreKnown, AreRelinked, HasChildPlaces, HasPlaces, IsPart, IsPut, IsPutBefore, is_child, parents_at, parents_of}
 use Rattle.event_arena.specs.Touched.{DifferAtMost, indexed_of}
 use Rattle.event_arena.proofs.ChangeLemmas.{is_listed_append}
-use Rattle.event_arena.proofs.LinkLemmas.{set_here, set_there}
+use Rattle.event_arena.proofs.LinkLemmas.{same_commit, set_here, set_there}
 use Rattle.event_arena.proofs.ListLemmas.{drop_item}
 use Rattle.event_arena.proofs.OnceLemmas.{found_at}
 
 -- ---- places
-
-same_commit : (a b : ℕ) → any.Commit a ≡ any.Commit b → a ≡ b
-same_commit a b h = cc
-
-itself : (n : ℕ) → eqb n n ≡ true
-itself n = grind (arith, nat_tests)
-
-any_append : {X : Type 0} (f : X → Bool) (xs ys : List X) → list_any f (xs ++ ys) ≡ list_any f xs || list_any f ys
-any_append f [] ys = refl
-any_append f (x ∷ xs) ys = ap (λ b. f x || b) (any_append f xs ys) ∙ sym (or_assoc (f x) (list_any f xs) (list_any f ys))
-
-or_cases : (a b : Bool) → a || b ≡ true → (a ≡ false → b ≡ true)
-or_cases true b h f = absurd (true≢false f)
-or_cases false b h f = h
 
 -- an event's place is where it is
 pub own_place : (es : List PlainEvent) (k : ℕ) (e : PlainEvent) → AreDistinct es → slice_get es k ≡ Some e → place_of (id_of e) es ≡ Some k
@@ -55,18 +42,20 @@ no_places es places id k h at = absurd (true≢false (sym h))
 
 pub places_more : (ids : List AnyId) (id : AnyId) (es : List PlainEvent) (old new : List ℕ) →
     HasPlaces ids es old → IsPart old new → HasPlaces (id ∷ []) es new → HasPlaces (ids ++ id ∷ []) es new
-places_more ids id es old new has part more x k h at = elim (cases_Bool (is_listed x ids)) [
-  | inl it ↦ part k (has x k it at)
-  | inr no_it ↦ more x k (or_cases (is_listed x ids) (is_listed x (id ∷ [])) (sym (is_listed_append ids (id ∷ []) x) ∙ h) no_it) at
+places_more ids id es old new has part more x k h at = elim (or_cases (is_listed x ids) (is_listed x (id ∷ [])) (sym (is_listed_append ids (id ∷ []) x) ∙ h)) [
+  | inl earlier ↦ part k (has x k earlier at)
+  | inr last ↦ more x k last at
 ]
 
 pub child_places : (c : ℕ) (touched : List AnyId) (children : List ℕ) (es : List PlainEvent) (some all : List ℕ) → AreDistinct es →
     HasPlaces (map any.Commit children) es some → IsPart some all → HasPlaces touched es all →
     AreKnown c touched children es → HasChildPlaces c es all
-child_places c touched children es some all once has part more known k e at child = elim (cases_Bool (is_listed (id_of e) touched)) [
-  | inl it ↦ more (id_of e) k it (own_place es k e once at)
-  | inr no_it ↦ part k (has (id_of e) k (or_cases (is_listed (id_of e) touched) (is_listed (id_of e) (map any.Commit children)) (known k e at child) no_it) (own_place es k e once at))
-]
+child_places c touched children es some all once has part more known k e at child =
+    let place = own_place es k e once at in
+    elim (or_cases (is_listed (id_of e) touched) (is_listed (id_of e) (map any.Commit children)) (known k e at child)) [
+      | inl it ↦ more (id_of e) k it place
+      | inr was ↦ part k (has (id_of e) k was place)
+    ]
 
 -- ---- children from a place on
 
@@ -126,7 +115,7 @@ start_put c place es old new count all within is k = elim (cases_Bool (eqb k pla
   | inl it ↦
       let same = eqb-true k place it in
       rw (is, it, all, none_left es, same) (set_here old place [] within)
-  | inr no_it ↦ rw (is, no_it) (set_there old place k [] (λ same. true≢false (sym (itself place) ∙ ap (λ n. eqb n place) same ∙ no_it)))
+  | inr no_it ↦ rw (is, no_it) (set_there old place k [] (λ same. true≢false (sym (eq-eqb place place refl) ∙ ap (λ n. eqb n place) same ∙ no_it)))
 ]
   where
     none_left : (es : List PlainEvent) → drop (length es) es ≡ []
@@ -145,15 +134,20 @@ put_more c at next place es e old mid new low here none put before k =
       | inr no_it ↦ before k ∙ rw no_it (put k ∙ rw no_it refl)
     ]
 
--- ---- commits, one after another
+-- room that is kept twice
+pub room_still : {old mid new : Families} → IsRoomKept old mid → IsRoomKept mid new → IsRoomKept old new
+room_still first more = record {
+  places = more.places ∙ first.places;
+  place_room = more.place_room ∙ first.place_room;
+  link_room = more.link_room ∙ first.link_room;
+}
 
-pub none_relinked : (es : List PlainEvent) (lists : List (List ℕ)) → AreRelinked [] es lists lists
-none_relinked es lists c k place = refl
+-- ---- commits, one after another
 
 pub relinked_then : (xs ys : List ℕ) (es : List PlainEvent) (old mid new : List (List ℕ)) →
     AreRelinked xs es old mid → AreRelinked ys es mid new → AreRelinked (xs ++ ys) es old new
 relinked_then xs ys es old mid new first more c k place =
-    let any = any_append (λ p. eqb p c) xs ys in
+    let any = list_any-append (λ p. eqb p c) xs ys in
     elim (cases_Bool (list_any (λ p. eqb p c) ys)) [
       | inl it ↦ more c k place ∙ rw (any, it, or-true (list_any (λ p. eqb p c) xs)) refl
       | inr no_it ↦ more c k place ∙ rw (any, no_it, or-false (list_any (λ p. eqb p c) xs)) (first c k place)
@@ -165,12 +159,12 @@ put_relinked c place es old new at put x k there = elim (cases_Bool (eqb c x)) [
   | inl it ↦
       let e = eqb-true c x it in
       let same : k ≡ place = same_Some k place (sym there ∙ ap (λ n. place_of (any.Commit n) es) (sym e) ∙ at) in
-      put k ∙ rw (it, same, itself place) (ap (λ n. children_of n es) e)
+      put k ∙ rw (it, same, eq-eqb place place refl) (ap (λ n. children_of n es) e)
   | inr no_it ↦
       elim (cases_Bool (eqb k place)) [
         | inl same ↦
             let p = eqb-true k place same in
-            absurd (true≢false (sym (itself c) ∙ ap (eqb c) (same_commit c x (one_place (any.Commit c) (any.Commit x) es k (at ∙ ap Some (sym p)) there)) ∙ no_it))
+            absurd (true≢false (sym (eq-eqb c c refl) ∙ ap (eqb c) (same_commit c x (one_place (any.Commit c) (any.Commit x) es k (at ∙ ap Some (sym p)) there)) ∙ no_it))
         | inr other ↦ put k ∙ rw (other, no_it) refl
       ]
 ]
@@ -192,7 +186,7 @@ known_here c ids (x ∷ es) zero e at child free =
     rw (same, free) (own e child)
   where
     own : (e : PlainEvent) → is_child c e ≡ true → is_listed (id_of e) (map any.Commit (own_child c e ++ children_of c (without_all ids es))) ≡ true
-    own (plain.Commit id mark branch author committer encoding comment parents ops aliases) h = rw (h, itself id) refl
+    own (plain.Commit id mark branch author committer encoding comment parents ops aliases) h = rw (h, eq-eqb id id refl) refl
     own (plain.Blob id mark bytes) h = absurd (true≢false (sym h))
     own (plain.Tag id name target tagger comment mark) h = absurd (true≢false (sym h))
     own (plain.Reset id branch target) h = absurd (true≢false (sym h))
@@ -214,15 +208,12 @@ pub fewer_children : (c : ℕ) (ids : List AnyId) (es : List PlainEvent) (id : A
     is_listed id (map any.Commit (children_of c (without_all ids es))) ≡ true → is_listed id (map any.Commit (children_of c es)) ≡ true
 fewer_children c ids [] id h = h
 fewer_children c ids (x ∷ es) id h = elim (cases_Bool (is_listed (id_of x) ids)) [
-  | inl it ↦ split (own_child c x) (children_of c es) (right (own_child c x) (children_of c es) (fewer_children c ids es id (rw it at h)))
+  | inl it ↦ split (own_child c x) (children_of c es) (or_right _ _ (fewer_children c ids es id (rw it at h)))
   | inr no_it ↦
       split (own_child c x) (children_of c es) (
-      elim (cases_Bool (is_listed id (map any.Commit (own_child c x)))) [
-        | inl own ↦ rw own refl
-        | inr other ↦
-            right (own_child c x) (children_of c es)
-            (fewer_children c ids es id
-            (or_cases (is_listed id (map any.Commit (own_child c x))) _ (sym (joined (own_child c x) (children_of c (without_all ids es))) ∙ rw no_it at h) other))
+      elim (or_cases (is_listed id (map any.Commit (own_child c x))) _ (sym (joined (own_child c x) (children_of c (without_all ids es))) ∙ rw no_it at h)) [
+        | inl own ↦ or_left _ _ own
+        | inr other ↦ or_right _ _ (fewer_children c ids es id other)
       ])
 ]
   where
@@ -231,9 +222,6 @@ fewer_children c ids (x ∷ es) id h = elim (cases_Bool (is_listed (id_of x) ids
 
     split : (a b : List ℕ) → is_listed id (map any.Commit a) || is_listed id (map any.Commit b) ≡ true → is_listed id (map any.Commit (a ++ b)) ≡ true
     split a b s = joined a b ∙ s
-
-    right : (a b : List ℕ) → is_listed id (map any.Commit b) ≡ true → is_listed id (map any.Commit a) || is_listed id (map any.Commit b) ≡ true
-    right a b s = ap (λ t. is_listed id (map any.Commit a) || t) s ∙ or-true (is_listed id (map any.Commit a))
 
 -- children by what indices are made from
 abbrev child_by : ℕ → AnyId × List ℕ × List ℕ → List ℕ
@@ -300,18 +288,14 @@ without_others c ids (e ∷ es) h = elim (cases_Bool (is_listed (id_of e) ids)) 
   | inr no_it ↦ rw no_it (ap (λ t. own_child c e ++ t) (without_others c ids es h.1))
 ]
 
-or_no : (a b : Bool) → a || b ≡ false → (a ≡ false) × (b ≡ false)
-or_no true b h = absurd (true≢false h)
-or_no false b h = (refl, h)
-
 module _ (before after : List PlainEvent) (c : ℕ) where
   -- a parent of none has none of these events as its child
   no_parent : (ids : List AnyId) (id : AnyId) → list_any (λ p. eqb p c) (parents_of before after ids) ≡ false → is_listed id ids ≡ true →
       (list_any (λ p. eqb p c) (parents_at id before) ≡ false) × (list_any (λ p. eqb p c) (parents_at id after) ≡ false)
   no_parent [] id none h = absurd (true≢false (sym h))
   no_parent (x ∷ ids) id none h =
-      let parts = or_no _ _ (sym (any_append (λ p. eqb p c) (parents_at x before ++ parents_at x after) (parents_of before after ids)) ∙ none) in
-      let own = or_no _ _ (sym (any_append (λ p. eqb p c) (parents_at x before) (parents_at x after)) ∙ parts.0) in
+      let parts = or_parts _ _ (sym (list_any-append (λ p. eqb p c) (parents_at x before ++ parents_at x after) (parents_of before after ids)) ∙ none) in
+      let own = or_parts _ _ (sym (list_any-append (λ p. eqb p c) (parents_at x before) (parents_at x after)) ∙ parts.0) in
       elim (cases_Bool (same_id id x)) [
         | inl it ↦ subst (λ y. (list_any (λ p. eqb p c) (parents_at y before) ≡ false) × (list_any (λ p. eqb p c) (parents_at y after) ≡ false)) (sym (same_id_true id x it)) own
         | inr no_it ↦ no_parent ids id parts.1 (rw no_it at h)
@@ -319,7 +303,7 @@ module _ (before after : List PlainEvent) (c : ℕ) where
 
   found_parents : (e : PlainEvent) (es : List PlainEvent) → find_event (id_of e) es ≡ Some e → list_any (λ p. eqb p c) (parents_at (id_of e) es) ≡ false → is_child c e ≡ false
   found_parents e es found none =
-      sym (or-false (is_child c e)) ∙ sym (any_append (λ p. eqb p c) (event_parents e) []) ∙ sym (ap (λ o. list_any (λ p. eqb p c) (flat_map event_parents (option_to_list o))) found) ∙ none
+      sym (or-false (is_child c e)) ∙ sym (list_any-append (λ p. eqb p c) (event_parents e) []) ∙ sym (ap (λ o. list_any (λ p. eqb p c) (flat_map event_parents (option_to_list o))) found) ∙ none
 
   apart_all : (ids : List AnyId) (whole es : List PlainEvent) →
       ((id : AnyId) → is_listed id ids ≡ true → list_any (λ p. eqb p c) (parents_at id whole) ≡ false) →

@@ -1,12 +1,11 @@
 -- Children that follow their commits to other places.
-use Rattle.std.proofs.Common.{◌≡◌, ◌∙◌, ℕ, ◌<◌, ◌≤◌, List, [], Option, Some, None, refl, sym, ap, arith, length, get_or}
-use Rattle.std.proofs.lemmas.Bool.{true≢false}
-use Rattle.std.specs.Prelude.{is_some, slice_get, IsSome}
+use Rattle.std.proofs.Common.{◌≡◌, ◌∙◌, ℕ, ◌<◌, ◌≤◌, List, [], Some, ap, arith, length, get_or}
+use Rattle.std.specs.Prelude.{slice_get}
 use Rattle.plain_model.specs.declared.id.AnyId.{AnyId}
 use Rattle.plain_model.specs.declared.id.AnyId.TheVariants.{Commit}
 use Rattle.plain_model.specs.declared.event.PlainEvent.{PlainEvent}
-use Rattle.plain_model.specs.Lookups.{find_event, id_of, place_of}
-use Rattle.history_laws.proofs.Ids.{found_place, place_at, place_within}
+use Rattle.plain_model.specs.Lookups.{id_of, place_of}
+use Rattle.history_laws.proofs.Ids.{place_at, place_within}
 use Rattle.event_arena.specs.Indices.{HasChildren}
 
 -- at a place is the list that was at the place which the id had before
@@ -31,11 +30,3 @@ module _ (count : ℕ) (before after : List PlainEvent) (old new : List (List �
 
   pub come_children : HasChildren old before before → HasChildren new after before
   come_children children c k at = let from = come_from (Commit c) k at in from.2 ∙ children c from.0 from.1
-
-  -- each event was there before
-  pub come_there : (id : AnyId) → IsSome (find_event id after) → IsSome (find_event id before)
-  come_there id there = by (place_of id after) refl (found_place id after there)
-    where
-      by : (o : Option ℕ) → place_of id after ≡ o → IsSome o → IsSome (find_event id before)
-      by None at some = absurd (true≢false (sym some))
-      by (Some k) at some = let from = come_from id k at in ap is_some (place_at id before from.0 from.1).2

@@ -21,12 +21,15 @@ HasMore more old None = Unit {0}
 HasMore more None (Some new) = ⊥
 HasMore more (Some old) (Some new) = new ≡ old ++ more
 
--- each of these that is there after was there before, with the same marks
-abbrev pub KeepMarks : List AnyId → List PlainEvent → List PlainEvent → Type 0
-KeepMarks ids before after = (id : AnyId) (new : PlainEvent) → is_listed id ids ≡ true → find_event id after ≡ Some new →
+-- the event with the id, if it is there after, was there before, with the same marks
+abbrev pub IsMarkedAsBefore : AnyId → List PlainEvent → List PlainEvent → Type 0
+IsMarkedAsBefore id before after = (new : PlainEvent) → find_event id after ≡ Some new →
     (old : PlainEvent) × (find_event id before ≡ Some old) × (event_marks new ≡ event_marks old)
 
--- so was each event
+-- so is each of these events
+abbrev pub KeepMarks : List AnyId → List PlainEvent → List PlainEvent → Type 0
+KeepMarks ids before after = (id : AnyId) → is_listed id ids ≡ true → IsMarkedAsBefore id before after
+
+-- so is each event
 abbrev pub AreMarksKept : List PlainEvent → List PlainEvent → Type 0
-AreMarksKept before after = (id : AnyId) (new : PlainEvent) → find_event id after ≡ Some new →
-    (old : PlainEvent) × (find_event id before ≡ Some old) × (event_marks new ≡ event_marks old)
+AreMarksKept before after = (id : AnyId) → IsMarkedAsBefore id before after

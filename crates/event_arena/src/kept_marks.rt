@@ -1,30 +1,30 @@
 //! Whether the marks of events stayed as they were.
-ghost use Rattle.std.specs.Prelude.{◌≡◌, true};
+ghost use Rattle.std.specs.Prelude.{◌≡◌, ◌++◌, option_to_list, true};
 ghost use Rattle.event_arena.specs.Touched.{KeepMarks};
 ghost use Rattle.plain_model.specs.Lookups.{event_marks};
 
 use crate::table::EventTable;
-use plain_model::{AnyId, PlainEvent};
+use plain_model::{AnyId, Mark, PlainEvent};
 
-// Whether an event has the marks that it had.
+// The mark of an event, if it has one, and its aliases.
+fn marks(event: &PlainEvent) -> (Option<Mark>, &[Mark])
+    ensures { event_marks event.now ≡ option_to_list result.0 ++ result.1.now }
+{
+    match event {
+        PlainEvent::Blob { mark, .. } => (Some(*mark), &[]),
+        PlainEvent::Commit { mark, aliases, .. } => (Some(*mark), aliases.as_slice()),
+        PlainEvent::Tag { mark, .. } => (*mark, &[]),
+        _ => (None, &[]),
+    }
+}
+
+// Whether two events have the same marks.
 fn has_same_marks(old: &PlainEvent, new: &PlainEvent) -> bool
     ensures { result ≡ true → event_marks new.now ≡ event_marks old.now }
 {
-    match (old, new) {
-        (PlainEvent::Blob { mark, .. }, PlainEvent::Blob { mark: other, .. }) => *mark == *other,
-        (
-            PlainEvent::Commit { mark, aliases, .. },
-            PlainEvent::Commit {
-                mark: other,
-                aliases: others,
-                ..
-            },
-        ) => *mark == *other && aliases.as_slice() == others.as_slice(),
-        (PlainEvent::Tag { mark, .. }, PlainEvent::Tag { mark: other, .. }) => *mark == *other,
-        (PlainEvent::Reset { .. }, PlainEvent::Reset { .. }) => true,
-        (PlainEvent::Pass { .. }, PlainEvent::Pass { .. }) => true,
-        _ => false,
-    }
+    let (mark, aliases) = marks(old);
+    let (other, others) = marks(new);
+    mark == other && aliases == others
 }
 
 /// Whether each of these events that is there after was there before, with the same marks.

@@ -1,5 +1,6 @@
 //! How the links of a history follow a plan that touched few events.
 ghost use Rattle.std.specs.Prelude.{◌≡◌, ◌≤◌, Some, length, true};
+ghost use Rattle.event_arena.specs.Families.{IsRoomKept};
 ghost use Rattle.event_arena.specs.Indices.{HasChildren};
 ghost use Rattle.event_arena.specs.Touched.{AreMarksKept, DifferAtMost};
 
@@ -23,9 +24,7 @@ fn relink_touched(
     requires places { length after.now ≤ length links.old.lists }
     requires touched { DifferAtMost (Some touched.now) before.now after.now }
     requires children { HasChildren links.old.lists after.now before.now }
-    ensures places { length links.new.lists ≡ length links.old.lists }
-    ensures place_room { links.new.place_room ≡ links.old.place_room }
-    ensures link_room { links.new.link_room ≡ links.old.link_room }
+    ensures room { IsRoomKept links.old links.new }
     ensures children { result ≡ true → HasChildren links.new.lists after.now after.now }
 {
     let _before = before.count();
@@ -45,7 +44,7 @@ fn are_few(ids: &[AnyId], count: usize) -> bool {
     ids.len() <= count / 256 + 4
 }
 
-/// Mends the links of a history where a plan touched few events, moved none back, put none in and kept all marks. Answers
+/// Mends the links of a history where a plan touched few events, put none in, and kept their order and all marks. Answers
 /// whether it did; if not, both indices are to be filled anew. `places` is room to work in.
 pub fn mend(
     before: &EventTable,
@@ -57,9 +56,7 @@ pub fn mend(
     requires places { length before.now ≤ length links.old.lists }
     requires touched { DifferAtMost touched.now before.now after.now }
     requires children { HasChildren links.old.lists before.now before.now }
-    ensures places { length links.new.lists ≡ length links.old.lists }
-    ensures place_room { links.new.place_room ≡ links.old.place_room }
-    ensures link_room { links.new.link_room ≡ links.old.link_room }
+    ensures room { IsRoomKept links.old links.new }
     ensures count { result ≡ true → length after.now ≤ length before.now }
     ensures marks { result ≡ true → AreMarksKept before.now after.now }
     ensures children { result ≡ true → HasChildren links.new.lists after.now after.now }

@@ -11,6 +11,7 @@ ghost use Rattle.std.specs.Prelude.{
   true,
 };
 ghost use Rattle.std.specs.List.Sorted.{IsNonDecreasingBy};
+ghost use Rattle.event_arena.specs.Families.{IsRoomKept};
 ghost use Rattle.event_arena.specs.Relinked.{
   AreAllKnown,
   AreKnown,
@@ -91,9 +92,7 @@ fn collect(
 // Puts an event before the children at a place, if it is a child of the commit. Answers whether there was room.
 fn link_child(event: &PlainEvent, parent: CommitId, place: usize, links: &mut Links) -> bool
     requires { place < length links.old.lists }
-    ensures places { length links.new.lists ≡ length links.old.lists }
-    ensures place_room { links.new.place_room ≡ links.old.place_room }
-    ensures link_room { links.new.link_room ≡ links.old.link_room }
+    ensures room { IsRoomKept links.old links.new }
     ensures linked { result ≡ true → IsPutBefore place (own_child parent event.now) links.old.lists links.new.lists }
 {
     if let PlainEvent::Commit { id, parents, .. } = event {
@@ -118,9 +117,7 @@ fn link_all(
     requires within { place < length links.old.lists }
     requires all { HasChildPlaces parent table.now places.now.items }
     requires rising { IsNonDecreasingBy (λ place. place) places.now.items }
-    ensures places { length links.new.lists ≡ length links.old.lists }
-    ensures place_room { links.new.place_room ≡ links.old.place_room }
-    ensures link_room { links.new.link_room ≡ links.old.link_room }
+    ensures room { IsRoomKept links.old links.new }
     ensures linked { result ≡ true → IsPut place (children_of parent table.now) links.old.lists links.new.lists }
 {
     links.forget(place);
@@ -149,9 +146,7 @@ fn relink(
 ) -> bool
     requires places { length table.now ≤ length links.old.lists }
     requires known { AreAllKnown touched.now table.now links.old.lists }
-    ensures places { length links.new.lists ≡ length links.old.lists }
-    ensures place_room { links.new.place_room ≡ links.old.place_room }
-    ensures link_room { links.new.link_room ≡ links.old.link_room }
+    ensures room { IsRoomKept links.old links.new }
     ensures linked { result ≡ true → AreRelinked (parent ∷ []) table.now links.old.lists links.new.lists }
 {
     let Some(place) = table.place(AnyId::Commit(parent)) else {
@@ -173,9 +168,7 @@ fn relink_parents(
 ) -> bool
     requires places { length table.now ≤ length links.old.lists }
     requires known { AreAllKnown touched.now table.now links.old.lists }
-    ensures places { length links.new.lists ≡ length links.old.lists }
-    ensures place_room { links.new.place_room ≡ links.old.place_room }
-    ensures link_room { links.new.link_room ≡ links.old.link_room }
+    ensures room { IsRoomKept links.old links.new }
     ensures linked { result ≡ true → AreRelinked (event_parents event.now) table.now links.old.lists links.new.lists }
 {
     if let PlainEvent::Commit { parents, .. } = event {
@@ -194,9 +187,7 @@ fn relink_each(
 ) -> bool
     requires places { length table.now ≤ length links.old.lists }
     requires known { AreAllKnown touched.now table.now links.old.lists }
-    ensures places { length links.new.lists ≡ length links.old.lists }
-    ensures place_room { links.new.place_room ≡ links.old.place_room }
-    ensures link_room { links.new.link_room ≡ links.old.link_room }
+    ensures room { IsRoomKept links.old links.new }
     ensures linked { result ≡ true → AreRelinked commits.now table.now links.old.lists links.new.lists }
 {
     for commit in commits {
@@ -219,9 +210,7 @@ pub fn relink_parents_of(
 ) -> bool
     requires places { length table.now ≤ length links.old.lists }
     requires known { AreAllKnown touched.now table.now links.old.lists }
-    ensures places { length links.new.lists ≡ length links.old.lists }
-    ensures place_room { links.new.place_room ≡ links.old.place_room }
-    ensures link_room { links.new.link_room ≡ links.old.link_room }
+    ensures room { IsRoomKept links.old links.new }
     ensures linked { result ≡ true → AreRelinked (parents_at id list.now) table.now links.old.lists links.new.lists }
 {
     match list.event(id) {

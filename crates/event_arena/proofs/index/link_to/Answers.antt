@@ -1,6 +1,6 @@
-use Rattle.std.proofs.Common.{◌∙◌, ◌<◌, suc, length, take, sym, ap, subst, arith, add-one}
+use Rattle.std.proofs.Common.{◌∙◌, ◌<◌, suc, length, length-set, take, sym, ap, subst, arith, add-one}
 use Rattle.event_arena.specs.Indices.{IsLinked}
-use Rattle.event_arena.proofs.LinkLemmas.{linked_more, linked_skip, set_length}
+use Rattle.event_arena.proofs.LinkLemmas.{linked_more, linked_skip}
 use Rattle.event_arena.proofs.ListLemmas.{take_all}
 use Rattle.event_arena.proofs.index.link_to.Goals as goal
 use Rattle.event_arena.proofs.index.link_to.Goals.{in-Some, in_default}
@@ -16,7 +16,7 @@ loop-parent-preserved c = elim c.match-place.branch [
       (linked_more c.args.child c.args.parents.now c.loop-parent.parent-index c.parent-item.result w.in-Some.place c.args.table.now c.args.links.now.lists c.loop-parent.links.lists
       c.requires.once t c.parent-item.is (sym w.in-Some.ensures.place) within v.linked) in
       rw (w.links-is, add-one) (record {
-        places = ap length e.lists ∙ set_length c.loop-parent.links.lists w.in-Some.place _ ∙ v.places;
+        places = ap length e.lists ∙ length-set c.loop-parent.links.lists w.in-Some.place _ ∙ v.places;
         used = omega arith;
         place_room = e.place_room ∙ v.place_room;
         link_room = e.link_room ∙ v.link_room;

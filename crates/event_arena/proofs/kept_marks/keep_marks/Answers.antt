@@ -5,7 +5,7 @@ use Rattle.event_arena.proofs.kept_marks.keep_marks.Goals as goal
 use Rattle.event_arena.proofs.kept_marks.keep_marks.Goals.{in-Some+in-Some-event+else-not-has_same_marks, in_default}
 
 pub loop-id-init : goal.loop-id-init
-loop-id-init c id new h = absurd (true≢false (sym h))
+loop-id-init c id h = absurd (true≢false (sym h))
 
 pub loop-id-preserved : goal.loop-id-preserved
 loop-id-preserved c =

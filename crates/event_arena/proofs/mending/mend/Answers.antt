@@ -5,5 +5,5 @@ use Rattle.event_arena.proofs.mending.mend.Goals as goal
 
 pub returns-clause-marks : goal.returns-clause-marks
 returns-clause-marks c = λ it.
-    marks_kept c.in-Some.ids.now c.args.before.now c.args.after.now c.count-old.ensures.once c.count-new.ensures.once
+    marks_kept c.in-Some.ids.now c.args.before.now c.args.after.now
     (subst (λ t. DifferAtMost t c.args.before.now c.args.after.now) (sym c.in-Some.ensures) c.requires.touched) (c.keep_marks.ensures c.if-not-keep_marks.false)

@@ -1,7 +1,7 @@
 use Rattle.std.proofs.Common.{◌∙◌, ◌++◌, ap, sym, subst, take, add-one}
 use Rattle.event_arena.specs.Relinked.{AreRelinked, parents_at, parents_of}
 use Rattle.event_arena.proofs.ListLemmas.{take_all, take_more}
-use Rattle.event_arena.proofs.RelinkLemmas.{all_known, all_linked, first_known, parents_more, relinked_then}
+use Rattle.event_arena.proofs.RelinkLemmas.{all_known, all_linked, first_known, parents_more, relinked_then, room_still}
 use Rattle.event_arena.proofs.mending.relink_touched.Goals as goal
 
 pub relink_parents_of-requires-clause-known : goal.relink_parents_of-requires-clause-known
@@ -28,9 +28,7 @@ loop-id-preserved c =
     let mid = c.relink_parents_of.new.links.lists in
     let new = c.relink_parents_of-else-not-relink_parents_of.new.links.lists in
     rw add-one (record {
-      places = last.places ∙ first.places ∙ v.places;
-      place_room = last.place_room ∙ first.place_room ∙ v.place_room;
-      link_room = last.link_room ∙ first.link_room ∙ v.link_room;
+      room = room_still (room_still v.room first.room) last.room;
       linked = subst (λ cs. AreRelinked cs after old new)
           (sym (ap (parents_of before after) (take_more c.args.touched.now c.loop-id.id-index id c.loop-id-test.true c.id-item.is) ∙ parents_more before after seen id))
           (relinked_then (parents_of before after seen ++ parents_at id before) (parents_at id after) after old mid new

@@ -1,9 +1,8 @@
 use Rattle.std.proofs.Common.{◌≡◌, ◌∙◌, [], ◌≤◌, ◌<◌, ◌+◌, ◌-◌, ℕ, length, get_or, rules, sym, ap, inl, inr, subst, arith}
 use Rattle.std.proofs.lemmas.Bool.{cases_lt}
-use Rattle.std.proofs.lemmas.List.{get_or_read}
+use Rattle.std.proofs.lemmas.List.{get_or_read, length-set}
 use Rattle.event_arena.specs.Relinked.{IsPut}
-use Rattle.event_arena.proofs.LinkLemmas.{set_length}
-use Rattle.event_arena.proofs.RelinkLemmas.{apart_between, none_before, none_between, put_more, start_put}
+use Rattle.event_arena.proofs.RelinkLemmas.{apart_between, none_before, none_between, put_more, room_still, start_put}
 use Rattle.event_arena.proofs.relinking.link_all.Goals as goal
 use Rattle.event_arena.proofs.relinking.link_all.Goals.{then-at-next+else-not-link_child, else-at-next}
 
@@ -12,9 +11,11 @@ loop-done-init c =
     let places = c.args.places.now.items in
     let all : c.len-count.result ≡ length places = search rules in
     record {
-      places = ap length c.forget.ensures.lists ∙ set_length c.args.links.now.lists c.args.place [];
-      place_room = c.forget.ensures.place_room;
-      link_room = c.forget.ensures.link_room;
+      room = record {
+        places = ap length c.forget.ensures.lists ∙ length-set c.args.links.now.lists c.args.place [];
+        place_room = c.forget.ensures.place_room;
+        link_room = c.forget.ensures.link_room;
+      };
       within = omega arith;
       later = λ m d low high. absurd (omega arith);
       linked = start_put c.args.parent c.args.place c.args.table.now c.args.links.now.lists c.forget.new.self.lists _ c.count-next.ensures.count c.requires.within c.forget.ensures.lists;
@@ -40,9 +41,7 @@ loop-done-preserved c =
             | inr near ↦ let same : m ≡ k = omega arith in subst (λ n. at ≤ get_or places n d) same (let own = is d in omega arith)
           ] in
           rw (w.links-is, w.next-is) (record {
-            places = e.places ∙ v.places;
-            place_room = e.place_room ∙ v.place_room;
-            link_room = e.link_room ∙ v.link_room;
+            room = room_still v.room e.room;
             within = let far = v.within in omega arith;
             later = later;
             linked = put_more c.args.parent at c.loop-done.next c.args.place c.args.table.now w.nth.result.now c.args.links.now.lists c.loop-done.links.lists _ low w.nth.ensures.event
@@ -51,9 +50,7 @@ loop-done-preserved c =
       | else-at-next w ↦
           let high = w.if-at-next.false in
           rw (w.links-is, w.next-is) (record {
-            places = v.places;
-            place_room = v.place_room;
-            link_room = v.link_room;
+            room = v.room;
             within = v.within;
             later = λ k d here after. elim (cases_lt m k) [
               | inl far ↦ behind k d here far

@@ -1,7 +1,7 @@
-use Rattle.std.proofs.Common.{◌∙◌, sym, subst, take, add-one}
+use Rattle.std.proofs.Common.{sym, subst, take, add-one}
 use Rattle.event_arena.specs.Relinked.{AreRelinked}
 use Rattle.event_arena.proofs.ListLemmas.{take_all, take_more}
-use Rattle.event_arena.proofs.RelinkLemmas.{all_known, relinked_then}
+use Rattle.event_arena.proofs.RelinkLemmas.{all_known, relinked_then, room_still}
 use Rattle.event_arena.proofs.relinking.relink_each.Goals as goal
 
 pub relink-requires-clause-known : goal.relink-requires-clause-known
@@ -12,9 +12,7 @@ loop-commit-preserved c =
     let v = c.loop-commit.invariant in
     let e = c.relink.ensures in
     rw add-one (record {
-      places = e.places ∙ v.places;
-      place_room = e.place_room ∙ v.place_room;
-      link_room = e.link_room ∙ v.link_room;
+      room = room_still v.room e.room;
       linked = subst (λ cs. AreRelinked cs c.args.table.now c.args.links.now.lists c.relink.new.links.lists)
           (sym (take_more c.args.commits.now c.loop-commit.commit-index c.commit-item.result c.loop-commit-test.true c.commit-item.is))
           (relinked_then (take c.loop-commit.commit-index c.args.commits.now) _ c.args.table.now c.args.links.now.lists c.loop-commit.links.lists c.relink.new.links.lists v.linked (e.linked c.if-not-relink.false));
