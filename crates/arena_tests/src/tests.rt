@@ -1,16 +1,15 @@
-ghost use Rattle.std.specs.Prelude.{◌≡◌, ◌≤◌, ◌<◌, ◌^◌, None, IfOk, IsSome, IsTrue, OnOk};
+ghost use Rattle.std.specs.Prelude.{◌≡◌, IsSome, OnOk};
 ghost use Rattle.edit_laws.specs.Passing.{IsWithinLimits};
-ghost use Rattle.event_arena.specs.Changes.{has_label, has_signed};
-ghost use Rattle.plain_model.specs.Lookups.{find_event, id_of};
+ghost use Rattle.plain_model.specs.Lookups.{find_event};
 ghost use Rattle.plain_model.specs.Soundness.{IsSound};
-ghost use Rattle.plain_model.specs.declared.id.AnyId.TheVariants.{Commit, Reset, Tag};
+ghost use Rattle.plain_model.specs.declared.id.AnyId.TheVariants.{Commit};
 
-use event_arena::{Events, Plan, Role};
+use event_arena::{Events, Plan};
 use graph_walk::{Scratch, expand_parents, is_ancestor};
 use manifest_cache::Manifests;
 use plain_model::{
-    AnyId, BlobId, CommitId, IdList, Items, Lean, NoMemory, Person, PlainEvent, Policy, Push,
-    ResetId, Shared, Signed, TagId, Text, When,
+    AnyId, BlobId, CommitId, IdList, Items, Lean, NoMemory, PlainEvent, Policy, Push, ResetId,
+    TagId, Text,
 };
 use soundness_laws::{what_is_read_is_sound, what_is_read_passes_no_limit};
 use split_reorder::split_at;
@@ -100,9 +99,7 @@ from :6
 ";
 
 // The history of a stream.
-fn history(alloc: Global, stream: &[u8]) -> Result<Events, Fail>
-    ensures { IfOk result (λ events. events.next_id ≤ 2 ^ 62) }
-{
+fn history(alloc: Global, stream: &[u8]) -> Result<Events, Fail> {
     what_is_read_is_sound();
     what_is_read_passes_no_limit();
     match read_stream(alloc, stream) {
@@ -117,168 +114,10 @@ fn commit_id(number: u64) -> AnyId
     AnyId::Commit(CommitId::new(number))
 }
 
-fn tag_id(number: u64) -> AnyId
-    ensures { result ≡ Tag number }
-{
-    AnyId::Tag(TagId::new(number))
-}
-
-fn reset_id(number: u64) -> AnyId
-    ensures { result ≡ Reset number }
-{
-    AnyId::Reset(ResetId::new(number))
-}
-
 fn find(plan: &Plan, id: AnyId) -> Result<(), Fail>
     ensures { OnOk result (IsSome (find_event id plan.now.after)) }
 {
     plan.event(id).ok_or("no such event")?;
-    Ok(())
-}
-
-fn set_label(alloc: Global, plan: &mut Plan, id: AnyId, label: &[u8]) -> Result<(), Fail>
-    requires { IsTrue (has_label id) }
-{
-    find(plan, id)?;
-    plan.set_label(id, Items::of(alloc, label)?)?;
-    Ok(())
-}
-
-fn set_labels(alloc: Global, plan: &mut Plan) -> Result<(), Fail> {
-    set_label(alloc, plan, commit_id(4), b"other")?;
-    set_label(alloc, plan, tag_id(6), b"v2")?;
-    set_label(alloc, plan, reset_id(7), b"old")
-}
-
-fn signed(alloc: Global, seconds: u64) -> Result<Signed, NoMemory> {
-    let name = Items::of(alloc, b"B")?;
-    let email = Items::empty(alloc);
-    Ok(Signed {
-        person: Shared::new(alloc, Person { name, email })?,
-        when: When {
-            seconds,
-            minus: false,
-            offset: 0,
-        },
-    })
-}
-
-fn set_signed(
-    alloc: Global,
-    plan: &mut Plan,
-    id: AnyId,
-    role: Role,
-    seconds: u64,
-) -> Result<(), Fail>
-    requires { IsTrue (has_signed role id) }
-{
-    find(plan, id)?;
-    plan.set_signed(id, role, signed(alloc, seconds)?)?;
-    Ok(())
-}
-
-fn set_people(alloc: Global, plan: &mut Plan) -> Result<(), Fail> {
-    set_signed(alloc, plan, commit_id(4), Role::Author, 44)?;
-    set_signed(alloc, plan, commit_id(5), Role::Committer, 55)?;
-    set_signed(alloc, plan, tag_id(6), Role::Tagger, 66)
-}
-
-fn put(out: &mut Text, label: &[u8]) -> Result<(), NoMemory> {
-    out.push(b' ')?;
-    out.push_all(label)
-}
-
-fn put_seconds(out: &mut Text, signed: &Signed) -> Result<(), NoMemory> {
-    out.push(b'/')?;
-    out.push_number(signed.when.seconds)
-}
-
-// The branch or the name of an event, and the seconds of each person who signed it.
-fn put_event(out: &mut Text, event: &PlainEvent) -> Result<(), NoMemory> {
-    match event {
-        PlainEvent::Commit {
-            branch,
-            author,
-            committer,
-            ..
-        } => {
-            put(out, branch.as_slice())?;
-            put_seconds(out, author)?;
-            put_seconds(out, committer)
-        }
-        PlainEvent::Tag { name, tagger, .. } => {
-            put(out, name.as_slice())?;
-            match tagger {
-                Some(tagger) => put_seconds(out, tagger),
-                None => Ok(()),
-            }
-        }
-        PlainEvent::Reset { branch, .. } => put(out, branch.as_slice()),
-        _ => Ok(()),
-    }
-}
-
-fn shown(alloc: Global, plan: &Plan) -> Result<Text, NoMemory> {
-    let mut out = Items::empty(alloc);
-    for place in 0..plan.count() {
-        put_event(&mut out, plan.nth(place))?;
-    }
-    Ok(out)
-}
-
-fn set_others(alloc: Global, plan: &mut Plan) -> Result<Text, Fail> {
-    set_labels(alloc, plan)?;
-    set_people(alloc, plan)?;
-    Ok(shown(alloc, plan)?)
-}
-
-fn plan_with_others(alloc: Global, events: &Events) -> Result<Text, Fail> {
-    let mut plan = Plan::new(alloc, events)?;
-    set_others(alloc, &mut plan)
-}
-
-// The events of the fork with other labels and other people.
-fn given_others(alloc: Global) -> Result<Text, Fail> {
-    let events = history(alloc, FORK)?;
-    plan_with_others(alloc, &events)
-}
-
-#[test]
-fn labels_and_people_are_set_by_id(rt: HostRuntime) -> Result<(), Fail> {
-    let want: &[u8] = b" main/2/2 main/3/3 other/44/4 main/5/55 v2/66 old";
-    assert_eq!(rt; given_others(rt.alloc())?.as_slice(), want);
-    Ok(())
-}
-
-fn miss(plan: &Plan, id: AnyId) -> Result<(), Fail>
-    ensures { OnOk result (find_event id plan.now.after ≡ None) }
-{
-    match plan.event(id) {
-        Some(_) => Err("such an event")?,
-        None => Ok(()),
-    }
-}
-
-fn tag(alloc: Global, number: u64) -> Result<PlainEvent, NoMemory>
-    ensures { IfOk result (λ event. id_of event ≡ Tag number) }
-{
-    Ok(PlainEvent::Tag {
-        id: TagId::new(number),
-        name: Items::of(alloc, b"v2")?,
-        target: CommitId::new(5),
-        tagger: None,
-        comment: Items::empty(alloc),
-        mark: None,
-    })
-}
-
-// Puts a tag at the end, under a new number.
-fn put_tag(alloc: Global, plan: &mut Plan) -> Result<(), Fail>
-    requires { plan.old.next ≤ 2 ^ 62 }
-{
-    let number = plan.unused();
-    miss(plan, tag_id(number))?;
-    plan.append(tag(alloc, number)?)?;
     Ok(())
 }
 
@@ -296,63 +135,30 @@ fn ids(alloc: Global, plan: &Plan) -> Result<IdList, NoMemory> {
     Ok(ids)
 }
 
-fn put_and_take(alloc: Global, plan: &mut Plan) -> Result<IdList, Fail>
-    requires { plan.old.next ≤ 2 ^ 62 }
-{
-    put_tag(alloc, plan)?;
-    take_commit(plan, 3)?;
-    Ok(ids(alloc, plan)?)
-}
-
-fn plan_put_and_taken(alloc: Global, events: &Events) -> Result<IdList, Fail>
-    requires { events.now.next_id ≤ 2 ^ 62 }
-{
+// The ids of a plan that takes a commit away.
+fn ids_without(alloc: Global, events: &Events, number: u64) -> Result<IdList, Fail> {
     let mut plan = Plan::new(alloc, events)?;
-    put_and_take(alloc, &mut plan)
-}
-
-// The ids of the fork with a tag more and a commit less.
-fn put_and_taken(alloc: Global) -> Result<IdList, Fail> {
-    let events = history(alloc, FORK)?;
-    plan_put_and_taken(alloc, &events)
+    take_commit(&mut plan, number)?;
+    Ok(ids(alloc, &plan)?)
 }
 
 #[test]
-fn one_event_is_put_at_the_end_and_one_is_taken_away(rt: HostRuntime) -> Result<(), Fail> {
+fn one_event_is_taken_away(rt: HostRuntime) -> Result<(), Fail> {
+    let events = history(rt.alloc(), FORK)?;
     let want = [
         AnyId::Blob(BlobId::new(1)),
         commit_id(2),
         commit_id(4),
         commit_id(5),
-        tag_id(6),
-        reset_id(7),
-        tag_id(8),
+        AnyId::Tag(TagId::new(6)),
+        AnyId::Reset(ResetId::new(7)),
     ];
-    assert_eq!(rt; put_and_taken(rt.alloc())?.as_slice(), want.as_slice());
+    assert_eq!(rt; ids_without(rt.alloc(), &events, 3)?.as_slice(), want.as_slice());
     Ok(())
-}
-
-fn count_plain(events: &Events) -> Result<usize, NoMemory> {
-    Ok(events.plain()?.as_slice().len())
-}
-
-// Whether the tag and the reset of the fork are among those that refer to commits.
-fn has_pointers(events: &Events) -> Result<bool, NoMemory> {
-    let pointers = events.tags_and_resets()?;
-    let ids = pointers.as_slice();
-    Ok(ids.contains(&tag_id(6)) && ids.contains(&reset_id(7)))
 }
 
 fn weight(alloc: Global, events: &Events) -> Result<Option<usize>, NoMemory> {
     Ok(Plan::new(alloc, events)?.weight())
-}
-
-#[test]
-fn a_history_is_listed(rt: HostRuntime) -> Result<(), Fail> {
-    let events = history(rt.alloc(), FORK)?;
-    assert_eq!(rt; count_plain(&events)?, 7);
-    assert!(rt; has_pointers(&events)?);
-    Ok(())
 }
 
 // Two for each commit, and its parents, operations and aliases; three for each other event.
@@ -494,6 +300,11 @@ fn deleted_and_pushed(
         Ok(plan) => pushed(alloc, plan, commit),
         Err(_) => Err("refused")?,
     }
+}
+
+fn put(out: &mut Text, label: &[u8]) -> Result<(), NoMemory> {
+    out.push(b' ')?;
+    out.push_all(label)
 }
 
 // The number of a commit, its parents, and how many operations it has; what a tag or a reset is on.
