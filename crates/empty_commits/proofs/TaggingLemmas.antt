@@ -86,9 +86,6 @@ module _ (selected : List AnyId) (events : List PlainEvent) where
   abbrev pub behind : Change → List PlainEvent → Change
   behind plan xs = record plan { after = plan.after ++ tags plan.next xs; next = plan.next + count xs }
 
-  pub behind_none : (plan : Change) → plan ≡ behind plan []
-  behind_none plan = λ i. record plan { after = sym (append-nil plan.after) i; next = (let none : plan.next ≡ plan.next + 0 = omega arith in none) i }
-
   pub behind_more : (plan : Change) (xs : List PlainEvent) (e : PlainEvent) → with_tag_of selected events e (behind plan xs) ≡ behind plan (xs ++ e ∷ [])
   behind_more plan xs e =
       go (becomes_tag selected e)

@@ -1,40 +1,28 @@
 -- An event behind others whose ids are below its own, and all events of a part one after another.
-use Rattle.std.proofs.Common.{◌≡◌, ◌∙◌, ℕ, zero, suc, ◌+◌, ◌≤◌, Bool, true, false, cond, not, List, [], ◌∷◌, ◌++◌, drop, length, take, refl, sym, ap, subst, arith, append_assoc, append-nil, length-append, Option, Some, None}
+use Rattle.std.proofs.Common.{◌≡◌, ◌∙◌, ℕ, zero, suc, ◌+◌, ◌≤◌, Bool, true, false, cond, not, List, [], ◌∷◌, ◌++◌, drop, length, take, refl, sym, ap, subst, arith, append_assoc, length-append, Option, Some, None}
 use Rattle.std.specs.Prelude.{is_some, slice_get, IsTrue, if◌then◌else◌}
 use Rattle.std.specs.List.{AllByRecursion}
 use Rattle.plain_model.specs.declared.id.AnyId.{AnyId}
 use Rattle.plain_model.specs.declared.event.PlainEvent.{PlainEvent}
 use Rattle.plain_model.specs.declared.event.PlainEvent.TheVariants.{Blob, Commit, Tag, Reset, Pass}
 use Rattle.std.proofs.lemmas.List.{take-append-drop}
-use Rattle.plain_model.specs.Lookups.{AreIdsBelow, event_marks, find_event, id_number, id_of, marks_of, own_marks, referents_of}
+use Rattle.plain_model.specs.Lookups.{AreIdsBelow, event_marks, find_event, id_number, marks_of, own_marks, referents_of}
 use Rattle.plain_model.specs.Soundness.{IsSound, has_id}
 use Rattle.edit_laws.specs.Settling.{is_ready}
 use Rattle.edit_laws.proofs.Lists.{all_true}
 use Rattle.event_arena.specs.Graphs.{Change}
 use Rattle.event_arena.proofs.ListLemmas.{take_all, take_item}
 use Rattle.history_laws.proofs.SoundOnce.{has_id_find}
-use Rattle.graft_laws.specs.Joining.{Joining, added, is_pass, joined_event, without_passes}
+use Rattle.graft_laws.specs.Joining.{Joining, added, is_pass, without_passes}
 use Rattle.graft_laws.proofs.Behind.{complete, sound_linked}
-use Rattle.graft_laws.proofs.Events.{append_new, joined_id, length_new, new, new_from, placed_new}
+use Rattle.graft_laws.proofs.Events.{append_new, length_new, new, new_from, placed_new}
 use Rattle.graft_laws.proofs.Free.{marks_join}
 use Rattle.graft_laws.proofs.Fresh.{absent, all_below, below, below_behind}
 use Rattle.graft_laws.proofs.Marked.{commit_marked}
 use Rattle.renumbering.specs.Renumbered.{marked_from, renumbered_from}
-use Rattle.renumbering.proofs.Marks.{id_from, length_own}
-use Rattle.shown_laws.specs.AsWritten.{renamed}
+use Rattle.renumbering.proofs.Marks.{length_own}
 use Rattle.graft_unite.specs.Appended.{with_event}
 use Rattle.graft_unite.specs.Numbering.{AreThere, Numbering, new_blob, new_commit}
-
--- its number
-pub number_joined : (how : Joining) (blob commit : ℕ → ℕ) (k m : ℕ) (e : PlainEvent) → id_number (id_of (marked_from m (joined_event how (renamed blob commit k e)))) ≡ k
-number_joined how blob commit k m e = ap id_number (id_from m (joined_event how (renamed blob commit k e)) ∙ joined_id how (renamed blob commit k e)) ∙ own e
-  where
-    own : (e : PlainEvent) → id_number (id_of (renamed blob commit k e)) ≡ k
-    own (Blob id mark bytes) = refl
-    own (Commit id mark branch author committer encoding comment parents ops aliases) = refl
-    own (Tag id name target tagger comment mark) = refl
-    own (Reset id branch target) = refl
-    own (Pass id line) = refl
 
 -- it isn't there yet
 pub unknown : (bound : ℕ) (events : List PlainEvent) (id : AnyId) → AreIdsBelow bound events → bound ≤ id_number id → find_event id events ≡ None
@@ -144,15 +132,6 @@ module _ (how : Joining) (n : Numbering) (m : ℕ) (plan : Change) where
 
   abbrev behind : List PlainEvent → Change
   behind xs = record plan { after = plan.after ++ renumbered_from m (new_ones xs); next = n.first + length xs }
-
-  pub so_far_first : plan.next ≡ n.first → plan ≡ so_far how n m plan 0
-  so_far_first is = λ i. record plan { after = none i; next = start i }
-    where
-      none : plan.after ≡ plan.after ++ []
-      none = sym (append-nil plan.after)
-
-      start : plan.next ≡ n.first + 0
-      start = is ∙ (let same : n.first ≡ n.first + 0 = omega arith in same)
 
   pub so_far_more : (k : ℕ) (e : PlainEvent) → slice_get n.part k ≡ Some e → with_event how n (m + length (marks_of (take k n.part))) e (so_far how n m plan k) ≡ so_far how n m plan (suc k)
   so_far_more k e is = go (is_pass e) (kept_push (take k n.part) e) ∙ ap (λ (l : List PlainEvent). behind (without_passes l)) (sym (take_item n.part k e is))

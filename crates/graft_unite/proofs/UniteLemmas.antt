@@ -1,5 +1,5 @@
 -- What a `unite` answers, fault by fault.
-use Rattle.std.proofs.Common.{◌≡◌, ◌∙◌, Bool, List, [], refl, ap, subst, Option, Some, None, Result, Ok, Err}
+use Rattle.std.proofs.Common.{◌≡◌, ◌∙◌, Bool, List, [], refl, ap, subst, None, Result, Ok, Err}
 use Rattle.std.specs.List.{AllByRecursion}
 use Rattle.plain_model.specs.declared.event.PlainEvent.{PlainEvent}
 use Rattle.plain_model.specs.declared.fault.Fault.{Fault}
@@ -8,11 +8,10 @@ use Rattle.plain_model.specs.declared.fault.Halt.TheVariants as halt
 use Rattle.plain_model.specs.Faults.{Returns}
 use Rattle.plain_model.specs.Histories.{IsLinkedPast, past}
 use Rattle.plain_model.specs.Soundness.{IsSound}
-use Rattle.edit_laws.specs.Checking.{unless}
 use Rattle.renumbering.specs.Renumbered.{renumbered}
-use Rattle.graft_laws.specs.Faults.{fault_after, long_name_fault, unless_fault}
+use Rattle.graft_laws.specs.Faults.{long_name_fault}
 use Rattle.graft_laws.specs.Joined.{IsPart}
-use Rattle.graft_laws.specs.Unite.{Part, numbered_anew, with_parts}
+use Rattle.graft_laws.specs.Unite.{Part, with_parts}
 use Rattle.graft_laws.proofs.UniteDone.{parents_first}
 use Rattle.graft_unite.specs.Uniting.{marked}
 
@@ -22,29 +21,12 @@ module _ {X : Type 0} (view : X → List PlainEvent) where
   refuses (halt.Refused f) specified h = h f refl
   refuses halt.Memory specified h = tt
 
-  -- the fault of parts that are joined
-  pub joins_not : (prune : Bool) (why : Halt) (joined : Result (List PlainEvent) Fault) → Returns view (Err why) (marked joined) → Returns view (Err why) (numbered_anew prune joined)
-  joins_not prune (halt.Refused f) (Ok events) h = absurd cc
-  joins_not prune (halt.Refused f) (Err g) h = h
-  joins_not prune halt.Memory joined h = tt
-
-  -- the fault of what is judged
-  pub judged_not : (why : Halt) (found : Option Fault) (made : List PlainEvent) → Returns {X = Unit {0}} {Y = Unit {0}} (λ done. done) (Err why) (unless found) → Returns view (Err why) (unless_fault found made)
-  judged_not (halt.Refused f) (Some g) made h = let same : g ≡ f = cc in ap Err same
-  judged_not (halt.Refused f) None made h = absurd cc
-  judged_not halt.Memory found made h = tt
-
 -- the same fault, whatever the value would be
 pub refused_too : {X Y : Type 0} (one : X → List PlainEvent) (other : Y → List PlainEvent) (why : Halt) (specified : Result (List PlainEvent) Fault) → Returns one (Err why) specified → Returns other (Err why) specified
 refused_too one other (halt.Refused f) specified h = h
 refused_too one other halt.Memory specified h = tt
 
 module _ (prune : Bool) (after : List PlainEvent) where
-  -- a list that is joined is then judged
-  pub then_judged : (joined : Result (List PlainEvent) Fault) → marked joined ≡ Ok after → numbered_anew prune joined ≡ unless_fault (fault_after prune after) after
-  then_judged (Ok events) is = let same : renumbered events ≡ after = cc in ap (λ (l : List PlainEvent). unless_fault (fault_after prune l) l) same
-  then_judged (Err why) is = absurd cc
-
   -- its parents come first, where no name is too long
   pub parents_before : (base : List PlainEvent) (parts : List Part) → IsSound base → AllByRecursion IsPart parts → marked (with_parts prune base parts) ≡ Ok after
       → long_name_fault after ≡ None → IsLinkedPast (past after)

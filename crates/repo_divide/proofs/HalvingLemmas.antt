@@ -1,31 +1,22 @@
 -- Flags of commits and of the blobs that they name, and the events that go with them.
 use Rattle.event_arena.proofs.ListLemmas.{take_item}
-use Rattle.history_laws.specs.Once.{AreDistinct}
-use Rattle.history_laws.proofs.Ids.{same_id_refl, same_id_true, one_place}
-use Rattle.std.proofs.Common.{◌≡◌, ◌∙◌, ℕ, zero, suc, ◌+◌, ◌<◌, Bool, true, false, cond, not, ◌&&◌, ◌||◌, inl, inr, List, [], ◌∷◌, ◌++◌, Some, None, refl, sym, ap, subst, length, get_or, take, arith, append-nil, append_assoc, filter, flat_map, map, true≢false, IsTrue}
-use Rattle.std.proofs.Math.Bool.{or-false, or-true}
-use Rattle.std.proofs.Math.ListN.{set}
-use Rattle.std.proofs.lemmas.Bool.{cases_eq, false_from_ne_true}
-use Rattle.std.proofs.lemmas.List.{get_or-set_other, get_or-set_same, length-replicate, length-set, map-append}
-use Rattle.std.proofs.lemmas.List.Folds.{list_any-append}
+use Rattle.std.proofs.Common.{◌≡◌, ◌∙◌, ℕ, zero, suc, ◌+◌, ◌<◌, Bool, true, false, not, ◌&&◌, ◌||◌, List, [], ◌∷◌, ◌++◌, Some, None, refl, sym, ap, subst, length, get_or, take, arith, filter, map, true≢false, IsTrue}
+use Rattle.std.proofs.lemmas.List.{map-append}
 use Rattle.std.proofs.lemmas.Option.{none-some, same_Some, slice_get_within}
-use Rattle.std.specs.List.{AllByRecursion, list_all, list_any}
-use Rattle.std.specs.Prelude.{is_some, replicate, slice_get}
-use Rattle.plain_model.specs.declared.id.AnyId.{AnyId}
+use Rattle.std.specs.List.{AllByRecursion, list_all}
+use Rattle.std.specs.Prelude.{is_some, slice_get}
 use Rattle.plain_model.specs.declared.id.AnyId.TheVariants as any
 use Rattle.plain_model.specs.declared.event.PlainEvent.{PlainEvent}
 use Rattle.plain_model.specs.declared.event.PlainEvent.TheVariants.{Blob, Commit, Tag, Reset, Pass}
-use Rattle.plain_model.specs.Lookups.{id_of, is_listed, op_blobs, place_of, referents_of, same_id}
+use Rattle.plain_model.specs.Lookups.{id_of, place_of, referents_of}
 use Rattle.plain_model.specs.Soundness.{IsCommitOf, has_id}
 use Rattle.edit_laws.specs.Parts.{AreComplete}
 use Rattle.edit_laws.specs.Settling.{is_ready}
-use Rattle.edit_laws.specs.Sweeping.{is_named}
 use Rattle.edit_laws.proofs.Lists.{all_true}
 use Rattle.divide_laws.specs.Sides.{goes, is_commit_among, is_early, is_named_among}
-use Rattle.graph_walk.proofs.FlagLemmas.{no_flag}
-use Rattle.graph_walk.proofs.PlaceLemmas.{event_placed, has_id_place, place_found, place_within}
-use Rattle.plan_steps.specs.Flags.{FlagsNamed, event_blobs}
-use Rattle.plan_steps.proofs.SweepLemmas.{filter_in, filter_out, filtered_more, filtered_same, flat_push, named_by_op, named_by_ops, names_first}
+use Rattle.graph_walk.proofs.PlaceLemmas.{event_placed, has_id_place}
+use Rattle.plan_steps.specs.Flags.{FlagsNamed}
+use Rattle.plan_steps.proofs.SweepLemmas.{named_by_ops}
 use Rattle.repo_divide.specs.BlobFlags.{AreBlobFlags, IsBlobFlag}
 use Rattle.repo_divide.proofs.WalkLemmas.{among_id}
 
@@ -58,25 +49,6 @@ named_flags has events flags f = record { count = f.count; flag = λ k e at. one
     one k (Tag id name target tagger comment mark) at = tt
     one k (Reset id branch target) at = tt
     one k (Pass id line) at = tt
-
-pub push_here : (xs : List Bool) (x : Bool) → get_or (xs ++ x ∷ []) (length xs) false ≡ x
-push_here [] x = refl
-push_here (y ∷ xs) x = push_here xs x
-
-pub push_before : (xs : List Bool) (x : Bool) (k : ℕ) → k < length xs → get_or (xs ++ x ∷ []) k false ≡ get_or xs k false
-push_before [] x k low = absurd (omega arith)
-push_before (y ∷ xs) x zero low = refl
-push_before (y ∷ xs) x (suc k) low = push_before xs x k (omega arith)
-
--- one flag more of two each
-pub either_more : (flags early late : List Bool) (n : ℕ) (x : Bool) → length flags ≡ n → ((k : ℕ) → k < n → get_or flags k false ≡ get_or early k false || not (get_or late k false)) →
-    x ≡ get_or early n false || not (get_or late n false) → (k : ℕ) → k < n + 1 → get_or (flags ++ x ∷ []) k false ≡ get_or early k false || not (get_or late k false)
-either_more flags early late n x count f own k low = elim (cases_eq k n) [
-  | inl is ↦
-      let here : k ≡ length flags = is ∙ sym count in
-      ap (λ i. get_or (flags ++ x ∷ []) i false) here ∙ push_here flags x ∙ own ∙ (λ i. get_or early (sym is i) false || not (get_or late (sym is i) false))
-  | inr other ↦ push_before flags x k (omega arith) ∙ f k (omega arith)
-]
 
 pub either_flags : (events : List PlainEvent) (ours theirs : ℕ → Bool) (early late flags : List Bool) → length flags ≡ length early →
     ((k : ℕ) → k < length early → get_or flags k false ≡ get_or early k false || not (get_or late k false)) →

@@ -192,27 +192,7 @@ module _ (events : List PlainEvent) (cut : Link) where
     work = let one = g.work in let two = h.work in omega arith;
   }
 
-  pub none_grown : (a : List Bool) (x : List ℕ) → Grows events a x a x
-  none_grown a x = record { kept = λ d k. k; work = refl }
-
   -- ---- all links of a commit are followed
-
-  pub handed : (c : ℕ) (flags : List Bool) (ahead : List ℕ) → AreReached events cut (c ∷ []) flags ahead →
-      ((p : ℕ) → is_still_parent events cut p c ≡ true → is_flagged_commit flags events p ≡ true) →
-      ((n : ℕ) → is_still_parent events cut c n ≡ true → is_flagged_commit flags events n ≡ true) → AreReached events cut [] flags ahead
-  handed c flags ahead s parents children = record {
-    count = s.count;
-    late = s.late;
-    start = s.start;
-    waiting = s.waiting.1;
-    followed = λ d n h out l. elim (cases_Bool (c == d)) [
-      | inl is ↦ elim (or_cases (is_still_parent events cut d n) (is_still_parent events cut n d) l) [
-        | inl down ↦ children n (ap (λ x. is_still_parent events cut x n) (eqb-true c d is) ∙ down)
-        | inr up ↦ parents n (ap (λ x. is_still_parent events cut n x) (eqb-true c d is) ∙ up)
-      ]
-      | inr other ↦ s.followed d n h (or_from (c == d) (is_one_of ahead d) other out) l
-    ];
-  }
 
   -- one of those that come yet is taken
   pub taken : (c : ℕ) (flags : List Bool) (ahead rest : List ℕ) → ahead ≡ rest ++ c ∷ [] → AreReached events cut [] flags ahead → AreReached events cut (c ∷ []) flags rest

@@ -1,6 +1,6 @@
 -- An edit that the lines of a file say.
-use Rattle.std.proofs.Common.{◌≡◌, ◌≤◌, ◌<◌, ◌+◌, ◌∙◌, ℕ, Bool, true, false, cond, List, [], ◌∷◌, ◌++◌, length, drop, Option, Some, None, Result, Ok, Err, refl, sym, ap, subst, inl, inr, arith, nat_lt}
-use Rattle.std.specs.Prelude.{IfOk, IfSome, OnOk, replicate, if◌then◌else◌}
+use Rattle.std.proofs.Common.{◌≡◌, ◌≤◌, ◌+◌, ◌∙◌, ℕ, List, [], length, drop, Option, Some, None, Result, Ok, Err, refl, sym, ap, subst, inl, inr, arith, nat_lt}
+use Rattle.std.specs.Prelude.{IfOk, IfSome, OnOk, replicate}
 use Rattle.std.specs.FinMap.{get, get-empty}
 use Rattle.std.specs.Result.{IsErrAnd}
 use Rattle.std.proofs.lemmas.Bool.{cond-true, cond-false, cases_Bool}
@@ -172,14 +172,6 @@ module _ (list : LoadList) (h : Halt) (r : Result (Unit {0}) ReadEnd) (is : IsEr
       go h (Ok x) is returns = absurd is
       go (halt.Refused why) (Err e) is returns = rw is (subst (λ (f : Fault). StopsNear bytes (Some f) rest) (no_repo list why returns) (near_no_repo bytes rest))
       go halt.Memory (Err e) is returns = rw is (near_none bytes rest)
-
-  pub unchosen_missed : (s s' : StoreState) → CountsMiss (read_refused r) s s'
-  unchosen_missed s s' = go h r is returns
-    where
-      go : (h : Halt) (r : Result (Unit {0}) ReadEnd) → IsErrAnd r (λ e. e ≡ read_end_of h) → Returns (λ (repo : Repo). repo) (Err h) (chosen_in list) → CountsMiss (read_refused r) s s'
-      go h (Ok x) is returns = absurd is
-      go (halt.Refused why) (Err e) is returns = rw is (subst (λ (f : Fault). CountsMiss (Some f) s s') (no_repo list why returns) tt)
-      go halt.Memory (Err e) is returns = rw is tt
 
 -- of a line that an edit is refused for all of the file was taken
 near_of : (bytes rest : Option Bytes) (why : Fault) → IsLineFault why → LeavesNothing bytes rest → StopsNear bytes (Some why) rest
