@@ -2,6 +2,8 @@
 ghost use Rattle.std.specs.Prelude.{◌≡◌, ◌∷◌, ◌++◌, ℕ, List, [], IfOk, OnErr, OnOk, Option, Some, true};
 ghost use Rattle.plain_model.specs.declared.event.PlainEvent.{PlainEvent};
 ghost use Rattle.plain_model.specs.declared.operation.FileOp.{FileOp};
+ghost use Rattle.plain_model.specs.declared.operation.FileOp.TheVariants as operation;
+ghost use Rattle.plain_model.specs.Paths.{Bytes};
 ghost use Rattle.stream_grammar.specs.Known.{has_source, next_id, with_event};
 ghost use Rattle.plain_model.specs.Histories.{begun, nodes, tree};
 ghost use Rattle.plain_model.specs.Trees.{Tree};
@@ -63,6 +65,30 @@ fn most_after(most: u64, op: &FileOp) -> u64
     }
 }
 
+// A copy of the path to itself.
+fn copy_to_itself(alloc: Global, path: &Path) -> Result<FileOp, NoMemory>
+    ensures { IfOk result (λ op. op ≡ operation.Copy path.now path.now) }
+{
+    Ok(FileOp::Copy {
+        source: path.copied(alloc)?,
+        target: path.copied(alloc)?,
+    })
+}
+
+// Whether the tree has the source of a copy of a path to itself, which a share of the tree is asked for.
+fn has_source_of(tree: &PathTree, copy: &FileOp) -> Result<bool, NoMemory>
+    ensures { IfOk result (λ there. (path : Bytes) → copy.now ≡ operation.Copy path path →
+        there ≡ has_source path (Some tree.now)) }
+{
+    let mut steps: Steps<Reading> = Steps::new();
+    let mut trial = tree.share()?;
+    match trial.apply(copy, &mut steps) {
+        Ok(()) | Err(ApplyFault::Limit { .. }) => Ok(true),
+        Err(ApplyFault::MissingSource) => Ok(false),
+        Err(ApplyFault::Memory) => Err(NoMemory),
+    }
+}
+
 // Whether the tree has something at or below the path. What is below isn't listed, as it may be many paths: a copy of the
 // path to itself is refused for its source exactly where nothing is there.
 fn has_something(alloc: Global, tree: &PathTree, path: &Path) -> Result<bool, NoMemory>
@@ -71,17 +97,8 @@ fn has_something(alloc: Global, tree: &PathTree, path: &Path) -> Result<bool, No
     if tree.get(path).is_some() {
         return Ok(true);
     }
-    let copy = FileOp::Copy {
-        source: path.copied(alloc)?,
-        target: path.copied(alloc)?,
-    };
-    let mut steps: Steps<Reading> = Steps::new();
-    let mut trial = tree.share()?;
-    match trial.apply(&copy, &mut steps) {
-        Ok(()) | Err(ApplyFault::Limit { .. }) => Ok(true),
-        Err(ApplyFault::MissingSource) => Ok(false),
-        Err(ApplyFault::Memory) => Err(NoMemory),
-    }
+    let copy = copy_to_itself(alloc, path)?;
+    has_source_of(tree, &copy)
 }
 
 // Applies an operation to a tree, if it is there, and tells how many paths there are then. What is refused for its source is
