@@ -153,7 +153,10 @@ fn one_event_is_taken_away(rt: HostRuntime) -> Result<(), Fail> {
         AnyId::Tag(TagId::new(6)),
         AnyId::Reset(ResetId::new(7)),
     ];
-    assert_eq!(rt; ids_without(rt.alloc(), &events, 3)?.as_slice(), want.as_slice());
+    assert_eq!(rt;
+        ids_without(rt.alloc(), &events, 3)?.as_slice(),
+        want.as_slice()
+    );
     Ok(())
 }
 
