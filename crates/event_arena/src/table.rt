@@ -39,7 +39,10 @@ ghost use Rattle.event_arena.specs.Rows.{AreRows, IsNoted, events_of, in_rows, n
 ghost use Rattle.event_arena.specs.Spent.{AddsNone, AddsOnly};
 ghost use Rattle.event_arena.specs.Weights.{weight_of};
 ghost use Rattle.plain_model.specs.Lookups.{
+  commit_id,
   event_at,
+  event_ops,
+  event_parents,
   find_event,
   id_of,
   is_listed,
@@ -52,7 +55,9 @@ use crate::field::{Field, with_field};
 use crate::places::Places;
 use crate::store::{Row, Store};
 use crate::weight::{heavier, lighter};
-use plain_model::{AnyId, EventList, IdList, Items, NoMemory, PlainEvent, Shared};
+use plain_model::{
+    AnyId, CommitId, EventList, FileOp, IdList, Items, NoMemory, PlainEvent, Shared,
+};
 use std::alloc::Global;
 use std::marker::Model;
 use std::rc::Rc;
@@ -206,12 +211,45 @@ impl EventTable {
     }
 
     /// The id of the event at this place, from 0, without a look at the event.
-    pub(crate) fn id_at(&self, place: usize) -> AnyId
+    pub fn id_at(&self, place: usize) -> AnyId
         requires { place < length self.now }
         ensures { (event : _) × (slice_get self.now place ≡ Some event) × (result ≡ id_of event) }
     {
         let _count = self.count();
         self.rows.as_ref()[place].id
+    }
+
+    /// The id of the commit at this place, from 0; none where the event there is no commit. It looks at no event.
+    pub fn commit_at(&self, place: usize) -> Option<CommitId>
+        requires { place < length self.now }
+        ensures { (event : _) × (slice_get self.now place ≡ Some event) × (result ≡ commit_id event) }
+    {
+        match self.id_at(place) {
+            AnyId::Commit(id) => Some(id),
+            _ => None,
+        }
+    }
+
+    /// The parents of the commit at this place, from 0; none where the event there is no commit, at which it doesn't look.
+    pub fn parents_at(&self, place: usize) -> &[CommitId]
+        requires { place < length self.now }
+        ensures { (event : _) × (slice_get self.now place ≡ Some event) × (result.now ≡ event_parents event) }
+    {
+        match self.id_at(place) {
+            AnyId::Commit(_) => self.nth(place).parents(),
+            _ => &[],
+        }
+    }
+
+    /// The operations of the commit at this place, from 0; none where the event there is no commit, at which it doesn't look.
+    pub fn ops_at(&self, place: usize) -> &[FileOp]
+        requires { place < length self.now }
+        ensures { (event : _) × (slice_get self.now place ≡ Some event) × (result.now ≡ event_ops event) }
+    {
+        match self.id_at(place) {
+            AnyId::Commit(_) => self.nth(place).ops(),
+            _ => &[],
+        }
     }
 
     /// The event with the number, from 1. `None` exactly where the list has no such number.

@@ -69,13 +69,16 @@ fn is_after(plan: &Plan, event: &PlainEvent, place: usize) -> bool
     true
 }
 
-/// Whether the event at a place is after all that it refers to.
+/// Whether the event at a place is after all that it refers to. A blob, at which it doesn't look, refers to nothing.
 pub fn is_ready_at(plan: &Plan, place: usize) -> bool
     requires { place < length plan.now.after }
     ensures { (event : _) → slice_get plan.now.after place ≡ Some event →
         OnTrue result (is_ready (take place plan.now.after) event ≡ true) }
 {
-    is_after(plan, plan.nth(place), place)
+    match plan.after().id_at(place) {
+        AnyId::Blob(_) => true,
+        _ => is_after(plan, plan.nth(place), place),
+    }
 }
 
 // Whether each event is after all that it refers to. Then the list is its own settled order.
@@ -83,7 +86,7 @@ fn is_settled(plan: &Plan) -> bool
     ensures { OnTrue result (settle plan.now.after ≡ Ok plan.now.after) }
 {
     for place in 0..plan.count() {
-        if !is_after(plan, plan.nth(place), place) {
+        if !is_ready_at(plan, place) {
             return false;
         }
     }

@@ -5,6 +5,7 @@ use Rattle.std.specs.List.{AllByRecursion}
 use Rattle.std.proofs.lemmas.List.{take-append-drop}
 use Rattle.std.proofs.lemmas.Option.{none-some, same_Some}
 use Rattle.plain_model.specs.declared.id.AnyId.{AnyId}
+use Rattle.plain_model.specs.declared.id.AnyId.TheVariants as any
 use Rattle.plain_model.specs.declared.operation.FileOp.{FileOp}
 use Rattle.plain_model.specs.declared.operation.FileOp.TheVariants.{DeleteAll}
 use Rattle.plain_model.specs.declared.person.Signed.{Signed}
@@ -209,6 +210,14 @@ not_moved t (Blob id mark bytes) no_tag no_reset = refl
 not_moved t (Tag id name target tagger comment mark) no_tag no_reset = absurd (no_tag id name target tagger comment mark refl)
 not_moved t (Reset id branch target) no_tag no_reset = absurd (no_reset id branch target refl)
 not_moved t (Pass id line) no_tag no_reset = refl
+
+-- a blob stays as it is
+pub blob_fated : (set : List AnyId) (events : List PlainEvent) (e : PlainEvent) (n : ℕ) → id_of e ≡ any.Blob n → given_way Same e ≡ fated set events e
+blob_fated set events (Blob id mark bytes) n is = refl
+blob_fated set events (Commit id mark branch author committer encoding comment parents ops aliases) n is = absurd cc
+blob_fated set events (Tag id name target tagger comment mark) n is = absurd cc
+blob_fated set events (Reset id branch target) n is = absurd cc
+blob_fated set events (Pass id line) n is = absurd cc
 
 -- a tag or a reset that isn't one of the set, and what is no commit, is what becomes of it
 module _ (set : List AnyId) (events : List PlainEvent) where

@@ -10,6 +10,7 @@ use Rattle.plain_model.specs.declared.operation.FileOp.TheVariants.{Modify, Dele
 use Rattle.plain_model.specs.declared.event.PlainEvent.{PlainEvent}
 use Rattle.plain_model.specs.declared.event.PlainEvent.TheVariants.{Blob, Commit, Tag, Reset, Pass}
 use Rattle.plain_model.specs.Histories.{nodes}
+use Rattle.plain_model.specs.Lookups.{event_ops}
 use Rattle.plain_model.specs.Paths.{Bytes, do_conflict, is_below}
 use Rattle.history_laws.proofs.Lists.{all_imply, all_join}
 use Rattle.edit_laws.proofs.Lists.{events_of_nodes}
@@ -77,6 +78,14 @@ events_noted old new more events k e at before own =
     (λ x a. all_imply (λ n. AllByRecursion (IsNoted old) n.ops) (λ n. AllByRecursion (IsNoted new) n.ops) (λ n b. all_imply (IsNoted old) (IsNoted new) (still_noted old new more) n.ops b) (nodes (x ∷ [])) a)
     (take k events) before)
     (own, tt))
+
+-- what its operations name is what an event names
+pub event_named : (P : FileOp → Type 0) (e : PlainEvent) → AllByRecursion P (event_ops e) → AllOps P (e ∷ [])
+event_named P (Commit id mark branch author committer encoding comment parents ops aliases) all = (all, tt)
+event_named P (Blob id mark bytes) all = tt
+event_named P (Tag id name target tagger comment mark) all = tt
+event_named P (Reset id branch target) all = tt
+event_named P (Pass id line) all = tt
 
 pub whole_noted : (named : Named) (events : List PlainEvent) → AllByRecursion (λ x. AllOps (IsNoted named) (x ∷ [])) events → AllOps (IsNoted named) events
 whole_noted named events a = events_of_nodes (λ n. AllByRecursion (IsNoted named) n.ops) events a

@@ -1,5 +1,5 @@
 //! Which commits are emptied.
-ghost use Rattle.std.specs.Prelude.{◌≡◌, Bool, length, IfOk};
+ghost use Rattle.std.specs.Prelude.{◌≡◌, ◌<◌, Bool, Some, length, slice_get, IfOk};
 ghost use Rattle.expunge_laws.specs.Expunged.{
   emptied,
   is_emptied,
@@ -9,22 +9,24 @@ ghost use Rattle.expunge_laws.specs.Expunged.{
 ghost use Rattle.plain_model.specs.Paths.{Bytes};
 
 use event_arena::Plan;
-use plain_model::{IdList, NoMemory, PlainEvent};
+use plain_model::{IdList, NoMemory};
 use std::alloc::Global;
 
-// Whether a commit had an operation, has none left, and is no merge.
-fn is_emptied(old: &PlainEvent, new: &PlainEvent) -> bool
-    ensures { (matched : Bytes → Bool) (events : _) →
-        new.now ≡ replaced_event matched events old.now →
-        result ≡ is_emptied matched events old.now }
+// Whether the commit at a place had an operation, has none left, and is no merge.
+fn is_emptied_at(plan: &Plan, place: usize) -> bool
+    requires before { place < length plan.now.before }
+    requires after { place < length plan.now.after }
+    ensures { (matched : Bytes → Bool) (events : _) (old new : _) →
+        slice_get plan.now.before place ≡ Some old → slice_get plan.now.after place ≡ Some new →
+        new ≡ replaced_event matched events old →
+        result ≡ is_emptied matched events old }
 {
-    let PlainEvent::Commit { parents, ops, .. } = old else {
-        return false;
-    };
-    if ops.as_slice().is_empty() || !new.ops().is_empty() {
+    let old = plan.before();
+    let new = plan.after();
+    if old.ops_at(place).is_empty() || !new.ops_at(place).is_empty() {
         return false;
     }
-    match parents.as_slice() {
+    match old.parents_at(place) {
         [] => true,
         [_] => true,
         _ => false,
@@ -39,10 +41,10 @@ pub fn emptied(alloc: Global, plan: &Plan) -> Result<IdList, NoMemory>
         ids ≡ emptied matched plan.now.before) }
 {
     let mut ids = IdList::new(alloc)?;
+    let old = plan.before();
     for place in 0..plan.old_count() {
-        let old = plan.old_nth(place);
-        if is_emptied(old, plan.nth(place)) {
-            ids.push(old.id())?;
+        if is_emptied_at(plan, place) {
+            ids.push(old.id_at(place))?;
         }
     }
     Ok(ids)

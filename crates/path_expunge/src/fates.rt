@@ -20,7 +20,7 @@ ghost use Rattle.plan_steps.specs.Ways.{AreBack};
 ghost use Rattle.squash_laws.specs.Takings.{back_of};
 ghost use Rattle.plain_model.specs.declared.policy.Lean.TheVariants as lean;
 
-use plain_model::{CommitId, NoMemory, ParentList, PlainEvent};
+use plain_model::{AnyId, CommitId, NoMemory, ParentList, PlainEvent};
 use plan_steps::{Selected, lost_at, target_at, target_of, way_at};
 use std::alloc::Global;
 
@@ -169,6 +169,10 @@ fn fate_at(
 {
     let _count = removal.count();
     if removal.has_at(place) {
+        return Ok(Fate::Same);
+    }
+    // Blobs aren't looked at.
+    if let AnyId::Blob(_) = removal.list().id_at(place) {
         return Ok(Fate::Same);
     }
     let event = removal.nth(place);

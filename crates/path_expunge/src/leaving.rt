@@ -1,5 +1,5 @@
 //! What names a matched path is left out, where paths stand apart.
-ghost use Rattle.std.specs.Prelude.{◌≡◌, Some, filter, map, not, IfOk, OnOk};
+ghost use Rattle.std.specs.Prelude.{◌≡◌, ◌<◌, Some, filter, length, map, not, slice_get, IfOk, OnOk};
 ghost use Rattle.std.specs.List.{list_any};
 ghost use Rattle.event_arena.specs.Changes.{changed};
 ghost use Rattle.expunge_laws.specs.Apart.{event_without};
@@ -8,7 +8,7 @@ ghost use Rattle.plain_model.specs.Lookups.{find_event, id_of};
 
 use crate::naming::Named;
 use event_arena::{Events, Plan};
-use plain_model::{Copied, FileOp, NoMemory, OpList, PlainEvent};
+use plain_model::{Copied, FileOp, NoMemory, OpList};
 use std::alloc::Global;
 
 // Whether some operation names a path that is taken out.
@@ -36,26 +36,31 @@ fn ops_left(alloc: Global, named: &Named<'_>, ops: &[FileOp]) -> Result<OpList, 
     Ok(left)
 }
 
-// Takes what names such a path out of the commit at a place.
+// Takes what names such a path out of the commit at a place. At an event that is no commit it doesn't look.
 fn leave_out_at(
     alloc: Global,
+    events: &Events,
     named: &Named<'_>,
     plan: &mut Plan,
-    event: &PlainEvent,
+    place: usize,
 ) -> Result<(), NoMemory>
-    requires { find_event (id_of event.now) plan.old.after ≡ Some event.now }
-    ensures { OnOk result (plan.new ≡ record plan.old {
-      after = changed (id_of event.now) (event_without (takes named.now)) plan.old.after;
-    }) }
+    requires place { place < length events.now.list }
+    requires found { (event : _) → slice_get events.now.list place ≡ Some event →
+        find_event (id_of event) plan.old.after ≡ Some event }
+    ensures { (event : _) → slice_get events.now.list place ≡ Some event →
+        OnOk result (plan.new ≡ record plan.old {
+          after = changed (id_of event) (event_without (takes named.now)) plan.old.after;
+        }) }
 {
-    let PlainEvent::Commit { id, ops, .. } = event else {
+    let Some(id) = events.table().commit_at(place) else {
         return Ok(());
     };
-    if !takes_any(named, ops.as_slice()) {
+    let ops = events.table().ops_at(place);
+    if !takes_any(named, ops) {
         return Ok(());
     }
-    let left = ops_left(alloc, named, ops.as_slice())?;
-    plan.set_ops(*id, left)
+    let left = ops_left(alloc, named, ops)?;
+    plan.set_ops(id, left)
 }
 
 /// Takes what names a path that is taken out of all commits, in one pass.
@@ -71,7 +76,7 @@ pub fn leave_out(
     }) }
 {
     for place in 0..events.count() {
-        leave_out_at(alloc, named, plan, events.nth(place))?;
+        leave_out_at(alloc, events, named, plan, place)?;
     }
     Ok(())
 }

@@ -1,5 +1,5 @@
 //! Whether the paths that a history names stand apart: those that are matched from the others.
-ghost use Rattle.std.specs.Prelude.{◌≡◌, ◌∷◌, [], Bool, IfOk, IfSome, IsTrue, OnOk};
+ghost use Rattle.std.specs.Prelude.{◌≡◌, Bool, IfOk, IfSome, IsTrue, OnOk};
 ghost use Rattle.std.specs.List.{AllByRecursion};
 ghost use Rattle.expunge_laws.specs.Apart.{AllOps};
 ghost use Rattle.expunge_laws.specs.Matching.{matched_by};
@@ -9,7 +9,7 @@ ghost use Rattle.plain_model.specs.Paths.{Bytes};
 use crate::matching::Matching;
 use crate::sides::{Side, is_deep};
 use event_arena::Events;
-use plain_model::{FileOp, NoMemory, PlainEvent};
+use plain_model::{FileOp, NoMemory};
 use std::alloc::Global;
 
 /// The paths that operations name: those that are matched and are taken out, and those that are left.
@@ -116,25 +116,6 @@ impl<'a> Named<'a> {
         Ok(true)
     }
 
-    // Notes what the operations of an event name.
-    fn note_event(
-        &mut self,
-        matching: &mut Matching<'_>,
-        event: &'a PlainEvent,
-    ) -> Result<bool, NoMemory>
-        requires { AreSides (matched_by matching.old) self.old }
-        ensures sides { OnOk result (AreSides (matched_by matching.old) self.new) }
-        ensures more { OnOk result (GoesOn self.old self.new) }
-        ensures noted { IfOk result
-            (λ noted. IsTrue noted → AllOps (IsNoted self.new) (event.now ∷ [])) }
-        ensures same { matching.new ≡ matching.old }
-    {
-        match event {
-            PlainEvent::Commit { ops, .. } => self.note_ops(matching, ops.as_slice()),
-            _ => Ok(true),
-        }
-    }
-
     // Notes what a whole history names.
     fn note_all(
         &mut self,
@@ -148,7 +129,7 @@ impl<'a> Named<'a> {
         ensures same { matching.new ≡ matching.old }
     {
         for place in 0..events.count() {
-            if !self.note_event(matching, events.nth(place))? {
+            if !self.note_ops(matching, events.table().ops_at(place))? {
                 return Ok(false);
             }
         }

@@ -16,7 +16,7 @@ use crate::fates::{Fate, fates};
 use crate::giving::give_all;
 use event_arena::Plan;
 use plain_model::{AnyId, IdList, Lean, NoMemory};
-use plan_steps::{Leads, Selected, leaving_ids, moved_targets};
+use plan_steps::{Selected, leaving_ids, moved_targets, ways_back};
 use std::alloc::Global;
 
 // Which events go, and what becomes of all.
@@ -36,10 +36,10 @@ fn prepare(alloc: Global, plan: &Plan, set: &[AnyId]) -> Result<Prepared, NoMemo
         IsTable Fate.Same (FateIs set.now plan.now.after) plan.now.after prepared.fates.items) }
 {
     let removal = Selected::after(alloc, plan, set)?;
-    let leads = Leads::of(alloc, &removal)?;
-    let targets = moved_targets(alloc, &removal, &leads, Lean::Forward)?;
+    let back = ways_back(alloc, &removal)?;
+    let targets = moved_targets(alloc, &removal, Lean::Forward)?;
     let ids = leaving_ids(alloc, &removal, &targets)?;
-    let fates = fates(alloc, &removal, &leads.back, &targets)?;
+    let fates = fates(alloc, &removal, &back, &targets)?;
     Ok(Prepared { ids, fates })
 }
 

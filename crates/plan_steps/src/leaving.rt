@@ -21,7 +21,7 @@ ghost use Rattle.squash_laws.specs.Removed.{Takings};
 
 use crate::selection::Selected;
 use crate::targets::{lost_at, target_at};
-use plain_model::{CommitId, IdList, NoMemory, PlainEvent};
+use plain_model::{AnyId, CommitId, IdList, NoMemory};
 use std::alloc::Global;
 
 // Whether the tag or the reset at a place is on a removed commit, and no other is left for it.
@@ -39,8 +39,8 @@ fn goes(removal: &Selected, targets: &[Option<CommitId>], place: usize) -> bool
     ensures { (takes : Takings) (event : _) → AreMoves removal.now.set takes.target removal.now.events targets.now →
         slice_get removal.now.events place ≡ Some event → result ≡ goes removal.now.set takes event }
 {
-    match removal.nth(place) {
-        PlainEvent::Blob { .. } => false,
+    match removal.list().id_at(place) {
+        AnyId::Blob(_) => false,
         _ => removal.has_at(place) || is_lost(removal, targets, place),
     }
 }
@@ -60,7 +60,7 @@ pub fn leaving_ids(
     let mut place = removal.next_near(0);
     while place < count {
         if goes(removal, targets, place) {
-            ids.push(removal.nth(place).id())?;
+            ids.push(removal.list().id_at(place))?;
         }
         place = removal.next_near(place + 1);
     }

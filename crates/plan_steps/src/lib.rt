@@ -29,4 +29,4 @@ pub use selected::{chosen, event_number, kind_fault, the_commit};
 pub use selection::Selected;
 pub use sweeping::{flag_blobs, sweep, sweep_removed};
 pub use targets::{Targets, lost_at, moved_targets, target_at, target_of, targets_of};
-pub use ways::{Leads, way_at, ways_back};
+pub use ways::{way_at, ways_back};

@@ -14,7 +14,9 @@ ghost use Rattle.plain_model.specs.declared.limit.TheConstants.{
 ghost use Rattle.plan_steps.specs.Counts.{IsSum, count_of};
 
 use event_arena::Plan;
-use plain_model::{Fault, MAX_ALIASES, MAX_EVENTS, MAX_OPERATIONS, MAX_PARENTS, PlainEvent, Which};
+use plain_model::{
+    CommitId, Fault, MAX_ALIASES, MAX_EVENTS, MAX_OPERATIONS, MAX_PARENTS, PlainEvent, Which,
+};
 
 /// What is counted of all events together.
 #[derive(Clone, Copy)]
@@ -120,14 +122,11 @@ pub fn has_many_events(plan: &Plan) -> bool
     MAX_EVENTS < plan.count() as u64
 }
 
-// Whether an event has more parents than a commit may have.
-fn has_too_many(event: &PlainEvent) -> bool
-    ensures { result ≡ nat_lt MAX_PARENTS (length (event_parents event.now)) }
+// Whether these are more parents than a commit may have.
+fn has_too_many(parents: &[CommitId]) -> bool
+    ensures { result ≡ nat_lt MAX_PARENTS (length parents.now) }
 {
-    match event {
-        PlainEvent::Commit { parents, .. } => MAX_PARENTS < parents.as_slice().len() as u64,
-        _ => false,
-    }
+    MAX_PARENTS < parents.len() as u64
 }
 
 /// Whether one of its commits has more parents than a commit may have.
@@ -136,7 +135,7 @@ pub fn has_many_parents(plan: &Plan) -> bool
         ≡ list_any (λ e. nat_lt MAX_PARENTS (length (event_parents e))) plan.now.after }
 {
     for place in 0..plan.count() {
-        if has_too_many(plan.nth(place)) {
+        if has_too_many(plan.after().parents_at(place)) {
             return true;
         }
     }

@@ -61,8 +61,9 @@ fn named_before(alloc: Global, plan: &Plan) -> Result<Vec<bool>, NoMemory>
     ensures { IfOk result (λ flags. FlagsNamed plan.now.after plan.now.before flags.items) }
 {
     let mut flags = vec![in alloc; false; plan.count()]?;
+    let old = plan.before();
     for place in 0..plan.old_count() {
-        flag_blobs(plan, plan.old_nth(place).ops(), &mut flags);
+        flag_blobs(plan, old.ops_at(place), &mut flags);
     }
     Ok(flags)
 }
@@ -150,7 +151,7 @@ fn named_after(alloc: Global, plan: &Plan) -> Result<Vec<bool>, NoMemory>
 {
     let mut flags = vec![in alloc; false; plan.count()]?;
     for place in 0..plan.count() {
-        flag_blobs(plan, plan.nth(place).ops(), &mut flags);
+        flag_blobs(plan, plan.after().ops_at(place), &mut flags);
     }
     Ok(flags)
 }

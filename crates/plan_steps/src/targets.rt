@@ -16,6 +16,7 @@ ghost use Rattle.std.specs.Prelude.{
   OnOk,
 };
 ghost use Rattle.std.specs.List.{list_any};
+ghost use Rattle.event_arena.specs.Changes.{has_target};
 ghost use Rattle.plain_model.specs.Lookups.{find_event};
 ghost use Rattle.plain_model.specs.declared.id.AnyId.TheVariants.{Commit};
 ghost use Rattle.plan_steps.specs.Targets.{AreMoves, EndsWith, lost_target, moving, target_for};
@@ -25,7 +26,7 @@ ghost use Rattle.squash_laws.specs.Takings.{moved, takes};
 
 use crate::selection::Selected;
 use crate::ways::Leads;
-use plain_model::{CommitId, Lean, NoMemory, PlainEvent, Policy, Push};
+use plain_model::{AnyId, CommitId, Lean, NoMemory, PlainEvent, Policy, Push};
 use std::alloc::Global;
 
 /// For the place of each tag and reset of a removed commit the commit to which it goes, if there is one. Where it ends,
@@ -54,13 +55,27 @@ pub fn target_at(targets: &[Option<CommitId>], place: usize) -> Option<CommitId>
     }
 }
 
-/// The removed commit that the tag or the reset at a place is on, if it is on one.
+// Whether an id is a tag's or a reset's.
+fn is_pointer(id: AnyId) -> bool
+    ensures { result ≡ has_target id }
+{
+    match id {
+        AnyId::Tag(_) => true,
+        AnyId::Reset(_) => true,
+        _ => false,
+    }
+}
+
+/// The removed commit that the tag or the reset at a place is on, if it is on one. At other events it doesn't look.
 pub fn lost_at(removal: &Selected, place: usize) -> Option<CommitId>
     requires { place < length removal.now.events }
     ensures { (event : _) → slice_get removal.now.events place ≡ Some event →
         result ≡ lost_target removal.now.set event }
 {
     let _count = removal.count();
+    if !is_pointer(removal.list().id_at(place)) {
+        return None;
+    }
     let target = target_of(removal.nth(place))?;
     if removal.has(target) {
         Some(target)
@@ -123,8 +138,8 @@ fn end_with(table: &mut Targets, place: usize, target: CommitId) -> Result<(), N
     Ok(())
 }
 
-/// Tags and resets of removed commits, which all are near, move to commits that stay.
-pub fn moved_targets(
+// Where tags and resets of removed commits go by these ways. All of them are near.
+fn targets_by(
     alloc: Global,
     removal: &Selected,
     leads: &Leads,
@@ -147,16 +162,16 @@ pub fn moved_targets(
     Ok(table)
 }
 
-// The same, where ways are looked for only if some tag or reset is on a removed commit.
-fn moved_if_lost(alloc: Global, removal: &Selected, tags: Lean) -> Result<Targets, NoMemory>
+/// Tags and resets of removed commits move to commits that stay. Ways are looked for only if there are any.
+pub fn moved_targets(alloc: Global, removal: &Selected, tags: Lean) -> Result<Targets, NoMemory>
     ensures { IfOk result (λ table. AreMoves removal.now.set
         (moving removal.now.set removal.now.events tags) removal.now.events table.items) }
 {
     if !is_any_lost(removal) {
         return Ok(Vec::new(alloc));
     }
-    let leads = Leads::of_removed(alloc, removal)?;
-    moved_targets(alloc, removal, &leads, tags)
+    let leads = Leads::of(alloc, removal)?;
+    targets_by(alloc, removal, &leads, tags)
 }
 
 /// Where all tags and resets of removed commits go; nowhere, where commits are discarded.
@@ -165,7 +180,7 @@ pub fn targets_of(alloc: Global, removal: &Selected, how: Policy) -> Result<Targ
         (takes removal.now.set removal.now.events how).target removal.now.events table.items) }
 {
     match how.push {
-        Push::Forward | Push::Back => moved_if_lost(alloc, removal, how.tags),
+        Push::Forward | Push::Back => moved_targets(alloc, removal, how.tags),
         Push::Discard => Ok(Vec::new(alloc)),
     }
 }

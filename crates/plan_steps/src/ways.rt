@@ -32,7 +32,7 @@ ghost use Rattle.squash_laws.specs.Removed.{is_removed};
 ghost use Rattle.squash_laws.specs.Takings.{back_of};
 
 use crate::selection::Selected;
-use plain_model::{CommitId, NoMemory, PlainEvent};
+use plain_model::{CommitId, NoMemory};
 use std::alloc::Global;
 
 /// For the place of each commit a commit, if there is one.
@@ -64,19 +64,15 @@ fn back_at(removal: &Selected, ways: &[Option<CommitId>], place: usize) -> Optio
         result ≡ option_and_then (back_of removal.now.set removal.now.events) (commit_id event) }
 {
     let _count = removal.count();
-    match removal.nth(place) {
-        PlainEvent::Commit { id, parents, .. } => {
-            if !removal.has_at(place) {
-                return Some(*id);
-            }
-            let parent = parents.as_slice().first()?;
-            back_of(removal, ways, *parent)
-        }
-        _ => None,
+    let id = removal.list().commit_at(place)?;
+    if !removal.has_at(place) {
+        return Some(id);
     }
+    let parent = removal.nth(place).parents().first()?;
+    back_of(removal, ways, *parent)
 }
 
-/// The ways back, in one pass.
+/// The ways back of all commits, in one pass.
 pub fn ways_back(alloc: Global, removal: &Selected) -> Result<Ways, NoMemory>
     ensures { IfOk result (λ ways. AreBack removal.now.set removal.now.events ways.items) }
 {
@@ -159,9 +155,9 @@ fn lead_parents(removal: &Selected, place: usize, ways: &mut [Option<CommitId>])
     ensures { AreForwardFrom removal.now.set removal.now.events place ways.new }
 {
     let _count = removal.count();
-    if let PlainEvent::Commit { id, parents, .. } = removal.nth(place) {
-        let way = stand_in(removal, ways, place, *id);
-        lead(removal, parents.as_slice(), &way, ways);
+    if let Some(id) = removal.list().commit_at(place) {
+        let way = stand_in(removal, ways, place, id);
+        lead(removal, removal.nth(place).parents(), &way, ways);
     }
 }
 
@@ -188,22 +184,8 @@ pub struct Leads {
 }
 
 impl Leads {
-    /// With the ways back of all other commits besides, in a pass over all events.
-    pub fn of(alloc: Global, removal: &Selected) -> Result<Leads, NoMemory>
-        ensures back { IfOk result
-            (λ leads. AreBack removal.now.set removal.now.events leads.back.items) }
-        ensures removed { IfOk result
-            (λ leads. AreBackOfRemoved removal.now.set removal.now.events leads.back.items) }
-        ensures forward { IfOk result
-            (λ leads. AreForward removal.now.set removal.now.events leads.forward.items) }
-    {
-        let back = ways_back(alloc, removal)?;
-        let forward = ways_forward(alloc, removal)?;
-        Ok(Leads { back, forward })
-    }
-
     /// Of removed commits alone, looked for near them.
-    pub fn of_removed(alloc: Global, removal: &Selected) -> Result<Leads, NoMemory>
+    pub fn of(alloc: Global, removal: &Selected) -> Result<Leads, NoMemory>
         ensures removed { IfOk result
             (λ leads. AreBackOfRemoved removal.now.set removal.now.events leads.back.items) }
         ensures forward { IfOk result

@@ -1,4 +1,5 @@
 use Rattle.std.proofs.Common.{◌≡◌, ◌∙◌, ◌∷◌, [], ◌+◌, ◌<◌, List, true, false, cond, length, filter, map, add-one, append-nil, arith, ap, sym}
+use Rattle.std.specs.Prelude.{slice_get}
 use Rattle.plain_model.specs.declared.id.AnyId.{AnyId}
 use Rattle.plain_model.specs.declared.event.PlainEvent.{PlainEvent}
 use Rattle.plain_model.specs.Lookups.{id_of}
@@ -29,11 +30,13 @@ loop-place-preserved c =
     let one_more : GoingTo set events c.args.targets.now c.if-goes.ids (place + 1) =
     λ takes t. elim c.if-goes.branch [
       | then-goes+in_ok-push w ↦
-          let e = w.nth.result.now in
-          let test : goes set takes e ≡ true = sym (c.goes.ensures takes e t w.nth.ensures.event) ∙ w.if-goes.true in
+          let at = w.id_at.ensures in
+          let e = at.0 in
+          let here = ap (λ es. slice_get es place) (sym w.list.ensures) ∙ at.1 in
+          let test : goes set takes e ≡ true = sym (c.goes.ensures takes e t here) ∙ w.if-goes.true in
           w.ids-is ∙ w.in_ok-push.ensures.ok
-          ∙ rw add-one (passing_item (goes set takes) events place e c.loop-place.ids (w.id.result ∷ []) w.nth.ensures.event (c.loop-place.invariant.going takes t)
-          (ap (λ (id : AnyId). id ∷ []) w.id.ensures ∙ sym (ap (λ b. cond b (id_of e ∷ []) []) test)))
+          ∙ rw add-one (passing_item (goes set takes) events place e c.loop-place.ids (w.id_at.result ∷ []) here (c.loop-place.invariant.going takes t)
+          (ap (λ (id : AnyId). id ∷ []) at.2 ∙ sym (ap (λ b. cond b (id_of e ∷ []) []) test)))
       | else-goes w ↦
           let item = item_at events place within in
           let test : goes set takes item.0 ≡ false = sym (c.goes.ensures takes item.0 t item.1) ∙ w.if-goes.false in

@@ -1,7 +1,7 @@
 use Rattle.std.proofs.Common.{◌≤◌, ◌-◌, length}
 use Rattle.squash_laws.specs.Takings.{moved}
 use Rattle.plan_steps.proofs.TargetLemmas.{AreMovesTo}
-use Rattle.plan_steps.proofs.targets.moved_targets.Given as goal
+use Rattle.plan_steps.proofs.targets.targets_by.Given as goal
 
 abbrev pub invariant-loop-place : goal.invariant-loop-place
 invariant-loop-place l = record {
