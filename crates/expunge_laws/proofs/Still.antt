@@ -135,7 +135,7 @@ module _ (matched : Bytes → Bool) where
       go (Err why) f = refl
 
   module _ (events : List PlainEvent) where
-    not_by_name : (e : PlainEvent) → may_be_touched matched e ≡ false → is_touched matched events e ≡ false
+    pub not_by_name : (e : PlainEvent) → may_be_touched matched e ≡ false → is_touched matched events e ≡ false
     not_by_name (Commit id mark branch author committer encoding comment parents ops aliases) h = names_alone ops (unwrap_or (begun (tree events) parents) []) h
     not_by_name (Blob id mark bytes) h = refl
     not_by_name (Tag id name target tagger comment mark) h = refl

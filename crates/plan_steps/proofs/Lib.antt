@@ -1,6 +1,7 @@
 pub mod Along
 pub mod Counting
 pub mod Depths
+pub mod KeptNames
 pub mod LeavingLemmas
 pub mod NearLemmas
 pub mod NearPlaces

@@ -21,7 +21,8 @@ use Rattle.event_arena.proofs.ListLemmas.{take_item}
 use Rattle.edit_laws.specs.Sweeping.{is_left_over, is_named, swept}
 use Rattle.graph_walk.proofs.FlagLemmas.{no_flag}
 use Rattle.graph_walk.proofs.PlaceLemmas.{place_found, place_within}
-use Rattle.plan_steps.specs.Flags.{AreCandidates, FlagsAdd, FlagsAll, FlagsIds, FlagsNamed, FlagsSome, KeepNames, event_blobs}
+use Rattle.graph_walk.specs.Flags.{flag_at}
+use Rattle.plan_steps.specs.Flags.{AreCandidates, FlagsAdd, FlagsAll, FlagsIds, FlagsNamed, FlagsSome, KeepNames, OthersKeepNames, event_blobs, is_touched}
 
 -- ---- flags that are added
 
@@ -186,19 +187,24 @@ any_either test p (e ∷ es) h = elim (or_cases (test e) (list_any test es) h) [
   ]
 ]
 
--- all that removed commits named, where the others keep what they name
-pub removed_candidates : (ids : List AnyId) (old new : List PlainEvent) (flags : List Bool) → KeepNames ids old new →
-    FlagsNamed new (filter (λ e. is_listed (id_of e) ids) old) flags → AreCandidates old new flags
-removed_candidates ids old new flags keep f = record {
+-- all that some events named, where the others keep what they name
+pub other_candidates : (test : PlainEvent → Bool) (old new : List PlainEvent) (flags : List Bool) → OthersKeepNames test old new →
+    FlagsNamed new (filter test old) flags → AreCandidates old new flags
+other_candidates test old new flags keep f = record {
   count = f.count;
-  named = λ k e at on. any_filtered (λ d. is_listed (id_of e) (event_blobs d)) (λ d. is_listed (id_of d) ids) old (sym (f.flag k e at) ∙ on);
+  named = λ k e at on. any_filtered (λ d. is_listed (id_of e) (event_blobs d)) test old (sym (f.flag k e at) ∙ on);
   over = λ k e at t.
       let parts = over_parts old new e t in
-      f.flag k e at ∙ elim (any_either (λ d. is_listed (id_of e) (event_blobs d)) (λ d. is_listed (id_of d) ids) old parts.0) [
+      f.flag k e at ∙ elim (any_either (λ d. is_listed (id_of e) (event_blobs d)) test old parts.0) [
         | inl some ↦ some
         | inr o ↦ absurd (true≢false (sym (keep o.place o.event (id_of e) o.at o.out o.passes) ∙ parts.1))
       ];
 }
+
+-- the flag of an event is the one at its place
+pub touched_here : (flags : List Bool) (events : List PlainEvent) → AreDistinct events → (k : ℕ) (e : PlainEvent) → slice_get events k ≡ Some e →
+    is_touched flags events e ≡ get_or flags k false
+touched_here flags events once k e at = ap (flag_at flags) (place_found events k e at once).0
 
 -- where each of them has a flag, and what has one is named after, none is left over
 pub none_over : (ids : List AnyId) (old new : List PlainEvent) (near : List Bool) → KeepNames ids old new →

@@ -1,9 +1,11 @@
 -- Tables that have an entry for each event of a list, made from the front.
-use Rattle.std.proofs.Common.{◌≡◌, ◌∙◌, ℕ, zero, suc, ◌<◌, List, [], ◌∷◌, ◌++◌, refl, ap, length, get_or, take, drop, append-nil, arith}
+use Rattle.std.proofs.Common.{◌≡◌, ◌∙◌, ℕ, zero, suc, ◌<◌, Bool, false, List, [], ◌∷◌, ◌++◌, Some, refl, ap, length, get_or, take, drop, map, append-nil, arith}
 use Rattle.std.proofs.Math.ListN.{drop_of_length-le}
-use Rattle.std.proofs.lemmas.Option.{slice_get_within}
+use Rattle.std.proofs.lemmas.List.{map-append}
+use Rattle.std.proofs.lemmas.Option.{none-some, same_Some, slice_get_within}
+use Rattle.std.specs.Prelude.{slice_get}
 use Rattle.plain_model.specs.declared.event.PlainEvent.{PlainEvent}
-use Rattle.event_arena.proofs.ListLemmas.{take_all}
+use Rattle.event_arena.proofs.ListLemmas.{take_all, take_item}
 use Rattle.plan_steps.specs.Tables.{IsTable, IsTableTo}
 
 -- what stands at a place doesn't hang on what stands past the end
@@ -24,3 +26,13 @@ module _ {X : Type 0} (default : X) (ok : PlainEvent → X → Type 0) (events :
     count = t.count ∙ whole;
     entry = λ j e at. t.entry j e at (let low = slice_get_within events j e at in omega arith);
   }
+
+-- ---- flags by a test
+
+pub map_at : (f : PlainEvent → Bool) (es : List PlainEvent) (k : ℕ) (e : PlainEvent) → slice_get es k ≡ Some e → get_or (map f es) k false ≡ f e
+map_at f [] k e h = absurd (none-some e h)
+map_at f (x ∷ es) zero e h = ap f (same_Some x e h)
+map_at f (x ∷ es) (suc k) e h = map_at f es k e h
+
+pub map_push : (f : PlainEvent → Bool) (es : List PlainEvent) (k : ℕ) (e : PlainEvent) → slice_get es k ≡ Some e → map f (take (suc k) es) ≡ map f (take k es) ++ f e ∷ []
+map_push f es k e at = ap (map f) (take_item es k e at) ∙ map-append f (take k es) (e ∷ [])

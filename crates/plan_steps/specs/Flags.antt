@@ -5,6 +5,7 @@ use Rattle.plain_model.specs.declared.id.AnyId.{AnyId}
 use Rattle.plain_model.specs.declared.event.PlainEvent.{PlainEvent}
 use Rattle.plain_model.specs.Lookups.{event_ops, id_of, is_listed, op_blobs}
 use Rattle.edit_laws.specs.Sweeping.{is_left_over}
+use Rattle.graph_walk.specs.Flags.{is_flagged}
 
 -- the events with these ids get flags, and the others keep theirs
 pub record FlagsAdd (events : List PlainEvent) (ids : List AnyId) (old new : List Bool) : Type 0 where
@@ -46,7 +47,15 @@ pub record AreCandidates (old new : List PlainEvent) (flags : List Bool) : Type 
       list_any (λ d. is_listed (id_of e) (event_blobs d)) old ≡ true
   pub over : (k : ℕ) (e : PlainEvent) → slice_get new k ≡ Some e → is_left_over old new e ≡ true → slice_index_or flags k false ≡ true
 
--- what an event names that isn't one of the set is named after too
-abbrev pub KeepNames : List AnyId → List PlainEvent → List PlainEvent → Type 0
-KeepNames set old new = (k : ℕ) (d : PlainEvent) (id : AnyId) → slice_get old k ≡ Some d → is_listed (id_of d) set ≡ false →
+-- the event is at a place that has a flag
+abbrev pub is_touched : List Bool → List PlainEvent → PlainEvent → Bool
+is_touched flags events e = is_flagged flags events (id_of e)
+
+-- what an event names that doesn't pass a test is named after too
+abbrev pub OthersKeepNames : (PlainEvent → Bool) → List PlainEvent → List PlainEvent → Type 0
+OthersKeepNames test old new = (k : ℕ) (d : PlainEvent) (id : AnyId) → slice_get old k ≡ Some d → test d ≡ false →
     is_listed id (event_blobs d) ≡ true → list_any (λ e. is_listed id (event_blobs e)) new ≡ true
+
+-- and so what one names that isn't one of the set
+abbrev pub KeepNames : List AnyId → List PlainEvent → List PlainEvent → Type 0
+KeepNames set old new = OthersKeepNames (λ d. is_listed (id_of d) set) old new

@@ -21,7 +21,17 @@ ghost use Rattle.std.specs.Prelude.{
 };
 ghost use Rattle.edit_laws.specs.Sweeping.{is_left_over, swept};
 ghost use Rattle.plain_model.specs.Lookups.{id_of, is_listed, op_blobs};
-ghost use Rattle.plan_steps.specs.Flags.{AreCandidates, FlagsAdd, FlagsAll, FlagsIds, FlagsNamed, FlagsSome, KeepNames};
+ghost use Rattle.plan_steps.specs.Flags.{
+  AreCandidates,
+  FlagsAdd,
+  FlagsAll,
+  FlagsIds,
+  FlagsNamed,
+  FlagsSome,
+  KeepNames,
+  OthersKeepNames,
+  is_touched,
+};
 
 use crate::selection::Selected;
 use event_arena::Plan;
@@ -64,6 +74,22 @@ fn named_before(alloc: Global, plan: &Plan) -> Result<Vec<bool>, NoMemory>
     let old = plan.before();
     for place in 0..plan.old_count() {
         flag_blobs(plan, old.ops_at(place), &mut flags);
+    }
+    Ok(flags)
+}
+
+// Flags for the blobs that were named before where an edit has touched something.
+fn named_by_touched(alloc: Global, plan: &Plan, touched: &[bool]) -> Result<Vec<bool>, NoMemory>
+    requires { length touched.now ≡ length plan.now.before }
+    ensures { IfOk result (λ flags. FlagsNamed plan.now.after
+        (filter (is_touched touched.now plan.now.before) plan.now.before) flags.items) }
+{
+    let mut flags = vec![in alloc; false; plan.count()]?;
+    let old = plan.before();
+    for place in 0..plan.old_count() {
+        if touched[place] {
+            flag_blobs(plan, old.ops_at(place), &mut flags);
+        }
     }
     Ok(flags)
 }
@@ -231,5 +257,19 @@ pub fn sweep_removed(alloc: Global, removal: &Selected, plan: &mut Plan) -> Resu
         return Ok(());
     }
     let before = named_by_removed(alloc, removal, plan)?;
+    sweep_some(alloc, plan, &before)
+}
+
+/// The same, where an edit has touched the events before that have a flag, and the others keep what they name. Only blobs
+/// that touched events named can be left over.
+pub fn sweep_touched(alloc: Global, plan: &mut Plan, touched: &[bool]) -> Result<(), NoMemory>
+    requires touched { length touched.now ≡ length plan.old.before }
+    requires kept { OthersKeepNames (is_touched touched.now plan.old.before) plan.old.before plan.old.after }
+    ensures swept { OnOk result (plan.new ≡ record plan.old {
+      after = swept plan.old.before plan.old.after;
+    }) }
+    ensures err { OnErr result (plan.new ≡ plan.old) }
+{
+    let before = named_by_touched(alloc, plan, touched)?;
     sweep_some(alloc, plan, &before)
 }

@@ -1,7 +1,5 @@
 -- Flags of commits and of the blobs that they name, and the events that go with them.
-use Rattle.event_arena.proofs.ListLemmas.{take_item}
-use Rattle.std.proofs.Common.{◌≡◌, ◌∙◌, ℕ, zero, suc, ◌+◌, ◌<◌, Bool, true, false, not, ◌&&◌, ◌||◌, List, [], ◌∷◌, ◌++◌, Some, None, refl, sym, ap, subst, length, get_or, take, arith, filter, map, true≢false, IsTrue}
-use Rattle.std.proofs.lemmas.List.{map-append}
+use Rattle.std.proofs.Common.{◌≡◌, ◌∙◌, ℕ, zero, suc, ◌<◌, Bool, true, false, not, ◌&&◌, ◌||◌, List, [], ◌∷◌, Some, None, refl, sym, ap, subst, length, get_or, arith, filter, map, true≢false, IsTrue}
 use Rattle.std.proofs.lemmas.Option.{none-some, same_Some, slice_get_within}
 use Rattle.std.specs.List.{AllByRecursion, list_all}
 use Rattle.std.specs.Prelude.{is_some, slice_get}
@@ -17,18 +15,11 @@ use Rattle.divide_laws.specs.Sides.{goes, is_commit_among, is_early, is_named_am
 use Rattle.graph_walk.proofs.PlaceLemmas.{event_placed, has_id_place}
 use Rattle.plan_steps.specs.Flags.{FlagsNamed}
 use Rattle.plan_steps.proofs.SweepLemmas.{named_by_ops}
+use Rattle.plan_steps.proofs.Tables.{map_at}
 use Rattle.repo_divide.specs.BlobFlags.{AreBlobFlags, IsBlobFlag}
 use Rattle.repo_divide.proofs.WalkLemmas.{among_id}
 
 -- ---- flags by a test
-
-pub map_at : (f : PlainEvent → Bool) (es : List PlainEvent) (k : ℕ) (e : PlainEvent) → slice_get es k ≡ Some e → get_or (map f es) k false ≡ f e
-map_at f [] k e h = absurd (none-some e h)
-map_at f (x ∷ es) zero e h = ap f (same_Some x e h)
-map_at f (x ∷ es) (suc k) e h = map_at f es k e h
-
-pub map_push : (f : PlainEvent → Bool) (es : List PlainEvent) (k : ℕ) (e : PlainEvent) → slice_get es k ≡ Some e → map f (take (suc k) es) ≡ map f (take k es) ++ f e ∷ []
-map_push f es k e at = ap (map f) (take_item es k e at) ∙ map-append f (take k es) (e ∷ [])
 
 pub other_flag : (has : ℕ → Bool) (e : PlainEvent) → (is_commit_among (λ c. true) e && not (is_commit_among has e)) ≡ is_commit_among (is_early has) e
 other_flag has (Commit id mark branch author committer encoding comment parents ops aliases) = refl

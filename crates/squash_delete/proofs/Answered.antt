@@ -1,15 +1,7 @@
 -- What the steps of a squash answer is what is specified.
-use Rattle.std.proofs.Common.{◌≡◌, ◌∙◌, ℕ, zero, Bool, true, false, cond, not, inl, inr, List, [], ◌∷◌, ◌++◌, flat_map, Option, Some, None, Result, Ok, Err, refl, sym, ap, subst, suc, ◌≤◌, ◌<◌, filter, arith, length-append, map, true≢false}
-use Rattle.std.specs.List.{list_any}
-use Rattle.std.specs.Prelude.{nat_lt, length, slice_get}
-use Rattle.std.proofs.lemmas.Bool.{cases_Bool, or_left, or_right, lt-ltb}
-use Rattle.std.proofs.lemmas.Grind.{flat_map-append}
-use Rattle.std.proofs.lemmas.List.Folds.{list_any-append}
-use Rattle.std.proofs.lemmas.Option.{none-some, same_Some}
-use Rattle.plain_model.specs.Lookups.{is_listed, op_blobs, same_id}
-use Rattle.plain_model.specs.declared.operation.FileOp.{FileOp}
-use Rattle.edit_laws.specs.Removal.{expand_all}
-use Rattle.plan_steps.specs.Flags.{KeepNames, event_blobs}
+use Rattle.std.proofs.Common.{◌≡◌, ◌∙◌, ℕ, Bool, true, false, cond, not, List, [], ◌∷◌, Option, Some, None, Result, Ok, Err, refl, sym, ap, subst, suc, ◌≤◌, ◌<◌, filter, arith, length-append, map}
+use Rattle.std.specs.Prelude.{nat_lt, length}
+use Rattle.std.proofs.lemmas.Bool.{lt-ltb}
 use Rattle.plain_model.specs.declared.id.AnyId.{AnyId}
 use Rattle.plain_model.specs.declared.fault.Fault.{Fault}
 use Rattle.plain_model.specs.declared.fault.Fault.TheVariants as fault
@@ -34,10 +26,9 @@ use Rattle.plain_model.specs.Faults.{Returns}
 use Rattle.edit_laws.specs.Checking.{unless}
 use Rattle.graph_walk.specs.Outcome.{IsCauseOf}
 use Rattle.squash_laws.specs.Squash.{checked_after, fault_before, squash_of, trees_checked}
-use Rattle.squash_laws.specs.Removed.{Takings, is_removed, without_set}
-use Rattle.squash_laws.specs.Takings.{anew, hanging, links, ops_after, squashed, takes}
+use Rattle.squash_laws.specs.Removed.{Takings, without_set}
+use Rattle.squash_laws.specs.Takings.{squashed, takes}
 use Rattle.plain_model.specs.declared.policy.Push.{Push}
-use Rattle.plain_model.specs.declared.policy.Push.TheVariants as push
 use Rattle.plain_model.specs.declared.policy.Policy.{Policy}
 use Rattle.squash_laws.proofs.Squashed.{squash_ends, squash_settles}
 use Rattle.squash_delete.specs.Judged.{IsLeft, IsLeftOf, ParentsAre, judged, limit_passed}
@@ -150,45 +141,6 @@ check_fault view new answer checks is halt.Memory checked = tt
 check_fault view new answer checks is (halt.Refused fault) checked = is ∙ ap (done_or new) checked
 
 -- ---- what is left
-
-any_kept : (test keep : PlainEvent → Bool) (f : PlainEvent → PlainEvent) (es : List PlainEvent) (k : ℕ) (e : PlainEvent) → slice_get es k ≡ Some e → keep e ≡ true → test (f e) ≡ true →
-    list_any test (map f (filter keep es)) ≡ true
-any_kept test keep f [] k e at stays it = absurd (none-some e at)
-any_kept test keep f (x ∷ es) zero e at stays it =
-    let is : x ≡ e = same_Some x e at in
-    ap (λ b. list_any test (map f (cond b (x ∷ filter keep es) (filter keep es)))) (ap keep is ∙ stays)
-    ∙ or_left (test (f x)) (list_any test (map f (filter keep es))) (ap (λ y. test (f y)) is ∙ it)
-any_kept test keep f (x ∷ es) (suc k) e at stays it = elim (cases_Bool (keep x)) [
-  | inl yes_it ↦ ap (λ b. list_any test (map f (cond b (x ∷ filter keep es) (filter keep es)))) yes_it ∙ or_right (test (f x)) (list_any test (map f (filter keep es))) (any_kept test keep f es k e at stays it)
-  | inr no_it ↦ ap (λ b. list_any test (map f (cond b (x ∷ filter keep es) (filter keep es)))) no_it ∙ any_kept test keep f es k e at stays it
-]
-
-listed_front : (id : AnyId) (xs ys : List FileOp) → is_listed id (flat_map op_blobs xs) ≡ true → is_listed id (flat_map op_blobs (xs ++ ys)) ≡ true
-listed_front id xs ys h =
-    ap (is_listed id) (flat_map-append op_blobs xs ys) ∙ list_any-append (same_id id) (flat_map op_blobs xs) (flat_map op_blobs ys)
-    ∙ or_left (is_listed id (flat_map op_blobs xs)) (is_listed id (flat_map op_blobs ys)) h
-
-listed_back : (id : AnyId) (xs ys : List FileOp) → is_listed id (flat_map op_blobs ys) ≡ true → is_listed id (flat_map op_blobs (xs ++ ys)) ≡ true
-listed_back id xs ys h =
-    ap (is_listed id) (flat_map-append op_blobs xs ys) ∙ list_any-append (same_id id) (flat_map op_blobs xs) (flat_map op_blobs ys)
-    ∙ or_right (is_listed id (flat_map op_blobs xs)) (is_listed id (flat_map op_blobs ys)) h
-
--- commits that stay keep their own operations, whatever they take over, and so what these name
-pub keep_names : (set : List AnyId) (events : List PlainEvent) (par : List ℕ → List ℕ) (how : Policy) →
-    KeepNames set events (map (event_after par (takes set events how)) (staying set (takes set events how) events))
-keep_names set events par how k (Commit c mark branch author committer encoding comment parents ops aliases) id at out listed =
-    any_kept (λ e. is_listed id (event_blobs e)) (λ e. not (goes set (takes set events how) e)) (event_after par (takes set events how)) events k
-    (Commit c mark branch author committer encoding comment parents ops aliases) at (ap not out) (by how.push)
-  where
-    by : (to : Push) → is_listed id (flat_map op_blobs (ops_after set events to c parents ops)) ≡ true
-    by push.Forward = listed_back id (anew (links set events parents) (expand_all (is_removed set) (past events) parents)) (ops_along (links set events parents) ++ ops)
-        (listed_back id (ops_along (links set events parents)) ops listed)
-    by push.Back = listed_front id ops (ops_along (hanging set events c)) listed
-    by push.Discard = listed
-keep_names set events par how k (Blob n mark bytes) id at out listed = absurd (true≢false (sym listed))
-keep_names set events par how k (Tag n name target tagger comment mark) id at out listed = absurd (true≢false (sym listed))
-keep_names set events par how k (Reset n branch target) id at out listed = absurd (true≢false (sym listed))
-keep_names set events par how k (Pass n line) id at out listed = absurd (true≢false (sym listed))
 
 -- sweeping takes no operation away, nor does a move
 pub ops_swept : (old whole es : List PlainEvent) → count_ops (filter (λ e. not (is_left_over old whole e)) es) ≡ count_ops es

@@ -3,7 +3,7 @@ use Rattle.plain_model.specs.declared.event.PlainEvent.{PlainEvent}
 use Rattle.plain_model.specs.Lookups.{id_of, is_listed}
 use Rattle.edit_laws.specs.Sweeping.{swept}
 use Rattle.plan_steps.specs.Flags.{AreCandidates, FlagsAll}
-use Rattle.plan_steps.proofs.SweepLemmas.{none_over, removed_candidates}
+use Rattle.plan_steps.proofs.SweepLemmas.{none_over, other_candidates}
 use Rattle.plan_steps.proofs.sweeping.sweep_removed.Goals as goal
 
 pub are_all_flagged-requires : goal.are_all_flagged-requires
@@ -23,4 +23,4 @@ sweep_some-requires c =
     let p = c.args.plan.now in
     subst (AreCandidates p.before p.after) (sym c.deref-2.ensures.value)
     (subst (λ es. AreCandidates es p.after c.in_ok-before.before.items) (sym c.requires.before)
-    (removed_candidates c.args.removal.now.set c.args.removal.now.events p.after c.in_ok-before.before.items c.requires.kept c.in_ok-before.ensures))
+    (other_candidates (λ d. is_listed (id_of d) c.args.removal.now.set) c.args.removal.now.events p.after c.in_ok-before.before.items c.requires.kept c.in_ok-before.ensures))

@@ -2,7 +2,8 @@ use Rattle.event_arena.proofs.ListLemmas.{take_all}
 use Rattle.std.proofs.Common.{◌≡◌, ◌∙◌, ◌+◌, ◌≤◌, ◌++◌, ◌∷◌, [], List, Bool, true, false, not, ◌&&◌, ap, arith, get_or, length, map, suc, sym, take}
 use Rattle.std.proofs.lemmas.List.{length-append}
 use Rattle.divide_laws.specs.Sides.{is_commit_among, is_early}
-use Rattle.repo_divide.proofs.HalvingLemmas.{map_at, map_push, other_flag}
+use Rattle.repo_divide.proofs.HalvingLemmas.{other_flag}
+use Rattle.plan_steps.proofs.Tables.{map_at, map_push}
 use Rattle.repo_divide.proofs.halving.others.Goals as goal
 
 pub loop-place-preserved : goal.loop-place-preserved

@@ -8,7 +8,8 @@ use Rattle.divide_laws.specs.Sides.{is_commit_among}
 use Rattle.graph_walk.proofs.FlagLemmas.{refilled}
 use Rattle.plan_steps.specs.Flags.{FlagsAdd, FlagsNamed, event_blobs}
 use Rattle.plan_steps.proofs.SweepLemmas.{filtered_more, filtered_same}
-use Rattle.repo_divide.proofs.HalvingLemmas.{map_at, named_flags}
+use Rattle.repo_divide.proofs.HalvingLemmas.{named_flags}
+use Rattle.plan_steps.proofs.Tables.{map_at}
 use Rattle.repo_divide.proofs.naming.named.Goals as goal
 use Rattle.repo_divide.proofs.naming.named.Goals.{then-commits-place, else-commits-place}
 

@@ -9,7 +9,8 @@ use Rattle.plan_steps.specs.Flags.{KeepNames}
 use Rattle.plan_steps.specs.Leaving.{event_after, staying, with_own_parents}
 use Rattle.squash_delete.specs.Sources.{Ends}
 use Rattle.plan_steps.specs.Targets.{AreMoves}
-use Rattle.squash_delete.proofs.Answered.{keep_names, many_left}
+use Rattle.squash_delete.proofs.Answered.{many_left}
+use Rattle.plan_steps.proofs.KeptNames.{keep_names, ops_named}
 use Rattle.plan_steps.proofs.LeavingLemmas.{same_but}
 use Rattle.squash_delete.proofs.MovingLemmas.{le_of}
 use Rattle.squash_delete.proofs.squashing.remove_set.Goals as goal
@@ -78,4 +79,4 @@ sweep_removed-requires-clause-kept c =
     let taken = subst (λ (b : Bool). Ends set events taking given.0 (nat_le c.count.result MAX_EVENTS) p c.take_over.new.plan b) c.if-not-whole.false (c.in_ok-whole.ensures given.0 c.args.how.tags p was) in
     let moved = c.in_ok-move_all.ensures given.0 taking (subst (AreMoves set taking.target events) (sym c.deref.ensures.value) c.in_ok-targets.ensures) (ap (λ (q : Change). q.after) taken) in
     let whole = moved ∙ ap (λ (q : Change). record q { after = map (event_after given.0 taking) (staying set taking events) }) taken in
-    subst (KeepNames set events) (sym (ap (λ (q : Change). q.after) whole)) (keep_names set events given.0 c.args.how)
+    subst (KeepNames set events) (sym (ap (λ (q : Change). q.after) whole)) (keep_names set events given.0 taking (ops_named set events c.args.how.push))
