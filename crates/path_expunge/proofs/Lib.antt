@@ -1,6 +1,7 @@
 pub mod Conflicts
 pub mod FateLemmas
 pub mod FolderLemmas
+pub mod KeptNames
 pub mod LeavingLemmas
 pub mod NamingLemmas
 pub mod Nodes

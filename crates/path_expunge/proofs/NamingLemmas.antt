@@ -1,10 +1,11 @@
 -- Paths on two sides, while one after another is noted.
 use Rattle.std.proofs.Common.{◌≡◌, ◌∙◌, ℕ, suc, ◌<◌, Bool, true, false, cond, not, filter, map, inl, inr, List, [], ◌∷◌, Some, refl, sym, ap, subst, get_or, length, take, true≢false}
 use Rattle.std.specs.Prelude.{◌||◌, bytes_eq, slice_get}
-use Rattle.std.specs.List.{AllByRecursion}
+use Rattle.std.specs.List.{AllByRecursion, list_any}
 use Rattle.std.proofs.lemmas.Bool.{cases_Bool, false_from_ne_true, or_cases}
 use Rattle.std.proofs.lemmas.Slice.Eq.{bytes_eq-Decides}
-use Rattle.std.proofs.Math.Bool.{or_comm}
+use Rattle.std.proofs.Math.Bool.{or-false, or_comm}
+use Rattle.std.proofs.lemmas.List.Folds.{list_any-append}
 use Rattle.plain_model.specs.declared.operation.FileOp.{FileOp}
 use Rattle.plain_model.specs.declared.operation.FileOp.TheVariants.{Modify, Delete, Copy, Rename, DeleteAll}
 use Rattle.plain_model.specs.declared.event.PlainEvent.{PlainEvent}
@@ -16,7 +17,7 @@ use Rattle.history_laws.proofs.Lists.{all_imply, all_join}
 use Rattle.edit_laws.proofs.Lists.{events_of_nodes}
 use Rattle.event_arena.proofs.ListLemmas.{take_item, take_more}
 use Rattle.expunge_laws.specs.Apart.{AllOps, IsApart, KeepsClear, event_without}
-use Rattle.expunge_laws.specs.Untouched.{may_touch}
+use Rattle.expunge_laws.specs.Untouched.{may_be_touched, may_touch}
 use Rattle.path_expunge.specs.Apart.{AreSides, GoesOn, IsNoted, IsWhole, is_in, is_named, takes}
 use Rattle.path_expunge.specs.declared.naming.Named.{Named}
 use Rattle.path_expunge.specs.declared.sides.Side.{Side}
@@ -62,6 +63,13 @@ still_noted old new more (Copy source target) n = absurd n
 still_noted old new more (Rename source target) n = absurd n
 still_noted old new more DeleteAll n = tt
 
+-- whether some of the operations up to one touch a matched path
+pub ops_taken : (matched : Bytes → Bool) (ops : List FileOp) (k : ℕ) (op : FileOp) (before own : Bool) → k < length ops → op ≡ get_or ops k op →
+    before ≡ list_any (may_touch matched) (take k ops) → own ≡ may_touch matched op → before || own ≡ list_any (may_touch matched) (take (suc k) ops)
+ops_taken matched ops k op before own low at was is =
+    (λ i. was i || is i) ∙ ap (λ b. list_any (may_touch matched) (take k ops) || b) (sym (or-false (may_touch matched op)))
+    ∙ sym (ap (list_any (may_touch matched)) (take_more ops k op low at) ∙ list_any-append (may_touch matched) (take k ops) (op ∷ []))
+
 -- the operations up to one that was noted
 pub ops_noted : (old new : Named) → GoesOn old new → (ops : List FileOp) (k : ℕ) (op : FileOp) → k < length ops → op ≡ get_or ops k op → AllByRecursion (IsNoted old) (take k ops) → IsNoted new op → AllByRecursion (IsNoted new) (take (suc k) ops)
 ops_noted old new more ops k op low at before own =
@@ -86,6 +94,14 @@ event_named P (Blob id mark bytes) all = tt
 event_named P (Tag id name target tagger comment mark) all = tt
 event_named P (Reset id branch target) all = tt
 event_named P (Pass id line) all = tt
+
+-- and touch what it touches
+pub ops_touch : (matched : Bytes → Bool) (e : PlainEvent) → list_any (may_touch matched) (event_ops e) ≡ may_be_touched matched e
+ops_touch matched (Commit id mark branch author committer encoding comment parents ops aliases) = refl
+ops_touch matched (Blob id mark bytes) = refl
+ops_touch matched (Tag id name target tagger comment mark) = refl
+ops_touch matched (Reset id branch target) = refl
+ops_touch matched (Pass id line) = refl
 
 pub whole_noted : (named : Named) (events : List PlainEvent) → AllByRecursion (λ x. AllOps (IsNoted named) (x ∷ [])) events → AllOps (IsNoted named) events
 whole_noted named events a = events_of_nodes (λ n. AllByRecursion (IsNoted named) n.ops) events a
@@ -157,3 +173,16 @@ module _ (matched : Bytes → Bool) (named : Named) (h : AreSides matched named)
   events_as_matched (Tag id name target tagger comment mark ∷ events) a = ap (λ (es : List PlainEvent). Tag id name target tagger comment mark ∷ es) (events_as_matched events a)
   events_as_matched (Reset id branch target ∷ events) a = ap (λ (es : List PlainEvent). Reset id branch target ∷ es) (events_as_matched events a)
   events_as_matched (Pass id line ∷ events) a = ap (λ (es : List PlainEvent). Pass id line ∷ es) (events_as_matched events a)
+
+  any_as_matched : (ops : List FileOp) → AllByRecursion (IsNoted named) ops → list_any (takes named) ops ≡ list_any (may_touch matched) ops
+  any_as_matched [] a = refl
+  any_as_matched (op ∷ ops) a = λ i. taken_as_matched op a.0 i || any_as_matched ops a.1 i
+
+  pub flags_as_matched : (events : List PlainEvent) → AllOps (IsNoted named) events → map (λ e. list_any (takes named) (event_ops e)) events ≡ map (may_be_touched matched) events
+  flags_as_matched [] a = refl
+  flags_as_matched (Commit id mark branch author committer encoding comment parents ops aliases ∷ events) a =
+      λ i. any_as_matched ops a.0 i ∷ flags_as_matched events a.1 i
+  flags_as_matched (Blob id mark bytes ∷ events) a = ap (λ (l : List Bool). false ∷ l) (flags_as_matched events a)
+  flags_as_matched (Tag id name target tagger comment mark ∷ events) a = ap (λ (l : List Bool). false ∷ l) (flags_as_matched events a)
+  flags_as_matched (Reset id branch target ∷ events) a = ap (λ (l : List Bool). false ∷ l) (flags_as_matched events a)
+  flags_as_matched (Pass id line ∷ events) a = ap (λ (l : List Bool). false ∷ l) (flags_as_matched events a)

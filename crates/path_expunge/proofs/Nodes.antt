@@ -1,7 +1,7 @@
 -- Commits of a sound history: their parents are there, and they have trees.
 use Rattle.std.proofs.Common.{◌≡◌, ◌∙◌, ℕ, Bool, true, false, List, [], ◌∷◌, Option, Some, refl, sym, ap, subst, true≢false}
 use Rattle.std.specs.Prelude.{IsSome, slice_get, unwrap_or}
-use Rattle.std.specs.List.{AllByRecursion, list_any}
+use Rattle.std.specs.List.{AllByRecursion}
 use Rattle.plain_model.specs.declared.id.AnyId.{AnyId}
 use Rattle.plain_model.specs.declared.id.AnyId.TheVariants as any
 use Rattle.plain_model.specs.declared.operation.FileOp.{FileOp}
@@ -20,10 +20,10 @@ use Rattle.graph_walk.proofs.TurnLemmas.{all_at}
 use Rattle.squash_laws.specs.Takings.{is_none}
 use Rattle.plan_steps.proofs.NodeLemmas.{parents_there}
 use Rattle.expunge_laws.specs.Expunged.{replaced_event}
-use Rattle.expunge_laws.specs.Untouched.{is_touched, may_touch}
+use Rattle.expunge_laws.specs.Untouched.{is_touched, may_be_touched}
 use Rattle.expunge_laws.proofs.Changed.{fitting}
 use Rattle.expunge_laws.proofs.TreesLeft.{IfTreeIs, begun_is, tree_is}
-use Rattle.expunge_laws.proofs.Still.{names_alone, untouched_stay}
+use Rattle.expunge_laws.proofs.Still.{not_by_name, untouched_stay}
 
 -- a commit begins with a tree
 pub begun_tree : (events : List PlainEvent) (parents : List ℕ) (t : Tree) → begun (tree events) parents ≡ Some t → IsTree t
@@ -34,16 +34,16 @@ pub no_ids : (ids : List AnyId) → is_none ids ≡ true → ids ≡ []
 no_ids [] h = refl
 no_ids (id ∷ ids) h = absurd (true≢false (sym h))
 
--- what is no commit keeps what it is
+-- what is no commit keeps what it is, and is touched by nothing
 pub no_commit : (matched : Bytes → Bool) (events : List PlainEvent) (e : PlainEvent)
     → ((id mark : ℕ) (branch : Bytes) (author committer : Signed) (encoding : Option Bytes) (comment : Bytes) (parents : List ℕ) (ops : List FileOp) (aliases : List ℕ)
     → e ≡ Commit id mark branch author committer encoding comment parents ops aliases → ⊥)
-    → replaced_event matched events e ≡ e
+    → (replaced_event matched events e ≡ e) × (may_be_touched matched e ≡ false)
 no_commit matched events (Commit id mark branch author committer encoding comment parents ops aliases) h = absurd (h id mark branch author committer encoding comment parents ops aliases refl)
-no_commit matched events (Blob id mark bytes) h = refl
-no_commit matched events (Tag id name target tagger comment mark) h = refl
-no_commit matched events (Reset id branch target) h = refl
-no_commit matched events (Pass id line) h = refl
+no_commit matched events (Blob id mark bytes) h = (refl, refl)
+no_commit matched events (Tag id name target tagger comment mark) h = (refl, refl)
+no_commit matched events (Reset id branch target) h = (refl, refl)
+no_commit matched events (Pass id line) h = (refl, refl)
 
 pub replaced_id : (matched : Bytes → Bool) (events : List PlainEvent) (e : PlainEvent) → id_of (replaced_event matched events e) ≡ id_of e
 replaced_id matched events (Commit id mark branch author committer encoding comment parents ops aliases) = refl
@@ -80,8 +80,9 @@ module _ (events : List PlainEvent) (h : IsSound events) (k id mark : ℕ) (bran
     pub begins_with : (begun_with : Tree) → begun (tree events) parents ≡ Some begun_with → unwrap_or (begun (tree events) parents) [] ≡ begun_with
     begins_with begun_with is = ap (λ (o : Option Tree). unwrap_or o []) is
 
-    -- where no operation may touch a matched path, all stay
-    pub stays_by_name : (matched : Bytes → Bool) → list_any (may_touch matched) ops ≡ false → replaced_event matched events e ≡ e
-    stays_by_name matched none =
-        all_at (λ x. is_touched matched events x ≡ false → replaced_event matched events x ≡ x) events k e (untouched_stay matched events h) at
-        (names_alone matched ops (unwrap_or (begun (tree events) parents) []) none)
+-- where no operation may touch a matched path, an event stays as it is
+pub stays_by_name : (matched : Bytes → Bool) (events : List PlainEvent) → IsSound events → (k : ℕ) (e : PlainEvent) → slice_get events k ≡ Some e →
+    may_be_touched matched e ≡ false → replaced_event matched events e ≡ e
+stays_by_name matched events h k e at none =
+    all_at (λ x. is_touched matched events x ≡ false → replaced_event matched events x ≡ x) events k e (untouched_stay matched events h) at
+    (not_by_name matched events e none)

@@ -3,7 +3,7 @@ ghost use Rattle.std.specs.Prelude.{◌≡◌, ◌<◌, Some, length, map, slice
 ghost use Rattle.std.specs.List.{AllByRecursion, list_any};
 ghost use Rattle.event_arena.specs.Changes.{changed};
 ghost use Rattle.expunge_laws.specs.Expunged.{replaced_event, replaced_events};
-ghost use Rattle.expunge_laws.specs.Untouched.{may_touch};
+ghost use Rattle.expunge_laws.specs.Untouched.{may_be_touched, may_touch};
 ghost use Rattle.manifest_cache.specs.Kept.{AgreesWith};
 ghost use Rattle.expunge_laws.specs.Matching.{matched_by};
 ghost use Rattle.plain_model.specs.Histories.{begun, tree};
@@ -59,8 +59,8 @@ fn may_any_touch(matching: &mut Matching<'_>, ops: &[FileOp]) -> bool
     false
 }
 
-// Gives the commit at a place what is in the place of its operations. Its tree is asked for only where a matched path
-// may be touched.
+// Gives the commit at a place what is in the place of its operations, and answers whether a matched path may be touched
+// there. Its tree is asked for only where one may be.
 fn replace_at(
     alloc: Global,
     events: &Events,
@@ -69,7 +69,7 @@ fn replace_at(
     plan: &mut Plan,
     place: usize,
     event: &PlainEvent,
-) -> Result<(), NoMemory>
+) -> Result<bool, NoMemory>
     requires agrees { AgreesWith events.now.list manifests.old }
     requires at { slice_get events.now.list place ≡ Some event.now }
     requires found { find_event (id_of event.now) plan.old.after ≡ Some event.now }
@@ -77,6 +77,8 @@ fn replace_at(
       after = changed (id_of event.now)
           (replaced_event (matched_by matching.old) events.now.list) plan.old.after;
     }) }
+    ensures touched { IfOk result
+        (λ touched. touched ≡ may_be_touched (matched_by matching.old) event.now) }
     ensures same { matching.new ≡ matching.old }
     ensures kept { AgreesWith events.now.list manifests.new }
 {
@@ -88,33 +90,38 @@ fn replace_at(
         ..
     } = event
     else {
-        return Ok(());
+        return Ok(false);
     };
     if !may_any_touch(matching, ops.as_slice()) {
-        return Ok(());
+        return Ok(false);
     }
     let begun = begun(alloc, events, manifests, parents.as_slice())?;
     let made = replaced_all(alloc, matching, ops.as_slice(), begun)?;
-    plan.set_ops(*id, made)
+    plan.set_ops(*id, made)?;
+    Ok(true)
 }
 
-// Gives all commits what is in the place of their operations, in one pass.
+// Gives all commits what is in the place of their operations, in one pass, and answers for each place whether a matched
+// path may be touched there.
 fn replace_with_trees(
     alloc: Global,
     events: &Events,
     manifests: &mut Manifests,
     matching: &mut Matching<'_>,
     plan: &mut Plan,
-) -> Result<(), NoMemory>
+) -> Result<Vec<bool>, NoMemory>
     requires agrees { AgreesWith events.now.list manifests.old }
     requires whole { plan.old.after ≡ events.now.list }
     ensures changed { OnOk result (plan.new ≡ record plan.old {
       after = replaced_events (matched_by matching.old) events.now.list;
     }) }
+    ensures touched { IfOk result (λ touched.
+        touched.items ≡ map (may_be_touched (matched_by matching.old)) events.now.list) }
     ensures kept { AgreesWith events.now.list manifests.new }
 {
+    let mut touched = Vec::with_capacity(alloc, events.count())?;
     for place in 0..events.count() {
-        replace_at(
+        let is_touched = replace_at(
             alloc,
             events,
             manifests,
@@ -123,30 +130,35 @@ fn replace_with_trees(
             place,
             events.nth(place),
         )?;
+        touched.push(is_touched)?;
     }
-    Ok(())
+    Ok(touched)
 }
 
-/// Gives all commits what is in the place of their operations. Where the paths of a history stand apart, as in nearly
-/// each one, what names a matched path just goes, and no tree is asked for.
+/// Gives all commits what is in the place of their operations, and answers for each place whether a matched path may be
+/// touched there. Where the paths of a history stand apart, as in nearly each one, what names a matched path just goes,
+/// and no tree is asked for.
 pub fn replace_ops(
     alloc: Global,
     events: &Events,
     manifests: &mut Manifests,
     matching: &mut Matching<'_>,
     plan: &mut Plan,
-) -> Result<(), NoMemory>
+) -> Result<Vec<bool>, NoMemory>
     requires agrees { AgreesWith events.now.list manifests.old }
     requires whole { plan.old.after ≡ events.now.list }
     ensures changed { OnOk result (plan.new ≡ record plan.old {
       after = replaced_events (matched_by matching.old) events.now.list;
     }) }
+    ensures touched { IfOk result (λ touched.
+        touched.items ≡ map (may_be_touched (matched_by matching.old)) events.now.list) }
     ensures kept { AgreesWith events.now.list manifests.new }
 {
     let _count = events.count();
-    if let Some(named) = named_apart(alloc, events, matching)? {
+    if let Some(noted) = named_apart(alloc, events, matching)? {
         what_names_matched_paths_goes();
-        return leave_out(alloc, events, &named, plan);
+        leave_out(alloc, events, &noted, plan)?;
+        return Ok(noted.touched);
     }
     replace_with_trees(alloc, events, manifests, matching, plan)
 }

@@ -1,11 +1,12 @@
 //! Which commits are emptied.
-ghost use Rattle.std.specs.Prelude.{◌≡◌, ◌<◌, Bool, Some, length, slice_get, IfOk};
+ghost use Rattle.std.specs.Prelude.{◌≡◌, ◌<◌, Bool, Some, length, map, slice_get, IfOk};
 ghost use Rattle.expunge_laws.specs.Expunged.{
   emptied,
   is_emptied,
   replaced_event,
   replaced_events,
 };
+ghost use Rattle.expunge_laws.specs.Untouched.{may_be_touched};
 ghost use Rattle.plain_model.specs.Paths.{Bytes};
 
 use event_arena::Plan;
@@ -33,17 +34,20 @@ fn is_emptied_at(plan: &Plan, place: usize) -> bool
     }
 }
 
-/// The ids of the emptied commits of a plan whose operations were replaced.
-pub fn emptied(alloc: Global, plan: &Plan) -> Result<IdList, NoMemory>
-    requires { length plan.now.after ≡ length plan.now.before }
+/// The ids of the emptied commits of a plan whose operations were replaced. Only those where a matched path may be
+/// touched are looked at.
+pub fn emptied(alloc: Global, plan: &Plan, touched: &[bool]) -> Result<IdList, NoMemory>
+    requires after { length plan.now.after ≡ length plan.now.before }
+    requires touched { length touched.now ≡ length plan.now.before }
     ensures { IfOk result (λ ids. (matched : Bytes → Bool) →
         plan.now.after ≡ replaced_events matched plan.now.before →
+        touched.now ≡ map (may_be_touched matched) plan.now.before →
         ids ≡ emptied matched plan.now.before) }
 {
     let mut ids = IdList::new(alloc)?;
     let old = plan.before();
     for place in 0..plan.old_count() {
-        if is_emptied_at(plan, place) {
+        if touched[place] && is_emptied_at(plan, place) {
             ids.push(old.id_at(place))?;
         }
     }

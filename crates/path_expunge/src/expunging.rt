@@ -18,7 +18,7 @@ use expunge_laws::{
 };
 use manifest_cache::Manifests;
 use plain_model::{AnyId, Halt, NoMemory};
-use plan_steps::{limit_passed, put_in_order, sweep};
+use plan_steps::{limit_passed, put_in_order, sweep_touched};
 use std::alloc::Global;
 
 // Whether there is no event in a set.
@@ -48,17 +48,17 @@ fn remove_paths(
     ensures kept { AgreesWith events.now.list manifests.new }
 {
     let _count = events.count();
-    replace_ops(alloc, events, manifests, matching, plan)?;
-    let set = emptied(alloc, plan)?;
+    let touched = replace_ops(alloc, events, manifests, matching, plan)?;
+    let set = emptied(alloc, plan, &touched)?;
     what_no_matched_path_touches_stays();
     if is_nothing(set.as_slice()) {
-        sweep(alloc, plan)?;
+        sweep_touched(alloc, plan, &touched)?;
         return Ok(());
     }
     emptied_commits_give_way_in_line();
     an_expunge_comes_to_its_end();
     give_way(alloc, plan, set.as_slice())?;
-    sweep(alloc, plan)?;
+    sweep_touched(alloc, plan, &touched)?;
     put_in_order(alloc, plan)?;
     Ok(())
 }

@@ -4,24 +4,12 @@ ghost use Rattle.std.specs.List.{list_any};
 ghost use Rattle.event_arena.specs.Changes.{changed};
 ghost use Rattle.expunge_laws.specs.Apart.{event_without};
 ghost use Rattle.path_expunge.specs.Apart.{takes};
-ghost use Rattle.plain_model.specs.Lookups.{find_event, id_of};
+ghost use Rattle.plain_model.specs.Lookups.{event_ops, find_event, id_of};
 
-use crate::naming::Named;
+use crate::naming::{Named, Noted};
 use event_arena::{Events, Plan};
 use plain_model::{Copied, FileOp, NoMemory, OpList};
 use std::alloc::Global;
-
-// Whether some operation names a path that is taken out.
-fn takes_any(named: &Named<'_>, ops: &[FileOp]) -> bool
-    ensures { result ≡ list_any (takes named.now) ops.now }
-{
-    for op in ops {
-        if named.takes(op) {
-            return true;
-        }
-    }
-    false
-}
 
 // Copies of the operations that name none.
 fn ops_left(alloc: Global, named: &Named<'_>, ops: &[FileOp]) -> Result<OpList, NoMemory>
@@ -55,28 +43,28 @@ fn leave_out_at(
     let Some(id) = events.table().commit_at(place) else {
         return Ok(());
     };
-    let ops = events.table().ops_at(place);
-    if !takes_any(named, ops) {
-        return Ok(());
-    }
-    let left = ops_left(alloc, named, ops)?;
+    let left = ops_left(alloc, named, events.table().ops_at(place))?;
     plan.set_ops(id, left)
 }
 
-/// Takes what names a path that is taken out of all commits, in one pass.
+/// Takes what names a path that is taken out of all commits that name one. The others aren't looked at.
 pub fn leave_out(
     alloc: Global,
     events: &Events,
-    named: &Named<'_>,
+    noted: &Noted<'_>,
     plan: &mut Plan,
 ) -> Result<(), NoMemory>
-    requires { plan.old.after ≡ events.now.list }
+    requires whole { plan.old.after ≡ events.now.list }
+    requires touched { noted.now.touched.items
+        ≡ map (λ e. list_any (takes noted.now.named) (event_ops e)) events.now.list }
     ensures { OnOk result (plan.new ≡ record plan.old {
-      after = map (event_without (takes named.now)) events.now.list;
+      after = map (event_without (takes noted.now.named)) events.now.list;
     }) }
 {
     for place in 0..events.count() {
-        leave_out_at(alloc, events, named, plan, place)?;
+        if noted.touched[place] {
+            leave_out_at(alloc, events, &noted.named, plan, place)?;
+        }
     }
     Ok(())
 }

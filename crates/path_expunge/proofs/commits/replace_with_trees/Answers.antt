@@ -1,4 +1,4 @@
-use Rattle.std.proofs.Common.{◌∙◌, List, ap, add-one}
+use Rattle.std.proofs.Common.{◌∙◌, ◌++◌, ◌∷◌, [], List, ap, add-one, arith, map, sym}
 use Rattle.plain_model.specs.declared.event.PlainEvent.{PlainEvent}
 use Rattle.plain_model.specs.Lookups.{find_event, id_of}
 use Rattle.event_arena.specs.Changes.{changed}
@@ -6,6 +6,9 @@ use Rattle.event_arena.specs.Graphs.{Change}
 use Rattle.history_laws.proofs.SoundOnce.{sound_once}
 use Rattle.expunge_laws.specs.Expunged.{replaced_event}
 use Rattle.expunge_laws.specs.Matching.{Matches, matched_by}
+use Rattle.expunge_laws.specs.Untouched.{may_be_touched}
+use Rattle.event_arena.proofs.ListLemmas.{take_all}
+use Rattle.plan_steps.proofs.Tables.{map_push}
 use Rattle.path_expunge.proofs.Nodes.{replaced_id}
 use Rattle.plan_steps.proofs.Steps.{step_changed, step_found}
 use Rattle.path_expunge.proofs.commits.replace_with_trees.Goals as goal
@@ -24,11 +27,20 @@ loop-place-preserved c =
     let m = matched_by c.args.matching.now in
     let e = c.nth.result.now in
     record {
-      same = c.in_ok-replace_at.ensures.same ∙ c.loop-place.invariant.same;
-      kept = c.in_ok-replace_at.ensures.kept;
-      plan = rw add-one (c.in_ok-replace_at.ensures.changed
+      same = c.in_ok-is_touched.ensures.same ∙ c.loop-place.invariant.same;
+      kept = c.in_ok-is_touched.ensures.kept;
+      plan = rw add-one (c.in_ok-is_touched.ensures.changed
           ∙ ap (λ (ms : List Matches). record c.loop-place.plan { after = changed (id_of e) (replaced_event (matched_by ms) events) c.loop-place.plan.after }) c.loop-place.invariant.same
           ∙ ap (λ (p : Change). record p { after = changed (id_of e) (replaced_event m events) p.after }) c.loop-place.invariant.plan
           ∙ ap (λ (es : List PlainEvent). record c.args.plan.now { after = es })
           (step_changed (replaced_event m events) (replaced_id m events) events (sound_once events c.count-place-end.ensures.sound).ids c.loop-place.place e c.nth.ensures.event));
+      touched = rw add-one (c.in_ok-push.ensures.items
+          ∙ (λ i. c.loop-place.invariant.touched i ++ (c.in_ok-is_touched.ensures.touched ∙ ap (λ (ms : List Matches). may_be_touched (matched_by ms) e) c.loop-place.invariant.same) i ∷ [])
+          ∙ sym (map_push (may_be_touched m) events c.loop-place.place e c.nth.ensures.event));
     }
+
+pub returns-clause-touched : goal.returns-clause-touched
+returns-clause-touched c =
+    let events = c.args.events.now.list in
+    c.loop-place.invariant.touched
+    ∙ ap (map (may_be_touched (matched_by c.args.matching.now))) (take_all events c.loop-place.place (let all = c.loop-place-test.false in let count = c.count-place-end.ensures.count in omega arith))

@@ -1,5 +1,4 @@
 use Rattle.std.proofs.Common.{◌≡◌, ◌∙◌, List, Option, None, Some, refl, sym, ap, subst, filter, not}
-use Rattle.std.specs.List.{list_any}
 use Rattle.std.specs.Prelude.{IsSome, slice_get}
 use Rattle.std.proofs.lemmas.Option.{same_Some}
 use Rattle.std.proofs.lemmas.Result.{on_ok_weaker}
@@ -9,7 +8,7 @@ use Rattle.plain_model.specs.Lookups.{commit_id, event_ops, find_event}
 use Rattle.event_arena.specs.Changes.{changed, with_ops}
 use Rattle.expunge_laws.specs.Apart.{event_without}
 use Rattle.path_expunge.specs.Apart.{takes}
-use Rattle.path_expunge.proofs.LeavingLemmas.{none_left_out, with_rest, without_ops}
+use Rattle.path_expunge.proofs.LeavingLemmas.{with_rest, without_ops}
 use Rattle.plan_steps.proofs.Steps.{alike_of, kept_of}
 use Rattle.plan_steps.proofs.WayLemmas.{own_commit}
 use Rattle.path_expunge.proofs.leaving.leave_out_at.Goals as goal
@@ -22,25 +21,16 @@ returns-in_default c event at =
     let none : commit_id event ≡ None = ap commit_id (same_Some event x.0 (sym at ∙ here)) ∙ sym x.2 ∙ c.in_default.is in
     kept_of c.args.plan.now event event (event_without test) refl (c.requires.found event at) (without_ops test event none)
 
-pub returns-then-not-takes_any : goal.returns-then-not-takes_any
-returns-then-not-takes_any c event at =
-    let test = takes c.args.named.now in
-    let y = c.ops_at-ops.ensures in
-    let here = ap (λ (es : List PlainEvent). slice_get es c.args.place) (sym c.table-2.ensures.table) ∙ y.1 in
-    let ops : c.ops_at-ops.result.now ≡ event_ops event = y.2 ∙ ap event_ops (same_Some y.0 event (sym here ∙ at)) in
-    let none = ap (list_any test) (sym ops) ∙ sym c.takes_any.ensures ∙ c.if-not-takes_any.true in
-    kept_of c.args.plan.now event event (event_without test) refl (c.requires.found event at) (none_left_out test event none)
-
 pub returns : goal.returns
 returns c event at =
     let test = takes c.args.named.now in
     let plan = c.args.plan.now in
     let x = c.commit_at.ensures in
-    let y = c.ops_at-ops.ensures in
+    let y = c.ops_at.ensures in
     let id_here = ap (λ (es : List PlainEvent). slice_get es c.args.place) (sym c.table.ensures.table) ∙ x.1 in
     let here = ap (λ (es : List PlainEvent). slice_get es c.args.place) (sym c.table-2.ensures.table) ∙ y.1 in
     let own : commit_id event ≡ Some c.in-Some.id = ap commit_id (same_Some event x.0 (sym at ∙ id_here)) ∙ sym x.2 ∙ c.in-Some.is in
-    let ops : c.ops_at-ops.result.now ≡ event_ops event = y.2 ∙ ap event_ops (same_Some y.0 event (sym here ∙ at)) in
+    let ops : c.ops_at.result.now ≡ event_ops event = y.2 ∙ ap event_ops (same_Some y.0 event (sym here ∙ at)) in
     let left : c.in_ok-left.left ≡ filter (λ op. not (test op)) (event_ops event) = c.in_ok-left.ensures ∙ ap (filter (λ op. not (test op))) ops in
     on_ok_weaker c.set_ops.result (λ is.
     is ∙ ap (λ (es : List PlainEvent). record plan { after = es })

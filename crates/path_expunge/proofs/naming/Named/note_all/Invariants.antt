@@ -1,7 +1,8 @@
-use Rattle.std.proofs.Common.{◌≡◌, ◌∷◌, [], take}
+use Rattle.std.proofs.Common.{◌≡◌, ◌∷◌, [], map, take}
 use Rattle.std.specs.List.{AllByRecursion}
 use Rattle.expunge_laws.specs.Apart.{AllOps}
 use Rattle.expunge_laws.specs.Matching.{matched_by}
+use Rattle.expunge_laws.specs.Untouched.{may_be_touched}
 use Rattle.path_expunge.specs.Apart.{AreSides, IsNoted}
 use Rattle.path_expunge.proofs.naming.Named.note_all.Given as goal
 
@@ -10,4 +11,5 @@ invariant-loop-place l = record {
   same : l.matching ≡ l.fn.matching;
   sides : AreSides (matched_by l.fn.matching) l.self;
   noted : AllByRecursion (λ e. AllOps (IsNoted l.self) (e ∷ [])) (take l.place l.events.list);
+  touched : l.touched.items ≡ map (may_be_touched (matched_by l.fn.matching)) (take l.place l.events.list);
 }

@@ -1,6 +1,7 @@
 use Rattle.std.proofs.Common.{◌≡◌, take}
-use Rattle.std.specs.List.{AllByRecursion}
+use Rattle.std.specs.List.{AllByRecursion, list_any}
 use Rattle.expunge_laws.specs.Matching.{matched_by}
+use Rattle.expunge_laws.specs.Untouched.{may_touch}
 use Rattle.path_expunge.specs.Apart.{AreSides, GoesOn, IsNoted}
 use Rattle.path_expunge.proofs.naming.Named.note_ops.Given as goal
 
@@ -10,4 +11,5 @@ invariant-loop-op l = record {
   sides : AreSides (matched_by l.fn.matching) l.self;
   more : GoesOn l.fn.self l.self;
   noted : AllByRecursion (IsNoted l.self) (take l.op-index l.ops);
+  taken : l.taken ≡ list_any (may_touch (matched_by l.fn.matching)) (take l.op-index l.ops);
 }
