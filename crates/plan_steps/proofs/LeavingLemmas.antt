@@ -16,19 +16,23 @@ use Rattle.plain_model.specs.Soundness.{are_distinct}
 use Rattle.event_arena.specs.Changes.{changed, with_parents}
 use Rattle.event_arena.specs.Graphs.{Change}
 use Rattle.history_laws.proofs.SoundOnce.{has_id_find}
+use Rattle.history_laws.specs.FirstParents.{ops_along}
 use Rattle.history_laws.specs.Once.{AreDistinct}
 use Rattle.history_laws.proofs.Lists.{item_at}
 use Rattle.event_arena.proofs.ListLemmas.{drop_item}
 use Rattle.event_arena.proofs.StepLemmas.{none_left}
 use Rattle.edit_laws.specs.Removal.{expand, expand_all, once_each}
-use Rattle.edit_laws.proofs.Following.{expand_itself}
+use Rattle.edit_laws.proofs.Following.{chain_none, expand_itself}
 use Rattle.edit_laws.proofs.Repeats.{distinct_once}
 use Rattle.graph_walk.specs.Expansions.{own_change, parent_changes}
 use Rattle.graph_walk.proofs.PlaceLemmas.{has_id_place}
 use Rattle.graph_walk.proofs.TurnLemmas.{all_at}
 use Rattle.squash_laws.specs.Removed.{Takings, all_left, is_removed, left_of, parents_after}
+use Rattle.squash_laws.specs.Takings.{anew, links, ops_after}
+use Rattle.plain_model.specs.declared.policy.Push.TheVariants as push
 use Rattle.plan_steps.specs.Leaving.{event_after, goes, staying, with_all_parents, with_own_parents, with_takings}
 use Rattle.plan_steps.specs.Passes.{so_far}
+use Rattle.plan_steps.proofs.Depths.{links_nil}
 use Rattle.plan_steps.proofs.Passes.{so_far_all, step_changed, step_gone, step_same}
 
 -- ---- ids stay
@@ -114,6 +118,16 @@ unremoved_parents removed older parents once none = ap once_each (each parents n
     each (p ∷ ps) h =
         let parts = or_parts (removed p) (list_any removed ps) h in
         ap (λ l. l ++ flat_map (expand removed older) ps) (expand_itself removed older p parts.0) ∙ ap (λ l. p ∷ l) (each ps parts.1)
+
+-- and nothing is taken over from removed commits before them
+pub no_links : (set : List AnyId) (events : List PlainEvent) (parents : List ℕ) → list_any (is_removed set) parents ≡ false → links set events parents ≡ []
+no_links set events [] none = links_nil set events
+no_links set events (p ∷ ps) none = chain_none (is_removed set) (past events) p ps (or_parts (is_removed set p) (list_any (is_removed set) ps) none).0
+
+pub nothing_pushed : (set : List AnyId) (events : List PlainEvent) (c : ℕ) (parents : List ℕ) (ops : List FileOp) → list_any (is_removed set) parents ≡ false →
+    ops_after set events push.Forward c parents ops ≡ ops
+nothing_pushed set events c parents ops none =
+    ap (λ ls. anew ls (expand_all (is_removed set) (past events) parents) ++ (ops_along ls ++ ops)) (no_links set events parents none)
 
 module _ (set : List AnyId) (takes : Takings) (events : List PlainEvent) (once : AreDistinct events)
     (parents_once : AllByRecursion (λ e. IsTrue (are_distinct (event_parents e))) events)

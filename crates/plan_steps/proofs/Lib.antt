@@ -1,9 +1,11 @@
+pub mod Alike
 pub mod Along
 pub mod Counting
 pub mod Depths
 pub mod KeptNames
 pub mod LeavingLemmas
 pub mod NearLemmas
+pub mod NearOrder
 pub mod NearPlaces
 pub mod NodeLemmas
 pub mod Nodes

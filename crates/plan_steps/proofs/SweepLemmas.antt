@@ -22,7 +22,7 @@ use Rattle.edit_laws.specs.Sweeping.{is_left_over, is_named, swept}
 use Rattle.graph_walk.proofs.FlagLemmas.{no_flag}
 use Rattle.graph_walk.proofs.PlaceLemmas.{place_found, place_within}
 use Rattle.graph_walk.specs.Flags.{flag_at}
-use Rattle.plan_steps.specs.Flags.{AreCandidates, FlagsAdd, FlagsAll, FlagsIds, FlagsNamed, FlagsSome, KeepNames, OthersKeepNames, event_blobs, is_touched}
+use Rattle.plan_steps.specs.Flags.{AreCandidates, FlagsAdd, FlagsAll, FlagsIds, FlagsNamed, FlagsSome, KeepNames, OthersKeepNames, event_blobs, has_flag}
 
 -- ---- flags that are added
 
@@ -203,7 +203,7 @@ other_candidates test old new flags keep f = record {
 
 -- the flag of an event is the one at its place
 pub touched_here : (flags : List Bool) (events : List PlainEvent) → AreDistinct events → (k : ℕ) (e : PlainEvent) → slice_get events k ≡ Some e →
-    is_touched flags events e ≡ get_or flags k false
+    has_flag flags events e ≡ get_or flags k false
 touched_here flags events once k e at = ap (flag_at flags) (place_found events k e at once).0
 
 -- where each of them has a flag, and what has one is named after, none is left over

@@ -1,7 +1,8 @@
 -- Tables that have an entry for each event of a list, made from the front.
-use Rattle.std.proofs.Common.{◌≡◌, ◌∙◌, ℕ, zero, suc, ◌<◌, Bool, false, List, [], ◌∷◌, ◌++◌, Some, refl, ap, length, get_or, take, drop, map, append-nil, arith}
+use Rattle.std.proofs.Common.{◌≡◌, ◌∙◌, ℕ, zero, suc, ◌<◌, Bool, false, List, [], ◌∷◌, ◌++◌, Some, refl, sym, ap, subst, inl, inr, length, get_or, take, drop, map, append-nil, arith}
 use Rattle.std.proofs.Math.ListN.{drop_of_length-le}
-use Rattle.std.proofs.lemmas.List.{map-append}
+use Rattle.std.proofs.lemmas.Bool.{cases_eq}
+use Rattle.std.proofs.lemmas.List.{get_or_append_left, get_or_push, length_push, map-append}
 use Rattle.std.proofs.lemmas.Option.{none-some, same_Some, slice_get_within}
 use Rattle.std.specs.Prelude.{slice_get}
 use Rattle.plain_model.specs.declared.event.PlainEvent.{PlainEvent}
@@ -25,6 +26,21 @@ module _ {X : Type 0} (default : X) (ok : PlainEvent → X → Type 0) (events :
   table_all k table whole t = record {
     count = t.count ∙ whole;
     entry = λ j e at. t.entry j e at (let low = slice_get_within events j e at in omega arith);
+  }
+
+  -- one entry more
+  pub table_push : (k : ℕ) (table : List X) (x : X) → IsTableTo default ok events k table →
+      ((e : PlainEvent) → slice_get events k ≡ Some e → ok e x) → IsTableTo default ok events (suc k) (table ++ x ∷ [])
+  table_push k table x t own = record {
+    count = let more = length_push table x in let count = t.count in omega arith;
+    entry = λ j e at low. elim (cases_eq j k) [
+      | inl here ↦
+          let count = t.count in
+          subst (ok e) (sym (get_or_push table x default j (omega arith))) (own e (subst (λ i. slice_get events i ≡ Some e) here at))
+      | inr other ↦
+          let count = t.count in
+          subst (ok e) (sym (get_or_append_left table (x ∷ []) default j (omega arith))) (t.entry j e at (omega arith))
+    ];
   }
 
 -- ---- flags by a test

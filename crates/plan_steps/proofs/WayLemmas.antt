@@ -29,7 +29,7 @@ use Rattle.graph_walk.proofs.PlaceLemmas.{event_placed, place_found}
 use Rattle.squash_laws.proofs.Hung.{back_first}
 use Rattle.squash_laws.specs.Removed.{is_removed}
 use Rattle.squash_laws.specs.Takings.{back_of}
-use Rattle.plan_steps.specs.Ways.{AreBackOfRemovedTo, AreForwardFrom, AreLed}
+use Rattle.plan_steps.specs.Ways.{AreBackOfRemoved, AreBackOfRemovedTo, AreForwardFrom, AreLed}
 use Rattle.plan_steps.proofs.NodeLemmas.{found_node, node_of}
 
 -- ---- commits and their ids
@@ -180,17 +180,29 @@ module _ (set : List AnyId) (events : List PlainEvent) (h : IsSound events) wher
       by [] first = absurd (none-some p first)
       by (q ∷ ps) first = back_first (is_removed set) (past events) q ps [] ∙ ap (back_of set events) (same_Some q p first)
 
-  -- what stands for an earlier commit is where it goes
+  -- what stands for a commit is where it goes
+  stands_for : (p : ℕ) (way : Option ℕ) (e : PlainEvent) → find_event (any.Commit p) events ≡ Some e →
+      (is_removed set p ≡ true → way ≡ back_of set events p) → cond (is_removed set p) way (Some p) ≡ back_of set events p
+  stands_for p way e found leads = elim (cases_Bool (is_removed set p)) [
+    | inl gone ↦ cond-true (is_removed set p) way (Some p) gone ∙ leads gone
+    | inr stays ↦ cond-false (is_removed set p) way (Some p) stays ∙ sym (back_stays p e found stays)
+  ]
+
   pub back_earlier : (k p place : ℕ) (table : List (Option ℕ)) → IsCommitOf (take k events) p → place_of (any.Commit p) events ≡ Some place →
       AreBackOfRemovedTo set events k table → cond (is_removed set p) (get_or table place None) (Some p) ≡ back_of set events p
   back_earlier k p place table earlier there t =
       let once = (sound_once events h).ids in
       let b = is_early events k p place once earlier there in
       let found : find_event (any.Commit p) events ≡ Some b.event = ap (λ id. find_event id events) (own_commit p b.event b.own) ∙ (place_found events place b.event b.at once).1 in
-      elim (cases_Bool (is_removed set p)) [
-        | inl gone ↦ cond-true (is_removed set p) (get_or table place None) (Some p) gone ∙ t.entry place b.event b.at b.low p b.own gone
-        | inr stays ↦ cond-false (is_removed set p) (get_or table place None) (Some p) stays ∙ sym (back_stays p b.event found stays)
-      ]
+      stands_for p (get_or table place None) b.event found (t.entry place b.event b.at b.low p b.own)
+
+  pub back_there : (p place : ℕ) (table : List (Option ℕ)) → place_of (any.Commit p) events ≡ Some place →
+      AreBackOfRemoved set events table → cond (is_removed set p) (get_or table place None) (Some p) ≡ back_of set events p
+  back_there p place table there t =
+      let b = commit_placed events p place there in
+      let found : find_event (any.Commit p) events ≡ Some b.event =
+      ap (λ id. find_event id events) (own_commit p b.event b.own) ∙ (place_found events place b.event b.at (sound_once events h).ids).1 in
+      stands_for p (get_or table place None) b.event found (t.entry place b.event b.at p b.own)
 
 module _ (set : List AnyId) (events : List PlainEvent) where
   -- ---- forward

@@ -48,8 +48,8 @@ pub record AreCandidates (old new : List PlainEvent) (flags : List Bool) : Type 
   pub over : (k : ℕ) (e : PlainEvent) → slice_get new k ≡ Some e → is_left_over old new e ≡ true → slice_index_or flags k false ≡ true
 
 -- the event is at a place that has a flag
-abbrev pub is_touched : List Bool → List PlainEvent → PlainEvent → Bool
-is_touched flags events e = is_flagged flags events (id_of e)
+abbrev pub has_flag : List Bool → List PlainEvent → PlainEvent → Bool
+has_flag flags events e = is_flagged flags events (id_of e)
 
 -- what an event names that doesn't pass a test is named after too
 abbrev pub OthersKeepNames : (PlainEvent → Bool) → List PlainEvent → List PlainEvent → Type 0

@@ -1,5 +1,5 @@
 -- The events near a set: those of it, and those that refer to one of its commits. The others stay as they are.
-use Rattle.std.specs.Prelude.{ℕ, ◌≡◌, ◌<◌, ◌≤◌, Bool, true, false, ◌||◌, List, [], ◌∷◌, length, take, Option, Some, option_map, slice_get, slice_index_or, if◌then◌else◌, IfSome, Vec}
+use Rattle.std.specs.Prelude.{ℕ, ◌≡◌, ◌<◌, ◌≤◌, Bool, true, false, ◌||◌, List, [], ◌∷◌, length, map, take, Option, Some, option_map, slice_get, slice_index_or, if◌then◌else◌, IfSome, Vec}
 use Rattle.std.specs.List.{list_any}
 use Rattle.std.specs.Option.{option_map_or}
 use Rattle.plain_model.specs.declared.id.AnyId.{AnyId}
@@ -18,6 +18,19 @@ is_on of e = option_map_or of (target_for Some e) false
 -- it is one of the set, or a child of a removed commit, or a tag or a reset on one
 abbrev pub is_near : List AnyId → PlainEvent → Bool
 is_near set e = is_listed (id_of e) set || (list_any (is_removed set) (event_parents e) || is_on (is_removed set) e)
+
+-- an event's id, and the commits that it refers to
+pub record Link : Type 0 where
+  pub id : AnyId
+  pub parents : List ℕ
+  pub target : Option ℕ
+
+abbrev pub link_of : PlainEvent → Link
+link_of e = record { id = id_of e; parents = event_parents e; target = target_for Some e }
+
+-- the same ids in one order, and the same parents and targets: near in one list is near in the other
+abbrev pub AreLinkedAlike : List PlainEvent → List PlainEvent → Type 0
+AreLinkedAlike old new = map link_of new ≡ map link_of old
 
 -- where an event has no flag, it isn't near
 pub record AreNear (set : List AnyId) (events : List PlainEvent) (near : List Bool) : Type 0 where

@@ -14,7 +14,7 @@ ghost use Rattle.std.specs.Prelude.{
 ghost use Rattle.plain_model.specs.Lookups.{find_event, id_of, is_listed, place_of};
 ghost use Rattle.plain_model.specs.Soundness.{IsSound};
 ghost use Rattle.plain_model.specs.declared.id.AnyId.TheVariants.{Commit};
-ghost use Rattle.plan_steps.specs.Near.{NoneNear};
+ghost use Rattle.plan_steps.specs.Near.{AreLinkedAlike, NoneNear};
 ghost use Rattle.squash_laws.specs.Removed.{is_removed};
 
 use crate::near::places_near;
@@ -77,6 +77,31 @@ impl<'a> Selected<'a> {
             set,
             flags,
             near: None,
+        })
+    }
+
+    /// Of what a plan leaves of a history, where each event refers to the commits that it did, with the places near the
+    /// set.
+    pub fn linked_as(
+        alloc: Global,
+        events: &Events,
+        plan: &'a Plan,
+        set: &[AnyId],
+    ) -> Result<Selected<'a>, NoMemory>
+        requires sound { IsSound plan.now.after }
+        requires alike { AreLinkedAlike events.now.list plan.now.after }
+        ensures events { IfOk result (λ made. made.events ≡ plan.now.after) }
+        ensures set { IfOk result (λ made. made.set ≡ set.now) }
+    {
+        let list = plan.after();
+        let flags = flags_of(alloc, list, set)?;
+        let near = Some(places_near(alloc, events, set, &flags)?);
+        let set = IdList::of(alloc, set)?;
+        Ok(Selected {
+            list,
+            set,
+            flags,
+            near,
         })
     }
 

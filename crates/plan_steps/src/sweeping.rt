@@ -30,7 +30,7 @@ ghost use Rattle.plan_steps.specs.Flags.{
   FlagsSome,
   KeepNames,
   OthersKeepNames,
-  is_touched,
+  has_flag,
 };
 
 use crate::selection::Selected;
@@ -82,7 +82,7 @@ fn named_before(alloc: Global, plan: &Plan) -> Result<Vec<bool>, NoMemory>
 fn named_by_touched(alloc: Global, plan: &Plan, touched: &[bool]) -> Result<Vec<bool>, NoMemory>
     requires { length touched.now ≡ length plan.now.before }
     ensures { IfOk result (λ flags. FlagsNamed plan.now.after
-        (filter (is_touched touched.now plan.now.before) plan.now.before) flags.items) }
+        (filter (has_flag touched.now plan.now.before) plan.now.before) flags.items) }
 {
     let mut flags = vec![in alloc; false; plan.count()]?;
     let old = plan.before();
@@ -264,7 +264,7 @@ pub fn sweep_removed(alloc: Global, removal: &Selected, plan: &mut Plan) -> Resu
 /// that touched events named can be left over.
 pub fn sweep_touched(alloc: Global, plan: &mut Plan, touched: &[bool]) -> Result<(), NoMemory>
     requires touched { length touched.now ≡ length plan.old.before }
-    requires kept { OthersKeepNames (is_touched touched.now plan.old.before) plan.old.before plan.old.after }
+    requires kept { OthersKeepNames (has_flag touched.now plan.old.before) plan.old.before plan.old.after }
     ensures swept { OnOk result (plan.new ≡ record plan.old {
       after = swept plan.old.before plan.old.after;
     }) }

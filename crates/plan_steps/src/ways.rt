@@ -84,8 +84,8 @@ pub fn ways_back(alloc: Global, removal: &Selected) -> Result<Ways, NoMemory>
     Ok(ways)
 }
 
-// What stands for the commit at a place: itself, if it stays, else the one to which its way goes.
-fn stand_in(
+/// What stands for the commit at a place: itself, if it stays, else the one to which its way goes.
+pub fn stand_in(
     removal: &Selected,
     ways: &[Option<CommitId>],
     place: usize,
@@ -116,8 +116,8 @@ fn back_from(removal: &Selected, ways: &[Option<CommitId>], place: usize) -> Opt
     stand_in(removal, ways, removal.place(*parent), *parent)
 }
 
-// The ways back of removed commits alone, which all are near.
-fn removed_ways_back(alloc: Global, removal: &Selected) -> Result<Ways, NoMemory>
+/// The ways back of removed commits alone, which all are near.
+pub fn removed_ways_back(alloc: Global, removal: &Selected) -> Result<Ways, NoMemory>
     ensures { IfOk result (λ ways. AreBackOfRemoved removal.now.set removal.now.events ways.items) }
 {
     let count = removal.count();

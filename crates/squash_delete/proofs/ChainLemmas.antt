@@ -1,11 +1,11 @@
 -- Chains of removed commits by what is noted of each, and what they carry along.
-use Rattle.std.proofs.Common.{◌≡◌, ◌∙◌, ℕ, zero, suc, ◌+◌, ◌≤◌, Bool, true, false, cond, ◌||◌, ◌&&◌, inl, inr, ◌⊎◌, List, [], ◌∷◌, ◌++◌, Option, Some, None, refl, sym, ap, subst, length, take, reverse, arith, append-nil, append_assoc, true≢false, flat_map, map}
-use Rattle.std.proofs.lemmas.Bool.{and_parts, or_parts}
+use Rattle.std.proofs.Common.{◌≡◌, ◌∙◌, ℕ, zero, suc, ◌≤◌, Bool, true, false, cond, ◌||◌, ◌&&◌, inl, inr, ◌⊎◌, List, [], ◌∷◌, ◌++◌, Option, Some, None, refl, sym, ap, subst, length, reverse, arith, append-nil, append_assoc, true≢false, flat_map, map}
+use Rattle.std.proofs.lemmas.Bool.{and_parts}
 use Rattle.std.proofs.lemmas.List.{map-append}
 use Rattle.std.proofs.lemmas.Option.{none-some, same_Some}
-use Rattle.std.specs.List.{AllByRecursion, list_all, list_any}
+use Rattle.std.specs.List.{AllByRecursion, list_all}
 use Rattle.std.specs.Option.{option_map_or}
-use Rattle.std.specs.Prelude.{◌==◌, IsSome, option_map, slice_get, unwrap_or}
+use Rattle.std.specs.Prelude.{◌==◌, IsSome, slice_get}
 use Rattle.plain_model.proofs.Numbers.{eqb_turned}
 use Rattle.plain_model.specs.declared.id.AnyId.{AnyId}
 use Rattle.plain_model.specs.declared.id.AnyId.TheVariants as any
@@ -16,11 +16,9 @@ use Rattle.plain_model.specs.Lookups.{event_ops, event_parents, find_event, plac
 use Rattle.plain_model.specs.Paths.{Bytes}
 use Rattle.plain_model.specs.Soundness.{IsCommitOf, IsSound}
 use Rattle.ancestry_laws.proofs.Pasts.{linked_past}
-use Rattle.history_laws.specs.Once.{AreDistinct}
 use Rattle.event_arena.proofs.ListLemmas.{take_all}
 use Rattle.history_laws.proofs.SoundOnce.{has_id_find}
-use Rattle.graph_walk.proofs.EarlierLemmas.{is_earlier, parents_before}
-use Rattle.graph_walk.proofs.PlaceLemmas.{place_found}
+use Rattle.graph_walk.proofs.EarlierLemmas.{parents_before}
 use Rattle.history_laws.specs.FirstParents.{ops_along}
 use Rattle.history_laws.proofs.LineLaws.{along_more}
 use Rattle.edit_laws.specs.Removal.{chain, expand, expand_all, once_each}
@@ -32,7 +30,7 @@ use Rattle.squash_laws.specs.Takings.{comments_of, is_from_root, is_none, links}
 use Rattle.squash_delete.specs.Chains.{AreBefore, IsNearest, Notes, comments_to, no_link, ops_to}
 use Rattle.squash_delete.specs.Taking.{event_comment}
 use Rattle.plan_steps.specs.Depths.{depth, parents_at}
-use Rattle.plan_steps.proofs.Depths.{depth_at, depth_before, links_nil}
+use Rattle.plan_steps.proofs.Depths.{depth_at, links_nil}
 use Rattle.plan_steps.proofs.NodeLemmas.{found_node, node_of}
 
 -- an empty comment is left out
@@ -140,11 +138,6 @@ module _ (set : List AnyId) (events : List PlainEvent) where
   pub root_some : (p : ℕ) (ps : List ℕ) → slice_get ps 0 ≡ Some p → is_from_root (links set events (p ∷ [])) ≡ is_from_root (links set events ps)
   root_some p [] first = absurd (none-some p first)
   root_some p (q ∷ ps) first = ap is_from_root (ap (λ x. links set events (x ∷ [])) (sym (same_Some q p first)) ∙ sym (links_first q ps))
-
-  -- no removed commit is before one none of whose parents is removed
-  pub no_links : (parents : List ℕ) → list_any (is_removed set) parents ≡ false → links set events parents ≡ []
-  no_links [] apart = links_nil set events
-  no_links (p ∷ ps) apart = chain_none (is_removed set) (past events) p ps (or_parts (is_removed set p) (list_any (is_removed set) ps) apart).0
 
   -- ---- what is noted of a commit that stays
 

@@ -1,8 +1,6 @@
 -- What becomes of an event where commits push forward, by what it is, and what is left when each event has become that.
-use Rattle.std.proofs.Common.{◌≡◌, ◌∙◌, ℕ, zero, suc, ◌<◌, Bool, true, false, cond, not, List, [], ◌∷◌, ◌++◌, Option, Some, None, refl, sym, ap, subst, length, take, drop, map, get_or, arith, eqb-true, ◌≤◌, ◌⊎◌, inl, inr, length-append}
-use Rattle.std.specs.Prelude.{◌==◌, ◌||◌, is_some, nat_lt, slice_get, unwrap_or}
-use Rattle.std.proofs.lemmas.Bool.{cases_Bool}
-use Rattle.std.proofs.lemmas.Bool.Decides.{nat_tests}
+use Rattle.std.proofs.Common.{◌≡◌, ◌∙◌, ℕ, zero, suc, ◌<◌, Bool, true, false, cond, not, List, [], ◌∷◌, ◌++◌, Option, Some, None, refl, sym, ap, subst, length, take, drop, map, get_or, arith, eqb-true}
+use Rattle.std.specs.Prelude.{◌==◌, ◌||◌, is_some, slice_get, unwrap_or}
 use Rattle.std.specs.List.{list_any}
 use Rattle.std.proofs.lemmas.List.{take-append-drop}
 use Rattle.std.proofs.lemmas.Option.{none-some, same_Some}
@@ -17,21 +15,17 @@ use Rattle.plain_model.specs.Histories.{Node, past}
 use Rattle.plain_model.specs.Lookups.{find_event, id_of, is_listed, same_id}
 use Rattle.plain_model.specs.Paths.{Bytes}
 use Rattle.plain_model.specs.Soundness.{are_distinct}
-use Rattle.history_laws.specs.FirstParents.{ops_along}
 use Rattle.history_laws.specs.Once.{AreDistinct}
 use Rattle.history_laws.proofs.Ids.{absent_cons, cons_absent}
 use Rattle.event_arena.specs.Changes.{changed, with_parents, with_target}
 use Rattle.event_arena.proofs.ListLemmas.{drop_item}
 use Rattle.event_arena.proofs.OnceLemmas.{distinct_absent}
 use Rattle.event_arena.proofs.StepLemmas.{changed_after}
-use Rattle.edit_laws.specs.Removal.{expand_all}
 use Rattle.squash_laws.specs.Comments.{joined}
 use Rattle.squash_laws.specs.Removed.{is_removed, parents_after}
-use Rattle.squash_laws.specs.Takings.{anew, comment_after, comments_of, target_after}
-use Rattle.plan_steps.specs.Tables.{IsTableTo}
+use Rattle.squash_laws.specs.Takings.{comment_after, comments_of, target_after}
 use Rattle.plan_steps.specs.Targets.{target_for}
-use Rattle.plan_steps.proofs.LeavingLemmas.{unremoved_parents}
-use Rattle.squash_delete.proofs.ChainLemmas.{no_links}
+use Rattle.plan_steps.proofs.LeavingLemmas.{no_links, nothing_pushed, unremoved_parents}
 use Rattle.squash_delete.specs.declared.fates.Fate.{Fate}
 use Rattle.squash_delete.specs.declared.fates.Fate.TheVariants.{Same, Taken, Moved}
 use Rattle.squash_delete.specs.Fates.{IsCommitFate, all_given, fated, given, left_event, taken, target_fate}
@@ -95,7 +89,7 @@ module _ (set : List AnyId) (events : List PlainEvent) (comments : Bool) (tags :
   apart_fate id parents ops comment once apart =
       let none = no_links set events parents apart in (
         sym (unremoved_parents (is_removed set) (past events) parents once apart),
-        sym (ap (λ (ls : List Node). anew ls (expand_all (is_removed set) (past events) parents) ++ (ops_along ls ++ ops)) none),
+        sym (nothing_pushed set events id parents ops apart),
         own comments (sym (ap (λ (ls : List Node). joined (comments_of set events ls ++ comment ∷ [])) none ∙ alone comment)),
       )
     where
@@ -234,33 +228,3 @@ given_all g fates [] c h = nothing_given fates
 given_all g [] (e ∷ es) c h = absurd (omega arith)
 given_all g (f ∷ fs) (e ∷ es) c h =
     ap (λ x. x ∷ all_given fs es) (h zero e refl) ∙ ap (λ (l : List PlainEvent). g e ∷ l) (given_all g fs es (omega arith) (λ j x at. h (suc j) x at))
-
--- ---- a table with one entry more
-
-push_same : {X : Type 0} (xs : List X) (x d : X) (j : ℕ) → j < length xs → get_or (xs ++ x ∷ []) j d ≡ get_or xs j d
-push_same [] x d j low = absurd (omega arith)
-push_same (y ∷ ys) x d zero low = refl
-push_same (y ∷ ys) x d (suc j) low = push_same ys x d j (omega arith)
-
-push_last : {X : Type 0} (xs : List X) (x d : X) → get_or (xs ++ x ∷ []) (length xs) d ≡ x
-push_last [] x d = refl
-push_last (y ∷ ys) x d = push_last ys x d
-
-pub table_push : {X : Type 0} (default : X) (ok : PlainEvent → X → Type 0) (events : List PlainEvent) (k : ℕ) (table : List X) (x : X) → IsTableTo default ok events k table →
-    ((e : PlainEvent) → slice_get events k ≡ Some e → ok e x) → IsTableTo default ok events (suc k) (table ++ x ∷ [])
-table_push default ok events k table x t own = record {
-  count = let more = length-append table (x ∷ []) in let count = t.count in omega arith;
-  entry = λ j e at low. by j e at low (cases_Bool (nat_lt j k));
-}
-  where
-    by : (j : ℕ) (e : PlainEvent) → slice_get events j ≡ Some e → j < suc k → (nat_lt j k ≡ true) ⊎ (nat_lt j k ≡ false) → ok e (get_or (table ++ x ∷ []) j default)
-    by j e at low (inl it) =
-        let lower : j < k = grind (arith, nat_tests) in
-        let count = t.count in
-        subst (ok e) (sym (push_same table x default j (omega arith))) (t.entry j e at lower)
-    by j e at low (inr no_it) =
-        let higher : k ≤ j = grind (arith, nat_tests) in
-        let count = t.count in
-        let last : j ≡ length table = omega arith in
-        let here : j ≡ k = omega arith in
-        subst (ok e) (sym (ap (λ i. get_or (table ++ x ∷ []) i default) last ∙ push_last table x default)) (own e (subst (λ i. slice_get events i ≡ Some e) here at))

@@ -30,7 +30,7 @@ use Rattle.graph_walk.proofs.PlaceLemmas.{place_found}
 use Rattle.manifest_cache.specs.Walks.{ops_at}
 use Rattle.squash_laws.specs.Comments.{comment_of, joined}
 use Rattle.squash_laws.specs.Removed.{Takings, is_removed}
-use Rattle.squash_laws.specs.Takings.{anew, back_of, comment_after, comments_of, hanging, is_from_root, is_it, is_none, links, takes}
+use Rattle.squash_laws.specs.Takings.{back_of, comment_after, comments_of, hanging, is_from_root, is_it, is_none, links, takes}
 use Rattle.plain_model.specs.declared.policy.Lean.{Lean}
 use Rattle.plain_model.specs.declared.policy.Push.TheVariants as push
 use Rattle.squash_delete.specs.Chains.{Carry}
@@ -41,9 +41,8 @@ use Rattle.squash_delete.specs.Sources.{count_ops}
 use Rattle.squash_delete.specs.Taking.{IsTakenBy, Taking, comment_taken, is_nothing, ops_taken}
 use Rattle.plan_steps.specs.Targets.{lost_target, target_for}
 use Rattle.plan_steps.proofs.Counting.{tally_item, tally_less}
-use Rattle.squash_delete.proofs.ChainLemmas.{no_links}
 use Rattle.plan_steps.proofs.NearLemmas.{kept_on, lost_is}
-use Rattle.plan_steps.proofs.LeavingLemmas.{after_id, own_parents_id, takings_id}
+use Rattle.plan_steps.proofs.LeavingLemmas.{after_id, no_links, nothing_pushed, own_parents_id, takings_id}
 use Rattle.plan_steps.proofs.Passes.{step_changed, step_gone, step_same}
 
 pub le_is : (a b : ℕ) → a ≡ b → a ≤ b
@@ -345,7 +344,7 @@ apart_taken set events h par tags k (Commit id mark branch author committer enco
     step_same (λ e. not (goes set (takes set events (record { push = push.Forward; tags = tags })) e)) (with_own_parents par) (with_takings par (takes set events (record { push = push.Forward; tags = tags }))) events k
     (Commit id mark branch author committer encoding comment parents ops aliases) at
     (ap (λ (os : List FileOp). Commit id mark branch author committer encoding (comment_after set events push.Forward id parents comment) (par parents) os aliases)
-    (ap (λ ls. anew ls (expand_all (is_removed set) (past events) parents) ++ (ops_along ls ++ ops)) none)
+    (nothing_pushed set events id parents ops apart)
     ∙ ap (λ (x : Bytes). Commit id mark branch author committer encoding x (par parents) ops aliases) (ap (λ ls. joined (comments_of set events ls ++ comment ∷ [])) none ∙ alone comment))
   where
     alone : (own : Bytes) → joined (own ∷ []) ≡ own

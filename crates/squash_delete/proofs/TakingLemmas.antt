@@ -1,14 +1,6 @@
 -- Operations and comments that are taken over, and how a plan goes on while they are.
-use Rattle.std.proofs.Common.{◌≡◌, ◌∙◌, true, cond, inl, inr, List, [], ◌∷◌, ◌++◌, Some, refl, sym, ap, append_assoc}
-use Rattle.std.proofs.lemmas.Bool.{cases_Bool}
-use Rattle.std.specs.Prelude.{IsSome, is_some}
-use Rattle.plain_model.specs.declared.id.AnyId.{AnyId}
-use Rattle.plain_model.specs.declared.operation.FileOp.{FileOp}
-use Rattle.plain_model.specs.declared.event.PlainEvent.{PlainEvent}
-use Rattle.plain_model.specs.declared.event.PlainEvent.TheVariants.{Blob, Commit, Tag, Reset, Pass}
-use Rattle.plain_model.specs.Lookups.{find_event, id_of, same_id}
+use Rattle.std.proofs.Common.{◌≡◌, ◌∙◌, List, [], ◌∷◌, ◌++◌, refl, sym, ap, append_assoc}
 use Rattle.plain_model.specs.Paths.{Bytes}
-use Rattle.event_arena.specs.Changes.{changed, with_ops}
 use Rattle.squash_laws.specs.Comments.{joined, joined_two}
 
 -- ---- comments

@@ -1,60 +1,17 @@
 //! The settled order of what is left.
-ghost use Rattle.std.specs.Prelude.{
-  ◌≡◌,
-  ◌<◌,
-  Ok,
-  Some,
-  length,
-  slice_get,
-  take,
-  true,
-  IfErr,
-  OnErr,
-  OnOk,
-};
+ghost use Rattle.std.specs.Prelude.{◌≡◌, Ok, IfErr, OnErr, OnOk};
 ghost use Rattle.edit_laws.specs.Parts.{AreComplete};
-ghost use Rattle.edit_laws.specs.Settling.{is_ready, settle};
+ghost use Rattle.edit_laws.specs.Settling.{settle};
 ghost use Rattle.graph_walk.specs.Outcome.{IsCauseOf};
-ghost use Rattle.plain_model.specs.Lookups.{id_of, place_of};
-ghost use Rattle.plan_steps.specs.Near.{AreReadyNear};
 ghost use Rattle.squash_laws.specs.Removed.{without_set};
 ghost use Rattle.squash_laws.specs.Takings.{takes};
 
 use edit_laws::settling_orders;
 use event_arena::Plan;
-use graph_walk::{is_ready_at, settle};
+use graph_walk::settle;
 use plain_model::{Halt, Policy, Push};
-use plan_steps::Selected;
+use plan_steps::{Selected, are_near_settled};
 use std::alloc::Global;
-
-// Whether what is left of the event at a place is after all that it refers to.
-fn is_settled_at(removal: &Selected, plan: &Plan, place: usize) -> bool
-    requires { place < length removal.now.events }
-    ensures { (event left : _) (at : _) → slice_get removal.now.events place ≡ Some event →
-        place_of (id_of event) plan.now.after ≡ Some at → slice_get plan.now.after at ≡ Some left →
-        result ≡ true → is_ready (take at plan.now.after) left ≡ true }
-{
-    let _count = removal.count();
-    match plan.place(removal.nth(place).id()) {
-        Some(at) => is_ready_at(plan, at),
-        None => true,
-    }
-}
-
-// Whether each near event is after all that it refers to.
-fn are_near_settled(removal: &Selected, plan: &Plan) -> bool
-    ensures { result ≡ true → AreReadyNear removal.now.set removal.now.events plan.now.after }
-{
-    let count = removal.count();
-    let mut place = removal.next_near(0);
-    while place < count {
-        if !is_settled_at(removal, plan, place) {
-            return false;
-        }
-        place = removal.next_near(place + 1);
-    }
-    true
-}
 
 /// Settles what a squash leaves. Where operations aren't pushed back, only near events refer to others than before, so that
 /// mostly a look at them does.

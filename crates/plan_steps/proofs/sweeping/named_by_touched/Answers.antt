@@ -5,7 +5,7 @@ use Rattle.plain_model.specs.declared.event.PlainEvent.{PlainEvent}
 use Rattle.plain_model.specs.declared.operation.FileOp.{FileOp}
 use Rattle.history_laws.proofs.Lists.{item_at}
 use Rattle.graph_walk.proofs.FlagLemmas.{refilled}
-use Rattle.plan_steps.specs.Flags.{FlagsAdd, FlagsNamed, event_blobs, is_touched}
+use Rattle.plan_steps.specs.Flags.{FlagsAdd, FlagsNamed, event_blobs, has_flag}
 use Rattle.plan_steps.proofs.SweepLemmas.{filtered_more, filtered_same, touched_here}
 use Rattle.plan_steps.proofs.sweeping.named_by_touched.Goals as goal
 use Rattle.plan_steps.proofs.sweeping.named_by_touched.Goals.{then-touched-place, else-touched-place}
@@ -14,7 +14,7 @@ pub loop-place-preserved : goal.loop-place-preserved
 loop-place-preserved c =
     let after = c.args.plan.now.after in
     let named = c.args.plan.now.before in
-    let test = is_touched c.args.touched.now named in
+    let test = has_flag c.args.touched.now named in
     let place = c.loop-place.place in
     let old = c.loop-place.flags.items in
     let once = c.old_count-place-end.ensures.once in

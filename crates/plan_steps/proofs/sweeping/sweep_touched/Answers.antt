@@ -1,5 +1,5 @@
 use Rattle.std.proofs.Common.{subst, sym}
-use Rattle.plan_steps.specs.Flags.{AreCandidates, is_touched}
+use Rattle.plan_steps.specs.Flags.{AreCandidates, has_flag}
 use Rattle.plan_steps.proofs.SweepLemmas.{other_candidates}
 use Rattle.plan_steps.proofs.sweeping.sweep_touched.Goals as goal
 
@@ -7,4 +7,4 @@ pub sweep_some-requires : goal.sweep_some-requires
 sweep_some-requires c =
     let p = c.args.plan.now in
     subst (AreCandidates p.before p.after) (sym c.deref.ensures.value)
-    (other_candidates (is_touched c.args.touched.now p.before) p.before p.after c.in_ok-before.before.items c.requires.kept c.in_ok-before.ensures)
+    (other_candidates (has_flag c.args.touched.now p.before) p.before p.after c.in_ok-before.before.items c.requires.kept c.in_ok-before.ensures)

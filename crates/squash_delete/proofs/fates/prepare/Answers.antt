@@ -3,11 +3,10 @@ use Rattle.plain_model.specs.declared.policy.Push.TheVariants as push
 use Rattle.plan_steps.specs.Targets.{AreMoves}
 use Rattle.squash_laws.specs.Takings.{target_after}
 use Rattle.plan_steps.specs.Tables.{IsTableTo}
-use Rattle.plan_steps.proofs.Tables.{table_all}
+use Rattle.plan_steps.proofs.Tables.{table_all, table_push}
 use Rattle.squash_delete.specs.declared.fates.Fate.{Fate}
 use Rattle.squash_delete.specs.declared.fates.Fate.TheVariants.{Same}
 use Rattle.squash_delete.specs.Fates.{FateIs, taken}
-use Rattle.squash_delete.proofs.FateLemmas.{table_push}
 use Rattle.squash_delete.proofs.fates.prepare.Goals as goal
 
 pub returns-clause-ids : goal.returns-clause-ids

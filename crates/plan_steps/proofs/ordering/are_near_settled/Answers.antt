@@ -1,7 +1,7 @@
 use Rattle.std.proofs.Common.{◌+◌, add-one, arith}
 use Rattle.std.proofs.lemmas.Option.{slice_get_within}
 use Rattle.plan_steps.proofs.NearPlaces.{AreReadyTo, ready_more, ready_over}
-use Rattle.squash_delete.proofs.settling.are_near_settled.Goals as goal
+use Rattle.plan_steps.proofs.ordering.are_near_settled.Goals as goal
 
 pub loop-place-init : goal.loop-place-init
 loop-place-init c =

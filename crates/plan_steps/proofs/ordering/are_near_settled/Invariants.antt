@@ -1,6 +1,6 @@
 use Rattle.std.proofs.Common.{◌≤◌, ◌-◌, length}
 use Rattle.plan_steps.proofs.NearPlaces.{AreReadyTo}
-use Rattle.squash_delete.proofs.settling.are_near_settled.Given as goal
+use Rattle.plan_steps.proofs.ordering.are_near_settled.Given as goal
 
 abbrev pub invariant-loop-place : goal.invariant-loop-place
 invariant-loop-place l = record {
