@@ -5,15 +5,15 @@ use Rattle.std.specs.List.{AllByRecursion}
 use Rattle.std.proofs.lemmas.List.{take-append-drop}
 use Rattle.std.proofs.lemmas.Option.{none-some, same_Some}
 use Rattle.plain_model.specs.declared.id.AnyId.{AnyId}
-use Rattle.plain_model.specs.declared.id.AnyId.TheVariants as any
 use Rattle.plain_model.specs.declared.operation.FileOp.{FileOp}
 use Rattle.plain_model.specs.declared.operation.FileOp.TheVariants.{DeleteAll}
 use Rattle.plain_model.specs.declared.person.Signed.{Signed}
 use Rattle.plain_model.specs.declared.event.PlainEvent.{PlainEvent}
 use Rattle.plain_model.specs.declared.event.PlainEvent.TheVariants.{Blob, Commit, Tag, Reset, Pass}
-use Rattle.plain_model.specs.Lookups.{find_event, id_of, is_listed, same_id}
+use Rattle.plain_model.specs.Histories.{past}
+use Rattle.plain_model.specs.Lookups.{event_parents, find_event, id_of, is_listed, same_id}
 use Rattle.plain_model.specs.Paths.{Bytes}
-use Rattle.plain_model.specs.Soundness.{IsSound}
+use Rattle.plain_model.specs.Soundness.{IsSound, are_distinct}
 use Rattle.event_arena.specs.declared.field.Field.TheVariants as field
 use Rattle.event_arena.specs.Changes.{changed, with_parents, with_target, without_all}
 use Rattle.history_laws.specs.Once.{AreDistinct}
@@ -26,10 +26,12 @@ use Rattle.edit_laws.proofs.Sound.{in_parts}
 use Rattle.expunge_laws.specs.InLine.{IsInLine, ops_in_line, parents_in_line}
 use Rattle.expunge_laws.proofs.Emptied.{listed_each}
 use Rattle.squash_laws.specs.Removed.{all_left, is_removed, parents_after}
+use Rattle.squash_laws.specs.Takings.{moved}
 use Rattle.plan_steps.specs.Leaving.{event_after, goes, staying}
 use Rattle.plain_model.specs.declared.policy.Lean.TheVariants as lean
 use Rattle.plan_steps.specs.Targets.{moving, target_for}
-use Rattle.plan_steps.proofs.LeavingLemmas.{after_id, left_staying}
+use Rattle.plan_steps.proofs.LeavingLemmas.{after_id, left_staying, nothing_pushed, unremoved_parents}
+use Rattle.plan_steps.proofs.NearLemmas.{IsApart, kept_on}
 use Rattle.path_expunge.specs.declared.fates.Fate.{Fate}
 use Rattle.path_expunge.specs.declared.fates.Fate.TheVariants.{Same, Linked, Anew, Moved}
 use Rattle.path_expunge.specs.Fates.{IsCommitFate, all_given_way, begins_anew, begun_anew, fated, given_way, taken, target_fate}
@@ -211,13 +213,30 @@ not_moved t (Tag id name target tagger comment mark) no_tag no_reset = absurd (n
 not_moved t (Reset id branch target) no_tag no_reset = absurd (no_reset id branch target refl)
 not_moved t (Pass id line) no_tag no_reset = refl
 
--- a blob stays as it is
-pub blob_fated : (set : List AnyId) (events : List PlainEvent) (e : PlainEvent) (n : ℕ) → id_of e ≡ any.Blob n → given_way Same e ≡ fated set events e
-blob_fated set events (Blob id mark bytes) n is = refl
-blob_fated set events (Commit id mark branch author committer encoding comment parents ops aliases) n is = absurd cc
-blob_fated set events (Tag id name target tagger comment mark) n is = absurd cc
-blob_fated set events (Reset id branch target) n is = absurd cc
-blob_fated set events (Pass id line) n is = absurd cc
+-- what isn't near stays as it is
+module _ (set : List AnyId) (events : List PlainEvent) where
+  stays : (c : ℕ) → is_removed set c ≡ false → (taken set events).target c ≡ Some c
+  stays c kept = ap (λ b. cond b (moved set events lean.Forward c) (Some c)) kept
+
+  same_apart : (e : PlainEvent) → are_distinct (event_parents e) ≡ true → IsApart set e → e ≡ becomes set events e
+  same_apart (Commit id mark branch author committer encoding comment parents ops aliases) once a =
+      ap (λ (ps : List ℕ). Commit id mark branch author committer encoding comment ps ops aliases) (sym (unremoved_parents (is_removed set) (past events) parents once a.parents))
+      ∙ ap (λ (os : List FileOp). Commit id mark branch author committer encoding comment (parents_after set events (taken set events) parents) os aliases)
+      (sym (nothing_pushed set events id parents ops a.parents))
+  same_apart (Blob id mark bytes) once a = refl
+  same_apart (Tag id name target tagger comment mark) once a =
+      ap (λ o. Tag id name (unwrap_or o target) tagger comment mark) (sym (stays target (kept_on set target (Tag id name target tagger comment mark) a.target refl)))
+  same_apart (Reset id branch (Some target)) once a =
+      ap (λ o. Reset id branch (Some (unwrap_or o target))) (sym (stays target (kept_on set target (Reset id branch (Some target)) a.target refl)))
+  same_apart (Reset id branch None) once a = refl
+  same_apart (Pass id line) once a = refl
+
+  pub apart_fated : (e : PlainEvent) → are_distinct (event_parents e) ≡ true → IsApart set e → given_way Same e ≡ fated set events e
+  apart_fated e once a = go (goes set (taken set events) e)
+    where
+      go : (b : Bool) → e ≡ cond b e (becomes set events e)
+      go true = refl
+      go false = same_apart e once a
 
 -- a tag or a reset that isn't one of the set, and what is no commit, is what becomes of it
 module _ (set : List AnyId) (events : List PlainEvent) where

@@ -14,7 +14,7 @@ use Rattle.expunge_laws.specs.Expunged.{emptied, is_emptied, replaced_event, rep
 use Rattle.expunge_laws.specs.Untouched.{may_be_touched}
 use Rattle.expunge_laws.proofs.Emptied.{emptied_each}
 use Rattle.expunge_laws.proofs.Still.{not_emptied}
-use Rattle.plan_steps.specs.Flags.{KeepNames, OthersKeepNames, event_blobs, is_touched}
+use Rattle.plan_steps.specs.Flags.{KeepNames, OthersKeepNames, event_blobs, has_flag}
 use Rattle.plan_steps.proofs.Counting.{any_item}
 use Rattle.plan_steps.proofs.KeptNames.{keep_names, ops_named}
 use Rattle.plan_steps.proofs.LeavingLemmas.{left_staying}
@@ -41,7 +41,7 @@ module _ (matched : Bytes → Bool) (events : List PlainEvent) (h : IsSound even
 
   -- those that aren't touched keep what they name, since they aren't emptied
   pub names_kept : (flags : List Bool) → flags ≡ map (may_be_touched matched) events → (new : List PlainEvent) →
-      KeepNames (emptied matched events) (replaced_events matched events) new → OthersKeepNames (is_touched flags events) events new
+      KeepNames (emptied matched events) (replaced_events matched events) new → OthersKeepNames (has_flag flags events) events new
   names_kept flags are new keep k d id at out listed =
       let none : may_be_touched matched d ≡ false =
       sym (touched_here flags events (sound_once events h).ids k d at ∙ ap (λ (fs : List Bool). get_or fs k false) are ∙ map_at (may_be_touched matched) events k d at) ∙ out in

@@ -5,5 +5,6 @@ pub mod KeptNames
 pub mod LeavingLemmas
 pub mod NamingLemmas
 pub mod Nodes
+pub mod Order
 pub mod Seeking
 pub mod WrittenLemmas

@@ -18,7 +18,7 @@ use expunge_laws::{
 };
 use manifest_cache::Manifests;
 use plain_model::{AnyId, Halt, NoMemory};
-use plan_steps::{limit_passed, put_in_order, sweep_touched};
+use plan_steps::{Selected, limit_passed, put_near_in_order, sweep_touched};
 use std::alloc::Global;
 
 // Whether there is no event in a set.
@@ -57,9 +57,10 @@ fn remove_paths(
     }
     emptied_commits_give_way_in_line();
     an_expunge_comes_to_its_end();
-    give_way(alloc, plan, set.as_slice())?;
+    give_way(alloc, events, plan, set.as_slice())?;
     sweep_touched(alloc, plan, &touched)?;
-    put_in_order(alloc, plan)?;
+    let removal = Selected::of(alloc, events, set.as_slice())?;
+    put_near_in_order(alloc, &removal, plan)?;
     Ok(())
 }
 

@@ -16,12 +16,12 @@ ghost use Rattle.plain_model.specs.Lookups.{find_event};
 ghost use Rattle.plain_model.specs.declared.id.AnyId.TheVariants.{Commit};
 ghost use Rattle.plan_steps.specs.Tables.{IsTable};
 ghost use Rattle.plan_steps.specs.Targets.{AreMoves, moving, target_for};
-ghost use Rattle.plan_steps.specs.Ways.{AreBack};
+ghost use Rattle.plan_steps.specs.Ways.{AreBackOfRemoved};
 ghost use Rattle.squash_laws.specs.Takings.{back_of};
 ghost use Rattle.plain_model.specs.declared.policy.Lean.TheVariants as lean;
 
-use plain_model::{AnyId, CommitId, NoMemory, ParentList, PlainEvent};
-use plan_steps::{Selected, lost_at, target_at, target_of, way_at};
+use plain_model::{CommitId, NoMemory, ParentList, PlainEvent};
+use plan_steps::{Selected, lost_at, stand_in, target_at, target_of};
 use std::alloc::Global;
 
 /// What becomes of an event: nothing, other parents, other parents and a beginning without files, or another target.
@@ -35,12 +35,12 @@ pub enum Fate {
 
 // The commit in the place of another one, if there is one.
 fn back_of(removal: &Selected, back: &[Option<CommitId>], commit: CommitId) -> Option<CommitId>
-    requires back { AreBack removal.now.set removal.now.events back.now }
+    requires back { AreBackOfRemoved removal.now.set removal.now.events back.now }
     requires there { IsSome (find_event (Commit commit) removal.now.events) }
     ensures { result ≡ back_of removal.now.set removal.now.events commit }
 {
     let _count = removal.count();
-    way_at(back, removal.place(commit))
+    stand_in(removal, back, removal.place(commit), commit)
 }
 
 // The parents in the place of these, each once.
@@ -50,7 +50,7 @@ fn parents_in_line(
     back: &[Option<CommitId>],
     parents: &[CommitId],
 ) -> Result<ParentList, NoMemory>
-    requires back { AreBack removal.now.set removal.now.events back.now }
+    requires back { AreBackOfRemoved removal.now.set removal.now.events back.now }
     requires there { AllByRecursion
         (λ p. IsSome (find_event (Commit p) removal.now.events)) parents.now }
     ensures { IfOk result
@@ -69,7 +69,7 @@ fn parents_in_line(
 
 // Whether nothing is in the place of the first of these parents.
 fn is_cut_off(removal: &Selected, back: &[Option<CommitId>], parents: &[CommitId]) -> bool
-    requires back { AreBack removal.now.set removal.now.events back.now }
+    requires back { AreBackOfRemoved removal.now.set removal.now.events back.now }
     requires there { AllByRecursion
         (λ p. IsSome (find_event (Commit p) removal.now.events)) parents.now }
     ensures { result ≡ is_cut_off removal.now.set removal.now.events parents.now }
@@ -87,7 +87,7 @@ fn begins_anew(
     parents: &[CommitId],
     made: &[CommitId],
 ) -> bool
-    requires back { AreBack removal.now.set removal.now.events back.now }
+    requires back { AreBackOfRemoved removal.now.set removal.now.events back.now }
     requires there { AllByRecursion
         (λ p. IsSome (find_event (Commit p) removal.now.events)) parents.now }
     requires made { made.now ≡ parents_in_line removal.now.set removal.now.events parents.now }
@@ -103,7 +103,7 @@ fn commit_fate(
     back: &[Option<CommitId>],
     parents: &[CommitId],
 ) -> Result<Fate, NoMemory>
-    requires back { AreBack removal.now.set removal.now.events back.now }
+    requires back { AreBackOfRemoved removal.now.set removal.now.events back.now }
     requires there { AllByRecursion
         (λ p. IsSome (find_event (Commit p) removal.now.events)) parents.now }
     ensures { IfOk result (λ fate.
@@ -159,7 +159,7 @@ fn fate_at(
     place: usize,
 ) -> Result<Fate, NoMemory>
     requires place { place < length removal.now.events }
-    requires back { AreBack removal.now.set removal.now.events back.now }
+    requires back { AreBackOfRemoved removal.now.set removal.now.events back.now }
     requires targets { AreMoves removal.now.set
         (moving removal.now.set removal.now.events lean.Forward) removal.now.events targets.now }
     requires line { AllByRecursion
@@ -171,10 +171,6 @@ fn fate_at(
     if removal.has_at(place) {
         return Ok(Fate::Same);
     }
-    // Blobs aren't looked at.
-    if let AnyId::Blob(_) = removal.list().id_at(place) {
-        return Ok(Fate::Same);
-    }
     let event = removal.nth(place);
     match event {
         PlainEvent::Commit { parents, .. } => {
@@ -184,14 +180,14 @@ fn fate_at(
     }
 }
 
-/// What becomes of all events.
+/// What becomes of all events. Those that aren't near stay as they are, and aren't looked at.
 pub fn fates(
     alloc: Global,
     removal: &Selected,
     back: &[Option<CommitId>],
     targets: &[Option<CommitId>],
 ) -> Result<Vec<Fate>, NoMemory>
-    requires back { AreBack removal.now.set removal.now.events back.now }
+    requires back { AreBackOfRemoved removal.now.set removal.now.events back.now }
     requires targets { AreMoves removal.now.set
         (moving removal.now.set removal.now.events lean.Forward) removal.now.events targets.now }
     requires line { AllByRecursion
@@ -200,8 +196,14 @@ pub fn fates(
         (FateIs removal.now.set removal.now.events) removal.now.events fates.items) }
 {
     let mut table = Vec::with_capacity(alloc, removal.count())?;
+    let mut near = removal.next_near(0);
     for place in 0..removal.count() {
-        table.push(fate_at(alloc, removal, back, targets, place)?)?;
+        if place < near {
+            table.push(Fate::Same)?;
+        } else {
+            table.push(fate_at(alloc, removal, back, targets, place)?)?;
+            near = removal.next_near(place + 1);
+        }
     }
     Ok(table)
 }

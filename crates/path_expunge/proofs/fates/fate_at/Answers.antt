@@ -1,5 +1,5 @@
 use Rattle.std.proofs.Common.{◌≡◌, ◌∙◌, ℕ, List, Some, false, ap, sym, subst}
-use Rattle.std.specs.Prelude.{IsSome, slice_get}
+use Rattle.std.specs.Prelude.{IsSome}
 use Rattle.std.specs.List.{AllByRecursion}
 use Rattle.std.proofs.lemmas.Option.{same_Some}
 use Rattle.plain_model.specs.declared.id.AnyId.TheVariants as any
@@ -16,15 +16,8 @@ use Rattle.plan_steps.specs.Targets.{moving, target_for}
 use Rattle.plan_steps.proofs.NodeLemmas.{parents_there}
 use Rattle.path_expunge.specs.declared.fates.Fate.{Fate}
 use Rattle.path_expunge.specs.Fates.{IsCommitFate, fated, given_way, target_fate}
-use Rattle.path_expunge.proofs.FateLemmas.{blob_fated, commit_fated, target_fated}
+use Rattle.path_expunge.proofs.FateLemmas.{commit_fated, target_fated}
 use Rattle.path_expunge.proofs.fates.fate_at.Goals as goal
-
-pub returns-in-Blob : goal.returns-in-Blob
-returns-in-Blob c event at =
-    let events = c.args.removal.now.events in
-    let x = c.id_at.ensures in
-    let here = ap (λ (es : List PlainEvent). slice_get es c.args.place) (sym c.list.ensures) ∙ x.1 in
-    blob_fated c.args.removal.now.set events event _ (ap id_of (same_Some event x.0 (sym at ∙ here)) ∙ sym x.2 ∙ c.in-Blob.is)
 
 pub commit_fate-requires-clause-there : goal.commit_fate-requires-clause-there
 commit_fate-requires-clause-there c =
@@ -49,8 +42,8 @@ returns-in-Commit c =
     (commit_fated set events x.id x.mark x.branch x.author x.committer x.encoding x.comment x.parents x.ops x.aliases line.0 stays fate
     (subst (λ (ps : List ℕ). IsCommitFate set events ps fate) c.as_slice.ensures its))) c.commit_fate.ensures
 
-pub returns-in_default-event : goal.returns-in_default-event
-returns-in_default-event c event at =
+pub returns-in_default : goal.returns-in_default
+returns-in_default c event at =
     let events = c.args.removal.now.events in
     let set = c.args.removal.now.set in
     let e = c.nth-event.result.now in
@@ -59,4 +52,4 @@ returns-in_default-event c event at =
     c.target_fate.ensures ∙ (λ i. target_fate (c.target_of.ensures i) (c.target_in.ensures e here i)) in
     let out : is_listed (id_of e) set ≡ false = sym (c.has_at.ensures e here) ∙ c.if-has_at.false in
     subst (λ (y : PlainEvent). given_way c.target_fate.result y ≡ fated set events y) (same_Some e event (sym here ∙ at))
-    (ap (λ (f : Fate). given_way f e) fate ∙ target_fated set events e out c.in_default-event.not-Commit)
+    (ap (λ (f : Fate). given_way f e) fate ∙ target_fated set events e out c.in_default.not-Commit)
