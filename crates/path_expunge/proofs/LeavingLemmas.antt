@@ -48,3 +48,11 @@ module _ (test : FileOp → Bool) where
   with_rest (Tag id name target tagger comment mark) = refl
   with_rest (Reset id branch target) = refl
   with_rest (Pass id line) = refl
+
+  -- its operations are those
+  pub rest_ops : (e : PlainEvent) → event_ops (event_without test e) ≡ filter (λ op. not (test op)) (event_ops e)
+  rest_ops (Commit id mark branch author committer encoding comment parents ops aliases) = refl
+  rest_ops (Blob id mark bytes) = refl
+  rest_ops (Tag id name target tagger comment mark) = refl
+  rest_ops (Reset id branch target) = refl
+  rest_ops (Pass id line) = refl

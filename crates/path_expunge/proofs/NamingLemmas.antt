@@ -1,17 +1,20 @@
 -- Paths on two sides, while one after another is noted.
-use Rattle.std.proofs.Common.{◌≡◌, ◌∙◌, ℕ, suc, ◌<◌, Bool, true, false, cond, not, filter, map, inl, inr, List, [], ◌∷◌, Some, refl, sym, ap, subst, get_or, length, take, true≢false}
+use Rattle.std.proofs.Common.{◌≡◌, ◌∙◌, ℕ, suc, ◌<◌, Bool, true, false, cond, not, filter, map, inl, inr, List, [], ◌∷◌, ◌++◌, Some, refl, sym, ap, append-nil, flat_map, subst, get_or, length, take, true≢false}
 use Rattle.std.specs.Prelude.{◌||◌, bytes_eq, slice_get}
 use Rattle.std.specs.List.{AllByRecursion, list_any}
 use Rattle.std.proofs.lemmas.Bool.{cases_Bool, false_from_ne_true, or_cases}
 use Rattle.std.proofs.lemmas.Slice.Eq.{bytes_eq-Decides}
 use Rattle.std.proofs.Math.Bool.{or-false, or_comm}
+use Rattle.std.proofs.lemmas.Grind.{flat_map-append}
+use Rattle.std.proofs.lemmas.List.Elements.{filter-append}
 use Rattle.std.proofs.lemmas.List.Folds.{list_any-append}
+use Rattle.plain_model.specs.declared.id.AnyId.{AnyId}
 use Rattle.plain_model.specs.declared.operation.FileOp.{FileOp}
 use Rattle.plain_model.specs.declared.operation.FileOp.TheVariants.{Modify, Delete, Copy, Rename, DeleteAll}
 use Rattle.plain_model.specs.declared.event.PlainEvent.{PlainEvent}
 use Rattle.plain_model.specs.declared.event.PlainEvent.TheVariants.{Blob, Commit, Tag, Reset, Pass}
 use Rattle.plain_model.specs.Histories.{nodes}
-use Rattle.plain_model.specs.Lookups.{event_ops}
+use Rattle.plain_model.specs.Lookups.{event_ops, op_blobs}
 use Rattle.plain_model.specs.Paths.{Bytes, do_conflict, is_below}
 use Rattle.history_laws.proofs.Lists.{all_imply, all_join}
 use Rattle.edit_laws.proofs.Lists.{events_of_nodes}
@@ -69,6 +72,23 @@ pub ops_taken : (matched : Bytes → Bool) (ops : List FileOp) (k : ℕ) (op : F
 ops_taken matched ops k op before own low at was is =
     (λ i. was i || is i) ∙ ap (λ b. list_any (may_touch matched) (take k ops) || b) (sym (or-false (may_touch matched op)))
     ∙ sym (ap (list_any (may_touch matched)) (take_more ops k op low at) ∙ list_any-append (may_touch matched) (take k ops) (op ∷ []))
+
+-- the blobs that operations name which don't touch one
+abbrev pub blobs_left : (Bytes → Bool) → List FileOp → List AnyId
+blobs_left matched ops = flat_map op_blobs (filter (λ op. not (may_touch matched op)) ops)
+
+-- one operation more
+pub left_more : (matched : Bytes → Bool) (ops : List FileOp) (k : ℕ) (op : FileOp) → k < length ops → op ≡ get_or ops k op →
+    blobs_left matched (take (suc k) ops) ≡ blobs_left matched (take k ops) ++ cond (may_touch matched op) [] (op_blobs op)
+left_more matched ops k op low at =
+    ap (blobs_left matched) (take_more ops k op low at)
+    ∙ ap (flat_map op_blobs) (filter-append (λ x. not (may_touch matched x)) (take k ops) (op ∷ []))
+    ∙ flat_map-append op_blobs (filter (λ x. not (may_touch matched x)) (take k ops)) (cond (not (may_touch matched op)) (op ∷ []) [])
+    ∙ ap (λ (ids : List AnyId). blobs_left matched (take k ops) ++ ids) (go (may_touch matched op))
+  where
+    go : (b : Bool) → flat_map op_blobs (cond (not b) (op ∷ []) []) ≡ cond b [] (op_blobs op)
+    go true = refl
+    go false = append-nil (op_blobs op)
 
 -- the operations up to one that was noted
 pub ops_noted : (old new : Named) → GoesOn old new → (ops : List FileOp) (k : ℕ) (op : FileOp) → k < length ops → op ≡ get_or ops k op → AllByRecursion (IsNoted old) (take k ops) → IsNoted new op → AllByRecursion (IsNoted new) (take (suc k) ops)

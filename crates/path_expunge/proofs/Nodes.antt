@@ -2,7 +2,6 @@
 use Rattle.std.proofs.Common.{◌≡◌, ◌∙◌, ℕ, Bool, true, false, List, [], ◌∷◌, Option, Some, refl, sym, ap, subst, true≢false}
 use Rattle.std.specs.Prelude.{IsSome, slice_get, unwrap_or}
 use Rattle.std.specs.List.{AllByRecursion}
-use Rattle.plain_model.specs.declared.id.AnyId.{AnyId}
 use Rattle.plain_model.specs.declared.id.AnyId.TheVariants as any
 use Rattle.plain_model.specs.declared.operation.FileOp.{FileOp}
 use Rattle.plain_model.specs.declared.person.Signed.{Signed}
@@ -29,10 +28,10 @@ use Rattle.expunge_laws.proofs.Still.{not_by_name, untouched_stay}
 pub begun_tree : (events : List PlainEvent) (parents : List ℕ) (t : Tree) → begun (tree events) parents ≡ Some t → IsTree t
 begun_tree events parents t is = subst IfTreeIs is (begun_is (tree events) (λ c. tree_is (past events) c) parents)
 
--- a set that has nothing in it
-pub no_ids : (ids : List AnyId) → is_none ids ≡ true → ids ≡ []
-no_ids [] h = refl
-no_ids (id ∷ ids) h = absurd (true≢false (sym h))
+-- what has nothing in it
+pub none_there : {X : Type 0} (xs : List X) → is_none xs ≡ true → xs ≡ []
+none_there [] h = refl
+none_there (x ∷ xs) h = absurd (true≢false (sym h))
 
 -- what is no commit keeps what it is, and is touched by nothing
 pub no_commit : (matched : Bytes → Bool) (events : List PlainEvent) (e : PlainEvent)

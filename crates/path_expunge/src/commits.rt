@@ -9,16 +9,18 @@ ghost use Rattle.expunge_laws.specs.Matching.{matched_by};
 ghost use Rattle.plain_model.specs.Histories.{begun, tree};
 ghost use Rattle.plain_model.specs.Lookups.{find_event, id_of};
 ghost use Rattle.plain_model.specs.Soundness.{IsCommitOf};
+ghost use Rattle.plan_steps.specs.Flags.{FlagsNamed};
 
 use crate::leaving::leave_out;
 use crate::matching::Matching;
-use crate::naming::named_apart;
+use crate::naming::{PlaceFlags, named_apart};
 use crate::replacing::{may_touch, replaced_all};
 use event_arena::{Events, Plan};
 use expunge_laws::what_names_matched_paths_goes;
 use manifest_cache::Manifests;
 use path_tree::PathTree;
 use plain_model::{CommitId, FileOp, NoMemory, PlainEvent, Steps};
+use plan_steps::named_after;
 use std::alloc::Global;
 
 // The steps of folding the trees of parents, which nobody looks at.
@@ -101,22 +103,23 @@ fn replace_at(
     Ok(true)
 }
 
-// Gives all commits what is in the place of their operations, in one pass, and answers for each place whether a matched
-// path may be touched there.
+// Gives all commits what is in the place of their operations, in one pass.
 fn replace_with_trees(
     alloc: Global,
     events: &Events,
     manifests: &mut Manifests,
     matching: &mut Matching<'_>,
     plan: &mut Plan,
-) -> Result<Vec<bool>, NoMemory>
+) -> Result<PlaceFlags, NoMemory>
     requires agrees { AgreesWith events.now.list manifests.old }
     requires whole { plan.old.after ≡ events.now.list }
     ensures changed { OnOk result (plan.new ≡ record plan.old {
       after = replaced_events (matched_by matching.old) events.now.list;
     }) }
-    ensures touched { IfOk result (λ touched.
-        touched.items ≡ map (may_be_touched (matched_by matching.old)) events.now.list) }
+    ensures touched { IfOk result (λ flags.
+        flags.touched.items ≡ map (may_be_touched (matched_by matching.old)) events.now.list) }
+    ensures named { IfOk result (λ flags. FlagsNamed events.now.list
+        (replaced_events (matched_by matching.old) events.now.list) flags.named.items) }
     ensures kept { AgreesWith events.now.list manifests.new }
 {
     let mut touched = Vec::with_capacity(alloc, events.count())?;
@@ -132,33 +135,36 @@ fn replace_with_trees(
         )?;
         touched.push(is_touched)?;
     }
-    Ok(touched)
+    let named = named_after(alloc, plan)?;
+    Ok(PlaceFlags { touched, named })
 }
 
-/// Gives all commits what is in the place of their operations, and answers for each place whether a matched path may be
-/// touched there. Where the paths of a history stand apart, as in nearly each one, what names a matched path just goes,
-/// and no tree is asked for.
+/// Gives all commits what is in the place of their operations, and answers at which places a matched path may be touched,
+/// and which blobs are named after. Where the paths of a history stand apart, as in nearly each one, what names a matched
+/// path just goes, and no tree is asked for.
 pub fn replace_ops(
     alloc: Global,
     events: &Events,
     manifests: &mut Manifests,
     matching: &mut Matching<'_>,
     plan: &mut Plan,
-) -> Result<Vec<bool>, NoMemory>
+) -> Result<PlaceFlags, NoMemory>
     requires agrees { AgreesWith events.now.list manifests.old }
     requires whole { plan.old.after ≡ events.now.list }
     ensures changed { OnOk result (plan.new ≡ record plan.old {
       after = replaced_events (matched_by matching.old) events.now.list;
     }) }
-    ensures touched { IfOk result (λ touched.
-        touched.items ≡ map (may_be_touched (matched_by matching.old)) events.now.list) }
+    ensures touched { IfOk result (λ flags.
+        flags.touched.items ≡ map (may_be_touched (matched_by matching.old)) events.now.list) }
+    ensures named { IfOk result (λ flags. FlagsNamed events.now.list
+        (replaced_events (matched_by matching.old) events.now.list) flags.named.items) }
     ensures kept { AgreesWith events.now.list manifests.new }
 {
     let _count = events.count();
     if let Some(noted) = named_apart(alloc, events, matching)? {
         what_names_matched_paths_goes();
         leave_out(alloc, events, &noted, plan)?;
-        return Ok(noted.touched);
+        return Ok(noted.flags);
     }
     replace_with_trees(alloc, events, manifests, matching, plan)
 }

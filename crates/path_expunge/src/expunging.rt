@@ -48,17 +48,17 @@ fn remove_paths(
     ensures kept { AgreesWith events.now.list manifests.new }
 {
     let _count = events.count();
-    let touched = replace_ops(alloc, events, manifests, matching, plan)?;
-    let set = emptied(alloc, plan, &touched)?;
+    let flags = replace_ops(alloc, events, manifests, matching, plan)?;
+    let set = emptied(alloc, plan, &flags.touched)?;
     what_no_matched_path_touches_stays();
     if is_nothing(set.as_slice()) {
-        sweep_touched(alloc, plan, &touched)?;
+        sweep_touched(alloc, plan, &flags.touched, &flags.named)?;
         return Ok(());
     }
     emptied_commits_give_way_in_line();
     an_expunge_comes_to_its_end();
     give_way(alloc, events, plan, set.as_slice())?;
-    sweep_touched(alloc, plan, &touched)?;
+    sweep_touched(alloc, plan, &flags.touched, &flags.named)?;
     let removal = Selected::of(alloc, events, set.as_slice())?;
     put_near_in_order(alloc, &removal, plan)?;
     Ok(())

@@ -55,15 +55,15 @@ pub fn leave_out(
     plan: &mut Plan,
 ) -> Result<(), NoMemory>
     requires whole { plan.old.after ≡ events.now.list }
-    requires touched { noted.now.touched.items
-        ≡ map (λ e. list_any (takes noted.now.named) (event_ops e)) events.now.list }
+    requires touched { noted.now.flags.touched.items
+        ≡ map (λ e. list_any (takes noted.now.paths) (event_ops e)) events.now.list }
     ensures { OnOk result (plan.new ≡ record plan.old {
-      after = map (event_without (takes noted.now.named)) events.now.list;
+      after = map (event_without (takes noted.now.paths)) events.now.list;
     }) }
 {
     for place in 0..events.count() {
-        if noted.touched[place] {
-            leave_out_at(alloc, events, &noted.named, plan, place)?;
+        if noted.flags.touched[place] {
+            leave_out_at(alloc, events, &noted.paths, plan, place)?;
         }
     }
     Ok(())

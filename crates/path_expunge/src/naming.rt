@@ -1,16 +1,31 @@
 //! Whether the paths that a history names stand apart: those that are matched from the others.
-ghost use Rattle.std.specs.Prelude.{◌≡◌, Bool, map, IfOk, IfSome, IsTrue, OnOk};
+ghost use Rattle.std.specs.Prelude.{
+  ◌≡◌,
+  Bool,
+  filter,
+  flat_map,
+  length,
+  map,
+  not,
+  IfOk,
+  IfSome,
+  IsTrue,
+  OnOk,
+};
 ghost use Rattle.std.specs.List.{AllByRecursion, list_any};
-ghost use Rattle.expunge_laws.specs.Apart.{AllOps};
+ghost use Rattle.expunge_laws.specs.Apart.{AllOps, event_without};
 ghost use Rattle.expunge_laws.specs.Matching.{matched_by};
 ghost use Rattle.expunge_laws.specs.Untouched.{may_be_touched, may_touch};
 ghost use Rattle.path_expunge.specs.Apart.{AreSides, GoesOn, IsNoted, is_named, takes};
+ghost use Rattle.plain_model.specs.Lookups.{op_blobs};
 ghost use Rattle.plain_model.specs.Paths.{Bytes};
+ghost use Rattle.plan_steps.specs.Flags.{FlagsAdd, FlagsNamed};
 
 use crate::matching::Matching;
 use crate::sides::{Side, is_deep};
-use event_arena::Events;
+use event_arena::{EventTable, Events};
 use plain_model::{FileOp, NoMemory};
+use plan_steps::flag_blob;
 use std::alloc::Global;
 
 /// The paths that operations name: those that are matched and are taken out, and those that are left.
@@ -122,19 +137,25 @@ impl<'a> Named<'a> {
         }
     }
 
-    // Notes what operations name, and answers whether some of that is taken out.
+    // Notes what operations name, answers whether some of that is taken out, and flags the blobs that the others name.
     fn note_ops(
         &mut self,
         matching: &mut Matching<'_>,
+        table: &EventTable,
         ops: &'a [FileOp],
+        named: &mut [bool],
     ) -> Result<Option<bool>, NoMemory>
-        requires { AreSides (matched_by matching.old) self.old }
+        requires sides { AreSides (matched_by matching.old) self.old }
+        requires flags { length named.old ≡ length table.now }
         ensures sides { OnOk result (AreSides (matched_by matching.old) self.new) }
         ensures more { OnOk result (GoesOn self.old self.new) }
         ensures noted { IfOk result
             (λ noted. IfSome noted (λ taken. AllByRecursion (IsNoted self.new) ops.now)) }
         ensures taken { IfOk result (λ noted. IfSome noted
             (λ taken. taken ≡ list_any (may_touch (matched_by matching.old)) ops.now)) }
+        ensures named { IfOk result (λ noted. IfSome noted (λ taken. FlagsAdd table.now
+            (flat_map op_blobs (filter (λ op. not (may_touch (matched_by matching.old) op)) ops.now))
+            named.old named.new)) }
         ensures same { matching.new ≡ matching.old }
     {
         let mut taken = false;
@@ -142,42 +163,60 @@ impl<'a> Named<'a> {
             let Some(is_taken) = self.note_op(matching, op)? else {
                 return Ok(None);
             };
-            taken = taken || is_taken;
+            if is_taken {
+                taken = true;
+            } else {
+                flag_blob(table, op, named);
+            }
         }
         Ok(Some(taken))
     }
 
-    // Notes what a whole history names, and answers for each place whether some of what is named there is taken out.
+    // Notes what a whole history names.
     fn note_all(
         &mut self,
         alloc: Global,
         matching: &mut Matching<'_>,
         events: &'a Events,
-    ) -> Result<Option<Vec<bool>>, NoMemory>
+    ) -> Result<Option<PlaceFlags>, NoMemory>
         requires { AreSides (matched_by matching.old) self.old }
         ensures sides { OnOk result (AreSides (matched_by matching.old) self.new) }
         ensures noted { IfOk result
-            (λ noted. IfSome noted (λ touched. AllOps (IsNoted self.new) events.now.list)) }
-        ensures touched { IfOk result (λ noted. IfSome noted (λ touched.
-            touched.items ≡ map (may_be_touched (matched_by matching.old)) events.now.list)) }
+            (λ noted. IfSome noted (λ flags. AllOps (IsNoted self.new) events.now.list)) }
+        ensures touched { IfOk result (λ noted. IfSome noted (λ flags.
+            flags.touched.items ≡ map (may_be_touched (matched_by matching.old)) events.now.list)) }
+        ensures named { IfOk result (λ noted. IfSome noted (λ flags. FlagsNamed events.now.list
+            (map (event_without (may_touch (matched_by matching.old))) events.now.list)
+            flags.named.items)) }
         ensures same { matching.new ≡ matching.old }
     {
         let mut touched = Vec::with_capacity(alloc, events.count())?;
+        let mut named = vec![in alloc; false; events.count()]?;
+        let table = events.table();
         for place in 0..events.count() {
-            let Some(taken) = self.note_ops(matching, events.table().ops_at(place))? else {
+            let Some(taken) = self.note_ops(matching, table, table.ops_at(place), &mut named)?
+            else {
                 return Ok(None);
             };
             touched.push(taken)?;
         }
-        Ok(Some(touched))
+        Ok(Some(PlaceFlags { touched, named }))
     }
 }
 
-/// What a history names, and for each of its places whether some operation there names a path that is taken out.
+/// What is known of the places of a history: at which a matched path may be touched, and which are those of blobs that what
+/// is in the place of operations names.
+#[derive(Drop)]
+pub struct PlaceFlags {
+    pub touched: Vec<bool>,
+    pub named: Vec<bool>,
+}
+
+/// The paths that a history names, and what is known of its places.
 #[derive(Drop)]
 pub struct Noted<'a> {
-    pub named: Named<'a>,
-    pub touched: Vec<bool>,
+    pub paths: Named<'a>,
+    pub flags: PlaceFlags,
 }
 
 /// What a history names, where there are no copies and no renames, and no matched path conflicts with one that isn't.
@@ -187,16 +226,19 @@ pub fn named_apart<'a>(
     matching: &mut Matching<'_>,
 ) -> Result<Option<Noted<'a>>, NoMemory>
     ensures sides { IfOk result
-        (λ found. IfSome found (λ noted. AreSides (matched_by matching.old) noted.named)) }
+        (λ found. IfSome found (λ noted. AreSides (matched_by matching.old) noted.paths)) }
     ensures noted { IfOk result
-        (λ found. IfSome found (λ noted. AllOps (IsNoted noted.named) events.now.list)) }
+        (λ found. IfSome found (λ noted. AllOps (IsNoted noted.paths) events.now.list)) }
     ensures touched { IfOk result (λ found. IfSome found (λ noted.
-        noted.touched.items ≡ map (may_be_touched (matched_by matching.old)) events.now.list)) }
+        noted.flags.touched.items ≡ map (may_be_touched (matched_by matching.old)) events.now.list)) }
+    ensures named { IfOk result (λ found. IfSome found (λ noted. FlagsNamed events.now.list
+        (map (event_without (may_touch (matched_by matching.old))) events.now.list)
+        noted.flags.named.items)) }
     ensures same { matching.new ≡ matching.old }
 {
-    let mut named = Named::new(alloc);
-    let Some(touched) = named.note_all(alloc, matching, events)? else {
+    let mut paths = Named::new(alloc);
+    let Some(flags) = paths.note_all(alloc, matching, events)? else {
         return Ok(None);
     };
-    Ok(Some(Noted { named, touched }))
+    Ok(Some(Noted { paths, flags }))
 }

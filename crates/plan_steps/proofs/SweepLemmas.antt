@@ -1,28 +1,35 @@
 -- Flags of what is named, and the blobs that are left over.
 use Rattle.std.proofs.Common.{◌≡◌, ◌∙◌, ℕ, suc, ◌<◌, Bool, true, false, cond, not, ◌||◌, inl, inr, ◌⊎◌, List, [], ◌∷◌, ◌++◌, Some, None, refl, sym, ap, subst, length, get_or, take, arith, append-nil, append_assoc, filter, flat_map, true≢false}
-use Rattle.std.proofs.Math.Bool.{or-false, or-true}
+use Rattle.std.proofs.Math.Bool.{and-false, or-false, or-true, or_assoc}
 use Rattle.std.proofs.Math.ListN.{set}
 use Rattle.std.proofs.lemmas.Bool.{and_from, and_parts, and_right, cases_Bool, cases_eq, false_from_ne_true, or_cases, or_left, or_right, not-true}
 use Rattle.std.proofs.lemmas.List.{length-replicate, get_or-set_other, get_or-set_same, length-set}
 use Rattle.std.proofs.lemmas.List.Folds.{list_any-append}
 use Rattle.std.proofs.lemmas.Option.{none-some, same_Some}
-use Rattle.std.specs.List.{list_any}
-use Rattle.std.specs.Prelude.{map, replicate, slice_get}
+use Rattle.std.specs.List.{AllByRecursion, list_all, list_any}
+use Rattle.std.specs.Prelude.{◌&&◌, IsSome, Option, map, replicate, slice_get}
 use Rattle.std.proofs.lemmas.List.Elements.{filter-append}
 use Rattle.plain_model.specs.declared.id.AnyId.{AnyId}
 use Rattle.plain_model.specs.declared.id.AnyId.TheVariants as any
 use Rattle.plain_model.specs.declared.event.PlainEvent.{PlainEvent}
 use Rattle.plain_model.specs.declared.event.PlainEvent.TheVariants.{Blob, Commit, Tag, Reset, Pass}
-use Rattle.plain_model.specs.Lookups.{find_event, id_of, is_listed, op_blobs, place_of, referents_of, same_id}
+use Rattle.plain_model.specs.declared.operation.Content.TheVariants.{Blob as OfBlob, Object}
+use Rattle.plain_model.specs.declared.operation.FileOp.{FileOp}
+use Rattle.plain_model.specs.declared.operation.FileOp.TheVariants.{Modify, Delete, Copy, Rename, DeleteAll}
+use Rattle.plain_model.specs.Lookups.{event_ops, find_event, id_of, is_listed, op_blobs, place_of, referents_of, same_id}
+use Rattle.plain_model.specs.Soundness.{IsSound, has_id}
 use Rattle.history_laws.proofs.Ids.{absent_cons, one_place, same_id_comm, same_id_refl, same_id_true}
 use Rattle.event_arena.specs.Changes.{without_all}
 use Rattle.history_laws.specs.Once.{AreDistinct}
 use Rattle.event_arena.proofs.ListLemmas.{take_item}
+use Rattle.edit_laws.specs.Keeping.{IsNoBlob}
+use Rattle.edit_laws.specs.Settling.{is_ready}
 use Rattle.edit_laws.specs.Sweeping.{is_left_over, is_named, swept}
+use Rattle.edit_laws.proofs.Settles.{sound_settles}
 use Rattle.graph_walk.proofs.FlagLemmas.{no_flag}
-use Rattle.graph_walk.proofs.PlaceLemmas.{place_found, place_within}
+use Rattle.graph_walk.proofs.PlaceLemmas.{event_placed, has_id_place, place_found, place_within}
 use Rattle.graph_walk.specs.Flags.{flag_at}
-use Rattle.plan_steps.specs.Flags.{AreCandidates, FlagsAdd, FlagsAll, FlagsIds, FlagsNamed, FlagsSome, KeepNames, OthersKeepNames, event_blobs, has_flag}
+use Rattle.plan_steps.specs.Flags.{AreCandidates, FlagsAdd, FlagsAll, FlagsIds, FlagsNamed, FlagsSome, KeepNames, OthersKeepNames, event_blobs, has_flag, is_unflagged, is_unflagged_at}
 
 -- ---- flags that are added
 
@@ -57,6 +64,21 @@ adds_skip events ids own old mid once absent f = record {
       let apart : same_id (id_of e) own ≡ false =
       false_from_ne_true (same_id (id_of e) own) (λ t. none-some k (sym absent ∙ ap (λ id. place_of id events) (sym (same_id_true (id_of e) own t)) ∙ (place_found events k e at once).0)) in
       f.more k e at ∙ sym (ap (λ b. get_or old k false || b) (list_any-append (same_id (id_of e)) ids (own ∷ []) ∙ ap (λ b. is_listed (id_of e) ids || (b || false)) apart ∙ or-false (is_listed (id_of e) ids)));
+}
+
+-- without ids the flags stay
+pub adds_nothing : (events : List PlainEvent) (flags : List Bool) → FlagsAdd events [] flags flags
+adds_nothing events flags = record { count = refl; more = λ k e at. sym (or-false (get_or flags k false)) }
+
+-- some ids, and then others
+pub adds_join : (events : List PlainEvent) (xs ys : List AnyId) (old mid new : List Bool) → FlagsAdd events xs old mid → FlagsAdd events ys mid new →
+    FlagsAdd events (xs ++ ys) old new
+adds_join events xs ys old mid new f g = record {
+  count = g.count ∙ f.count;
+  more = λ k e at.
+      g.more k e at ∙ ap (λ b. b || is_listed (id_of e) ys) (f.more k e at)
+      ∙ or_assoc (get_or old k false) (is_listed (id_of e) xs) (is_listed (id_of e) ys)
+      ∙ ap (λ b. get_or old k false || b) (sym (list_any-append (same_id (id_of e)) xs ys));
 }
 
 -- ---- flags of what a list names
@@ -356,3 +378,140 @@ flat_push f (y ∷ xs) x = ap (λ l. f y ++ l) (flat_push f xs x) ∙ sym (appen
 pub nil_of : {X : Type 0} (xs : List X) → length xs ≡ 0 → xs ≡ []
 nil_of [] h = refl
 nil_of (x ∷ xs) h = absurd (omega arith)
+
+-- ---- what touched events named, and has no flag
+
+-- ids that pass a test are listed where they were and pass
+listed_passing : (test : AnyId → Bool) (id : AnyId) (ids : List AnyId) → is_listed id (filter test ids) ≡ is_listed id ids && test id
+listed_passing test id [] = refl
+listed_passing test id (x ∷ ids) = front (test x) ∙ ap (λ b. (test x && same_id id x) || b) (listed_passing test id ids) ∙ elim (cases_Bool (same_id id x)) [
+  | inl same ↦
+      ap (λ b. (test x && b) || (is_listed id ids && test id)) same
+      ∙ ap (λ y. (test y && true) || (is_listed id ids && test id)) (sym (same_id_true id x same)) ∙ both (test id)
+      ∙ sym (ap (λ b. (b || is_listed id ids) && test id) same)
+  | inr other ↦
+      ap (λ b. (test x && b) || (is_listed id ids && test id)) other
+      ∙ ap (λ b. b || (is_listed id ids && test id)) (and-false (test x))
+      ∙ sym (ap (λ b. (b || is_listed id ids) && test id) other)
+]
+  where
+    front : (b : Bool) → is_listed id (cond b (x ∷ filter test ids) (filter test ids)) ≡ (b && same_id id x) || is_listed id (filter test ids)
+    front true = refl
+    front false = refl
+
+    both : (b : Bool) → (b && true) || (is_listed id ids && b) ≡ b
+    both true = refl
+    both false = and-false (is_listed id ids)
+
+-- an id that operations of events name is named by one of them
+listed_flat : (id : AnyId) (es : List PlainEvent) → is_listed id (flat_map event_blobs es) ≡ list_any (λ d. is_listed id (event_blobs d)) es
+listed_flat id [] = refl
+listed_flat id (e ∷ es) =
+    list_any-append (same_id id) (event_blobs e) (flat_map event_blobs es) ∙ ap (λ b. is_listed id (event_blobs e) || b) (listed_flat id es)
+
+-- operations name blobs alone
+not_a_blob : (id : AnyId) → IsNoBlob id → (b : ℕ) → same_id id (any.Blob b) ≡ false
+not_a_blob (any.Blob a) other b = absurd other
+not_a_blob (any.Commit c) other b = refl
+not_a_blob (any.Tag t) other b = refl
+not_a_blob (any.Reset r) other b = refl
+not_a_blob (any.Pass p) other b = refl
+
+module _ (id : AnyId) (other : IsNoBlob id) where
+  not_by_op : (op : FileOp) → is_listed id (op_blobs op) ≡ false
+  not_by_op (Modify mode (OfBlob b) path) = ap (λ x. x || false) (not_a_blob id other b)
+  not_by_op (Modify mode (Object digits) path) = refl
+  not_by_op (Delete path) = refl
+  not_by_op (Copy source target) = refl
+  not_by_op (Rename source target) = refl
+  not_by_op DeleteAll = refl
+
+  not_by_ops : (ops : List FileOp) → is_listed id (flat_map op_blobs ops) ≡ false
+  not_by_ops [] = refl
+  not_by_ops (op ∷ ops) =
+      list_any-append (same_id id) (op_blobs op) (flat_map op_blobs ops) ∙ ap (λ b. b || is_listed id (flat_map op_blobs ops)) (not_by_op op) ∙ not_by_ops ops
+
+  not_by_any : (es : List PlainEvent) → is_listed id (flat_map event_blobs es) ≡ false
+  not_by_any [] = refl
+  not_by_any (e ∷ es) =
+      list_any-append (same_id id) (event_blobs e) (flat_map event_blobs es)
+      ∙ ap (λ b. b || is_listed id (flat_map event_blobs es)) (not_by_ops (event_ops e)) ∙ not_by_any es
+
+all_listed : (test : AnyId → Bool) (id : AnyId) (ids : List AnyId) → list_all test ids ≡ true → is_listed id ids ≡ true → test id ≡ true
+all_listed test id [] all listed = absurd (true≢false (sym listed))
+all_listed test id (x ∷ ids) all listed =
+    let parts = and_parts (test x) (list_all test ids) all in
+    elim (or_cases (same_id id x) (is_listed id ids) listed) [
+      | inl same ↦ ap test (same_id_true id x same) ∙ parts.0
+      | inr later ↦ all_listed test id ids parts.1 later
+    ]
+
+-- in a sound history each blob that is named is there
+pub named_there : (events : List PlainEvent) → IsSound events → (b : ℕ) → is_named events b ≡ true → IsSome (place_of (any.Blob b) events)
+named_there events h b named = sym (has_id_place events (any.Blob b)) ∙ go events (sound_settles events h).complete named
+  where
+    go : (es : List PlainEvent) → AllByRecursion (λ e. is_ready events e ≡ true) es → is_named es b ≡ true → has_id events (any.Blob b) ≡ true
+    go [] a t = absurd (true≢false (sym t))
+    go (e ∷ es) a t = elim (or_cases (is_listed (any.Blob b) (referents_of e)) (is_named es b) t) [
+      | inl own ↦ all_listed (has_id events) (any.Blob b) (referents_of e) a.0 own
+      | inr later ↦ go es a.1 later
+    ]
+
+-- of what some events named, where the others keep what they name, just that is left over that isn't named after
+module _ (test : PlainEvent → Bool) (old new : List PlainEvent) (h : IsSound old) (keep : OthersKeepNames test old new) (flags : List Bool) (f : FlagsNamed old new flags) where
+  abbrev over : List AnyId
+  over = filter (is_unflagged flags old) (flat_map event_blobs (filter test old))
+
+  -- what is there has a flag where it is named after
+  unflagged_there : (id : AnyId) → IsSome (place_of id old) → is_unflagged flags old id ≡ not (list_any (λ d. is_listed id (event_blobs d)) new)
+  unflagged_there id there = go (place_of id old) refl there
+    where
+      go : (o : Option ℕ) → place_of id old ≡ o → IsSome o → is_unflagged_at flags o ≡ not (list_any (λ d. is_listed id (event_blobs d)) new)
+      go None is some = absurd (true≢false (sym some))
+      go (Some p) is some =
+          let placed = event_placed old id p is in
+          ap not (f.flag p placed.event placed.at ∙ ap (λ i. list_any (λ d. is_listed i (event_blobs d)) new) (sym placed.own))
+
+  -- one of those events named the blob
+  abbrev some : ℕ → Bool
+  some n = list_any (λ d. is_listed (any.Blob n) (event_blobs d)) (filter test old)
+
+  blob_over : (n : ℕ) → is_listed (any.Blob n) over ≡ is_named old n && not (is_named new n)
+  blob_over n =
+      listed_passing (is_unflagged flags old) (any.Blob n) (flat_map event_blobs (filter test old))
+      ∙ ap (λ b. b && is_unflagged flags old (any.Blob n)) (listed_flat (any.Blob n) (filter test old))
+      ∙ elim (cases_Bool (is_named old n)) [
+        | inl was ↦
+            ap (λ b. some n && b) (unflagged_there (any.Blob n) (named_there old h n was) ∙ ap not (sym (named_by_ops n new)))
+            ∙ elim (cases_Bool (is_named new n)) [
+              | inl still ↦ ap (λ b. some n && not b) still ∙ and-false (some n) ∙ sym (ap (λ b. is_named old n && not b) still ∙ and-false (is_named old n))
+              | inr no_more ↦
+                  ap (λ b. b && not (is_named new n)) (elim (any_either (λ d. is_listed (any.Blob n) (event_blobs d)) test old (sym (named_by_ops n old) ∙ was)) [
+                    | inl it ↦ it
+                    | inr o ↦ absurd (true≢false (sym (keep o.place o.event (any.Blob n) o.at o.out o.passes) ∙ sym (named_by_ops n new) ∙ no_more))
+                  ])
+                  ∙ ap (λ b. b && not (is_named new n)) (sym was)
+            ]
+        | inr never ↦
+            ap (λ b. b && is_unflagged flags old (any.Blob n)) (false_from_ne_true (some n) (λ t. true≢false (sym (any_filtered (λ d. is_listed (any.Blob n) (event_blobs d)) test old t) ∙ sym (named_by_ops n old) ∙ never)))
+            ∙ sym (ap (λ b. b && not (is_named new n)) never)
+      ]
+
+  no_blob_over : (id : AnyId) → IsNoBlob id → is_listed id over ≡ false
+  no_blob_over id other =
+      listed_passing (is_unflagged flags old) id (flat_map event_blobs (filter test old))
+      ∙ ap (λ b. b && is_unflagged flags old id) (not_by_any id other (filter test old))
+
+  listed_over : (e : PlainEvent) → is_listed (id_of e) over ≡ is_left_over old new e
+  listed_over (Blob n mark bytes) = blob_over n
+  listed_over (Commit n mark branch author committer encoding comment parents ops aliases) = no_blob_over (any.Commit n) tt
+  listed_over (Tag n name target tagger comment mark) = no_blob_over (any.Tag n) tt
+  listed_over (Reset n branch target) = no_blob_over (any.Reset n) tt
+  listed_over (Pass n line) = no_blob_over (any.Pass n) tt
+
+  pub without_over : without_all over new ≡ swept old new
+  without_over = go new
+    where
+      go : (es : List PlainEvent) → without_all over es ≡ filter (λ e. not (is_left_over old new e)) es
+      go [] = refl
+      go (e ∷ es) = λ i. cond (not (listed_over e i)) (e ∷ go es i) (go es i)

@@ -1,9 +1,9 @@
 -- Flags of a list of events, one for each place: of events with some ids, and of the blobs that operations name.
-use Rattle.std.specs.Prelude.{ℕ, ◌≡◌, Bool, true, false, ◌||◌, List, length, Some, flat_map, slice_get, slice_index_or}
+use Rattle.std.specs.Prelude.{ℕ, ◌≡◌, Bool, true, false, not, ◌||◌, List, length, Option, Some, None, flat_map, slice_get, slice_index_or}
 use Rattle.std.specs.List.{list_any}
 use Rattle.plain_model.specs.declared.id.AnyId.{AnyId}
 use Rattle.plain_model.specs.declared.event.PlainEvent.{PlainEvent}
-use Rattle.plain_model.specs.Lookups.{event_ops, id_of, is_listed, op_blobs}
+use Rattle.plain_model.specs.Lookups.{event_ops, id_of, is_listed, op_blobs, place_of}
 use Rattle.edit_laws.specs.Sweeping.{is_left_over}
 use Rattle.graph_walk.specs.Flags.{is_flagged}
 
@@ -50,6 +50,15 @@ pub record AreCandidates (old new : List PlainEvent) (flags : List Bool) : Type 
 -- the event is at a place that has a flag
 abbrev pub has_flag : List Bool → List PlainEvent → PlainEvent → Bool
 has_flag flags events e = is_flagged flags events (id_of e)
+
+-- there is a place, and it has no flag
+abbrev pub is_unflagged_at : List Bool → Option ℕ → Bool
+is_unflagged_at flags None = false
+is_unflagged_at flags (Some place) = not (slice_index_or flags place false)
+
+-- the event with the id is there, and has no flag
+abbrev pub is_unflagged : List Bool → List PlainEvent → AnyId → Bool
+is_unflagged flags events id = is_unflagged_at flags (place_of id events)
 
 -- what an event names that doesn't pass a test is named after too
 abbrev pub OthersKeepNames : (PlainEvent → Bool) → List PlainEvent → List PlainEvent → Type 0

@@ -27,6 +27,6 @@ pub use operations::{anew, push_ops};
 pub use ordering::{are_near_settled, put_in_order, put_near_in_order};
 pub use selected::{chosen, event_number, kind_fault, the_commit};
 pub use selection::Selected;
-pub use sweeping::{flag_blobs, sweep, sweep_removed, sweep_touched};
+pub use sweeping::{flag_blob, flag_blobs, named_after, sweep, sweep_removed, sweep_touched};
 pub use targets::{Targets, lost_at, moved_targets, target_at, target_of, targets_of};
 pub use ways::{removed_ways_back, stand_in, way_at, ways_back};

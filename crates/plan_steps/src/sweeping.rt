@@ -3,6 +3,7 @@ ghost use Rattle.std.specs.Prelude.{
   ◌≡◌,
   ◌<◌,
   ◌∷◌,
+  ◌++◌,
   [],
   Some,
   false,
@@ -20,6 +21,7 @@ ghost use Rattle.std.specs.Prelude.{
   OnOk,
 };
 ghost use Rattle.edit_laws.specs.Sweeping.{is_left_over, swept};
+ghost use Rattle.event_arena.specs.Changes.{without_all};
 ghost use Rattle.plain_model.specs.Lookups.{id_of, is_listed, op_blobs};
 ghost use Rattle.plan_steps.specs.Flags.{
   AreCandidates,
@@ -30,11 +32,13 @@ ghost use Rattle.plan_steps.specs.Flags.{
   FlagsSome,
   KeepNames,
   OthersKeepNames,
+  event_blobs,
   has_flag,
+  is_unflagged,
 };
 
 use crate::selection::Selected;
-use event_arena::Plan;
+use event_arena::{EventTable, Plan};
 use plain_model::{AnyId, Content, FileOp, IdList, NoMemory, PlainEvent};
 use std::alloc::Global;
 
@@ -51,18 +55,26 @@ fn blob_of(op: &FileOp) -> Option<AnyId>
     }
 }
 
+/// Flags the blob that an operation names, where the list has it.
+pub fn flag_blob(table: &EventTable, op: &FileOp, flags: &mut [bool])
+    requires { length flags.old ≡ length table.now }
+    ensures { FlagsAdd table.now (op_blobs op.now) flags.old flags.new }
+{
+    let _count = table.count();
+    if let Some(id) = blob_of(op) {
+        if let Some(place) = table.place(id) {
+            flags[place] = true;
+        }
+    }
+}
+
 /// Flags the blobs that operations name, where the list after has them.
 pub fn flag_blobs(plan: &Plan, ops: &[FileOp], flags: &mut [bool])
     requires { length flags.old ≡ length plan.now.after }
     ensures { FlagsAdd plan.now.after (flat_map op_blobs ops.now) flags.old flags.new }
 {
-    let _count = plan.count();
     for op in ops {
-        if let Some(id) = blob_of(op) {
-            if let Some(place) = plan.place(id) {
-                flags[place] = true;
-            }
-        }
+        flag_blob(plan.after(), op, flags);
     }
 }
 
@@ -74,22 +86,6 @@ fn named_before(alloc: Global, plan: &Plan) -> Result<Vec<bool>, NoMemory>
     let old = plan.before();
     for place in 0..plan.old_count() {
         flag_blobs(plan, old.ops_at(place), &mut flags);
-    }
-    Ok(flags)
-}
-
-// Flags for the blobs that were named before where an edit has touched something.
-fn named_by_touched(alloc: Global, plan: &Plan, touched: &[bool]) -> Result<Vec<bool>, NoMemory>
-    requires { length touched.now ≡ length plan.now.before }
-    ensures { IfOk result (λ flags. FlagsNamed plan.now.after
-        (filter (has_flag touched.now plan.now.before) plan.now.before) flags.items) }
-{
-    let mut flags = vec![in alloc; false; plan.count()]?;
-    let old = plan.before();
-    for place in 0..plan.old_count() {
-        if touched[place] {
-            flag_blobs(plan, old.ops_at(place), &mut flags);
-        }
     }
     Ok(flags)
 }
@@ -171,8 +167,8 @@ fn are_all_flagged(removal: &Selected, plan: &Plan, flags: &[bool]) -> bool
     true
 }
 
-// Flags for the blobs that are named after.
-fn named_after(alloc: Global, plan: &Plan) -> Result<Vec<bool>, NoMemory>
+/// Flags for the blobs that are named after.
+pub fn named_after(alloc: Global, plan: &Plan) -> Result<Vec<bool>, NoMemory>
     ensures { IfOk result (λ flags. FlagsNamed plan.now.after plan.now.after flags.items) }
 {
     let mut flags = vec![in alloc; false; plan.count()]?;
@@ -215,6 +211,17 @@ fn left_over(alloc: Global, plan: &Plan, before: &[bool]) -> Result<IdList, NoMe
     Ok(ids)
 }
 
+// Takes away the events with these ids, in one pass, if there are any.
+fn take_away(plan: &mut Plan, ids: &IdList) -> Result<(), NoMemory>
+    ensures ok { OnOk result (plan.new ≡ record plan.old { after = without_all ids.now plan.old.after }) }
+    ensures err { OnErr result (plan.new ≡ plan.old) }
+{
+    if ids.as_slice().is_empty() {
+        return Ok(());
+    }
+    plan.remove_all(ids)
+}
+
 // Takes away those of the blobs with a flag that were named before, and aren't any more.
 fn sweep_some(alloc: Global, plan: &mut Plan, before: &[bool]) -> Result<(), NoMemory>
     requires { AreCandidates plan.old.before plan.old.after before.now }
@@ -225,10 +232,7 @@ fn sweep_some(alloc: Global, plan: &mut Plan, before: &[bool]) -> Result<(), NoM
 {
     let _count = plan.count();
     let ids = left_over(alloc, plan, before)?;
-    if ids.as_slice().is_empty() {
-        return Ok(());
-    }
-    plan.remove_all(&ids)
+    take_away(plan, &ids)
 }
 
 /// Takes away each blob that some operation named before and none names after, in one pass over each list.
@@ -260,16 +264,78 @@ pub fn sweep_removed(alloc: Global, removal: &Selected, plan: &mut Plan) -> Resu
     sweep_some(alloc, plan, &before)
 }
 
-/// The same, where an edit has touched the events before that have a flag, and the others keep what they name. Only blobs
-/// that touched events named can be left over.
-pub fn sweep_touched(alloc: Global, plan: &mut Plan, touched: &[bool]) -> Result<(), NoMemory>
+// Whether the list has an event with the id, which has no flag.
+fn is_unflagged(table: &EventTable, id: &AnyId, flags: &[bool]) -> bool
+    requires { length flags.now ≡ length table.now }
+    ensures { result ≡ is_unflagged flags.now table.now id.now }
+{
+    let _count = table.count();
+    match table.place(*id) {
+        Some(place) => !flags[place],
+        None => false,
+    }
+}
+
+// Puts the blobs that operations name, and that have no flag, behind others.
+fn push_unflagged(
+    table: &EventTable,
+    ops: &[FileOp],
+    flags: &[bool],
+    ids: &mut IdList,
+) -> Result<(), NoMemory>
+    requires { length flags.now ≡ length table.now }
+    ensures { OnOk result (ids.new ≡ ids.old
+        ++ filter (is_unflagged flags.now table.now) (flat_map op_blobs ops.now)) }
+{
+    for op in ops {
+        if let Some(id) = blob_of(op) {
+            if is_unflagged(table, &id, flags) {
+                ids.push(id)?;
+            }
+        }
+    }
+    Ok(())
+}
+
+// The blobs that touched events named, and that have no flag.
+fn touched_unflagged(
+    alloc: Global,
+    plan: &Plan,
+    touched: &[bool],
+    flags: &[bool],
+) -> Result<IdList, NoMemory>
+    requires touched { length touched.now ≡ length plan.now.before }
+    requires flags { length flags.now ≡ length plan.now.before }
+    ensures { IfOk result (λ ids. ids ≡ filter (is_unflagged flags.now plan.now.before)
+        (flat_map event_blobs (filter (has_flag touched.now plan.now.before) plan.now.before))) }
+{
+    let mut ids = IdList::new(alloc)?;
+    let old = plan.before();
+    for place in 0..plan.old_count() {
+        if touched[place] {
+            push_unflagged(old, old.ops_at(place), flags, &mut ids)?;
+        }
+    }
+    Ok(ids)
+}
+
+/// The same, where an edit has touched the events before that have a flag in `touched`, and the others keep what they name.
+/// Those before that are named after have a flag in `named`. Only what touched events named is looked at.
+pub fn sweep_touched(
+    alloc: Global,
+    plan: &mut Plan,
+    touched: &[bool],
+    named: &[bool],
+) -> Result<(), NoMemory>
     requires touched { length touched.now ≡ length plan.old.before }
+    requires named { FlagsNamed plan.old.before plan.old.after named.now }
     requires kept { OthersKeepNames (has_flag touched.now plan.old.before) plan.old.before plan.old.after }
     ensures swept { OnOk result (plan.new ≡ record plan.old {
       after = swept plan.old.before plan.old.after;
     }) }
     ensures err { OnErr result (plan.new ≡ plan.old) }
 {
-    let before = named_by_touched(alloc, plan, touched)?;
-    sweep_some(alloc, plan, &before)
+    let _count = plan.old_count();
+    let ids = touched_unflagged(alloc, plan, touched, named)?;
+    take_away(plan, &ids)
 }

@@ -18,14 +18,14 @@ use Rattle.path_expunge.proofs.leaving.leave_out.Goals.{then-index+in_ok-leave_o
 pub leave_out_at-requires-clause-found : goal.leave_out_at-requires-clause-found
 leave_out_at-requires-clause-found c e at =
     let events = c.args.events.now.list in
-    let test = takes c.args.noted.now.named in
+    let test = takes c.args.noted.now.paths in
     ap (λ (p : Change). find_event (id_of e) p.after) c.loop-place.invariant
     ∙ step_found (event_without test) (without_id test) events (sound_once events c.count-place-end.ensures.sound).ids c.loop-place.place e at
 
 pub loop-place-preserved : goal.loop-place-preserved
 loop-place-preserved c =
     let events = c.args.events.now.list in
-    let test = takes c.args.noted.now.named in
+    let test = takes c.args.noted.now.paths in
     let g = event_without test in
     let place = c.loop-place.place in
     let old = c.loop-place.plan in
@@ -39,11 +39,11 @@ loop-place-preserved c =
       | else-index w ↦
           let there = ap (λ (p : Change). find_event (id_of e) p.after) c.loop-place.invariant ∙ step_found g (without_id test) events once place e item.1 in
           let are = c.requires.touched in
-          let low : place < length c.args.noted.now.touched.items =
+          let low : place < length c.args.noted.now.flags.touched.items =
           let count = ap length are ∙ length-map events (λ x. list_any test (event_ops x)) in
           let all = c.count-place-end.ensures.count in let within = c.loop-place-test.true in omega arith in
           let none : list_any test (event_ops e) ≡ false =
           sym (ap (λ (fs : List Bool). get_or fs place false) are ∙ map_at (λ x. list_any test (event_ops x)) events place e item.1)
-          ∙ sym (get_or_read c.args.noted.now.touched.items place c.index.result.now low c.index.ensures false) ∙ w.if-index.false in
+          ∙ sym (get_or_read c.args.noted.now.flags.touched.items place c.index.result.now low c.index.ensures false) ∙ w.if-index.false in
           w.plan-is ∙ kept_of old e e g refl there (none_left_out test e none) ∙ goes_on
     ])

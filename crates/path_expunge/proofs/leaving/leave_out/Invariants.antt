@@ -5,4 +5,4 @@ use Rattle.plan_steps.proofs.Steps.{so_far}
 use Rattle.path_expunge.proofs.leaving.leave_out.Given as goal
 
 abbrev pub invariant-loop-place : goal.invariant-loop-place
-invariant-loop-place l = l.plan ≡ record l.initial.plan { after = so_far (event_without (takes l.noted.named)) l.place l.events.list }
+invariant-loop-place l = l.plan ≡ record l.initial.plan { after = so_far (event_without (takes l.noted.paths)) l.place l.events.list }

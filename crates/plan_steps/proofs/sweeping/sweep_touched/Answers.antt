@@ -1,10 +1,18 @@
-use Rattle.std.proofs.Common.{subst, sym}
-use Rattle.plan_steps.specs.Flags.{AreCandidates, has_flag}
-use Rattle.plan_steps.proofs.SweepLemmas.{other_candidates}
+use Rattle.std.proofs.Common.{◌∙◌, List, ap}
+use Rattle.std.proofs.lemmas.Result.{on_ok_weaker}
+use Rattle.plain_model.specs.declared.id.AnyId.{AnyId}
+use Rattle.plain_model.specs.declared.event.PlainEvent.{PlainEvent}
+use Rattle.event_arena.specs.Changes.{without_all}
+use Rattle.plan_steps.specs.Flags.{has_flag}
+use Rattle.plan_steps.proofs.SweepLemmas.{without_over}
 use Rattle.plan_steps.proofs.sweeping.sweep_touched.Goals as goal
 
-pub sweep_some-requires : goal.sweep_some-requires
-sweep_some-requires c =
+pub touched_unflagged-requires-clause-flags : goal.touched_unflagged-requires-clause-flags
+touched_unflagged-requires-clause-flags c = c.requires.named.count
+
+pub returns-clause-swept : goal.returns-clause-swept
+returns-clause-swept c =
     let p = c.args.plan.now in
-    subst (AreCandidates p.before p.after) (sym c.deref.ensures.value)
-    (other_candidates (has_flag c.args.touched.now p.before) p.before p.after c.in_ok-before.before.items c.requires.kept c.in_ok-before.ensures)
+    let after = ap (λ (ids : List AnyId). without_all ids p.after) c.in_ok-ids.ensures
+    ∙ without_over (has_flag c.args.touched.now p.before) p.before p.after c.old_count-count.ensures.sound c.requires.kept c.args.named.now c.requires.named in
+    on_ok_weaker c.take_away.result (λ is. is ∙ ap (λ (es : List PlainEvent). record p { after = es }) after) c.take_away.ensures.ok
